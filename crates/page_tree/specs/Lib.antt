@@ -1,0 +1,9 @@
+pub mod Name
+pub mod Tree
+pub mod Seen
+pub mod Limits
+pub mod Look
+pub mod Control
+pub mod Value
+pub mod Fault
+pub mod Visit

@@ -1,0 +1,76 @@
+ghost use Rattle.std.specs.Prelude.{◌≡◌, IfOk, option_map};
+ghost use Rattle.page_tree.specs.Look.{value_of};
+ghost use Rattle.page_tree.specs.Limits.{names_of, is_ascending};
+
+use crate::memory::NoMemory;
+use crate::text::Text;
+use std::marker::Model;
+
+/// The attributes of an element: pairs of a name and a value, as they were given.
+#[derive(Debug, Drop)]
+pub struct Attributes {
+    pairs: Vec<(Text, Text)>,
+}
+
+impl Model for Attributes {
+    ghost use Rattle.std.specs.Prelude.{ℕ, List};
+    ghost use Rattle.page_tree.specs.Tree.{Attribute};
+
+    ghost Value = { List Attribute };
+
+    ghost view = { λ a. a.pairs.items };
+}
+
+impl Attributes {
+    pub fn into_vec(self) -> Vec<(Text, Text)>
+        ensures { result.items ≡ self }
+    {
+        self.pairs
+    }
+
+    /// The value of the first attribute of that name.
+    pub fn get(&self, name: &str) -> Option<&str>
+        ensures { option_map (λ value. value.now) result ≡ value_of name.now self.now }
+    {
+        for (key, value) in &self.pairs {
+            if key.as_str() == name {
+                return Some(value.as_str());
+            }
+        }
+        None
+    }
+
+    /// Whether each name is below the next one, in byte order.
+    pub(crate) fn is_ascending(&self) -> bool
+        ensures { result ≡ is_ascending (names_of self.now) }
+    {
+        let mut before: Option<&str> = None;
+        for (name, _) in &self.pairs {
+            if let Some(last) = before {
+                if last >= name.as_str() {
+                    return false;
+                }
+            }
+            before = Some(name.as_str());
+        }
+        true
+    }
+
+    pub(crate) fn copy(&self) -> Result<Attributes, NoMemory>
+        ensures { IfOk result (λ copy. copy ≡ self.now) }
+    {
+        let mut pairs = Vec::new(*self.pairs.allocator());
+        for (name, value) in &self.pairs {
+            pairs.push((name.copy()?, value.copy()?))?;
+        }
+        Ok(Attributes { pairs })
+    }
+}
+
+impl From<Vec<(Text, Text)>> for Attributes {
+    ghost from_gives = { λ pairs attributes. attributes ≡ pairs.items };
+
+    fn from(pairs: Vec<(Text, Text)>) -> Attributes {
+        Attributes { pairs }
+    }
+}

@@ -1,0 +1,28 @@
+//! Pages as trees: what a browser saw, and what a repaired site would show.
+//!
+//! A page is read from a JSON value (`Page::from_value`) or made of a tree (`Page::new`), and is then only looked at: by place, in time linear in
+//! the place's length and its elements' children. Each call's answer is proved to be its definition's, in `specs/`.
+#![tactic(auto)]
+
+mod attributes;
+mod control;
+mod fault;
+mod limits;
+mod looking;
+mod memory;
+mod naming;
+mod page;
+mod place;
+mod text;
+mod tree;
+
+pub use attributes::Attributes;
+pub use control::Control;
+pub use fault::PageFault;
+pub use limits::{MAX_DEPTH, MAX_NAME_BYTES, MAX_NODES};
+pub use memory::NoMemory;
+pub use naming::is_name;
+pub use page::Page;
+pub use place::Place;
+pub use text::Text;
+pub use tree::Tree;
