@@ -1,10 +1,10 @@
 -- A node has fewer children than the page has nodes.
-use Rattle.std.proofs.Common.{◌≡◌, ℕ, zero, suc, ◌+◌, ◌<◌, ◌≤◌, List, [], ◌∷◌, length, Option, Some, None, option_and_then, refl, sym, ◌∙◌, ap, arith}
+use Rattle.std.proofs.Common.{◌≡◌, ℕ, zero, suc, ◌<◌, ◌≤◌, List, [], ◌∷◌, length, Option, Some, None, option_and_then, refl, sym, ◌∙◌, ap, arith}
 use Rattle.page_tree.specs.Tree.{Tree, element, words, Trees, no_trees, tree}
 use Rattle.page_tree.specs.Limits.{nodes, nodes_of_all, max_nodes}
 use Rattle.page_tree.specs.Look.{children_of, nth_child, node_at, count, child_count_at}
 use Rattle.page_tree.specs.declared.tree.Tree as code
-use Rattle.page_tree.specs.Seen.{seen, all_seen}
+use Rattle.page_tree.specs.Seen.{all_seen}
 
 pub count-all_seen : (ts : List code.Tree) → count (all_seen ts) ≡ length ts
 count-all_seen [] = refl

@@ -1,2 +1,9 @@
 pub mod Children
 pub mod Counting
+pub mod Levels
+pub mod Found
+pub mod Ascending
+pub mod Faults
+pub mod TreeLaws
+pub mod ValueLaws
+pub mod PageLaws

@@ -5,7 +5,7 @@ use Rattle.std.specs.Option.{option_map_or}
 use Rattle.serde_json.specs.Data.{Data, null, boolean, number, string, array, object, Items, no_items, item}
 use Rattle.serde_json.specs.Find.{as_object}
 use Rattle.page_tree.specs.Name.{is_name}
-use Rattle.page_tree.specs.Tree.{Attribute, Tree, element, words, Trees, no_trees, tree}
+use Rattle.page_tree.specs.Tree.{Tree, element, words, Trees, no_trees, tree}
 use Rattle.page_tree.specs.Limits.{max_depth, max_nodes, names_of, is_ascending}
 use Rattle.page_tree.specs.Value.{name_in, attributes_in, children_in}
 use Rattle.page_tree.specs.declared.fault.PageFault.{PageFault}
@@ -54,9 +54,12 @@ own_fault levels (array ds) = Some BadChildren
 own_fault levels (string text) = None
 own_fault levels (object ms) = element_fault levels (object ms)
 
+abbrev pub value_faults : ℕ → Data → List (Option PageFault)
+value_faults levels d = map (λ node. own_fault node.0 node.1) (nodes_of levels d)
+
 -- the fault of a value that stands for no page
 abbrev pub fault_of_value : Data → Option PageFault
-fault_of_value d = unless (is_some (as_object d)) NotAnElement (first_fault 0 (map (λ node. own_fault node.0 node.1) (nodes_of max_depth d)))
+fault_of_value d = unless (is_some (as_object d)) NotAnElement (first_fault 0 (value_faults max_depth d))
 
 -- ---- a tree
 
@@ -81,6 +84,9 @@ abbrev pub is_element : Tree → Bool
 is_element (element name attributes children) = true
 is_element (words text) = false
 
+abbrev pub tree_faults : ℕ → Tree → List (Option PageFault)
+tree_faults levels t = map (λ node. own_tree_fault node.0 node.1) (tree_nodes levels t)
+
 -- the fault of a tree that is no page
 abbrev pub fault_of_tree : Tree → Option PageFault
-fault_of_tree t = unless (is_element t) NotAnElement (first_fault 0 (map (λ node. own_tree_fault node.0 node.1) (tree_nodes max_depth t)))
+fault_of_tree t = unless (is_element t) NotAnElement (first_fault 0 (tree_faults max_depth t))

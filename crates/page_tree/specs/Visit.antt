@@ -1,6 +1,6 @@
 -- The course of the two walks in the code, for their private contracts: the tree or the first fault, with the number of nodes up to there.
 -- `proofs/Laws` ties them to what stands for a page and to the first fault in document order.
-use Rattle.std.specs.Prelude.{ℕ, zero, suc, ◌-◌, List, [], ◌∷◌, Bool, if◌then◌else◌, nat_lt, Option, Some, None, option_and_then, Result, Ok, Err, ◌≡◌}
+use Rattle.std.specs.Prelude.{ℕ, zero, suc, ◌-◌, List, [], ◌∷◌, if◌then◌else◌, nat_lt, Option, Some, None, option_and_then, Result, Ok, Err, ◌≡◌}
 use Rattle.serde_json.specs.Data.{Data, null, boolean, number, string, array, object, Items, no_items, item}
 use Rattle.serde_json.specs.Find.{as_object}
 use Rattle.page_tree.specs.Name.{is_name}

@@ -1,4 +1,4 @@
-ghost use Rattle.std.specs.Prelude.{◌≡◌, IfOk, option_map};
+ghost use Rattle.std.specs.Prelude.{◌≡◌, ◌↔◌, IfOk, IsTrue, option_map};
 ghost use Rattle.page_tree.specs.Look.{value_of};
 ghost use Rattle.page_tree.specs.Limits.{names_of, is_ascending};
 
@@ -56,6 +56,12 @@ impl Attributes {
         true
     }
 
+    pub(crate) fn same(&self, other: &Attributes) -> bool
+        ensures { IsTrue result ↔ (self.now ≡ other.now) }
+    {
+        are_same(self.pairs.as_slice(), other.pairs.as_slice())
+    }
+
     pub(crate) fn copy(&self) -> Result<Attributes, NoMemory>
         ensures { IfOk result (λ copy. copy ≡ self.now) }
     {
@@ -73,4 +79,24 @@ impl From<Vec<(Text, Text)>> for Attributes {
     fn from(pairs: Vec<(Text, Text)>) -> Attributes {
         Attributes { pairs }
     }
+}
+
+fn are_same(pairs: &[(Text, Text)], others: &[(Text, Text)]) -> bool
+    ensures { IsTrue result ↔ (pairs.now ≡ others.now) }
+{
+    if pairs.len() != others.len() {
+        return false;
+    }
+    for i in 0..pairs.len() {
+        if !is_same(&pairs[i], &others[i]) {
+            return false;
+        }
+    }
+    true
+}
+
+fn is_same(pair: &(Text, Text), other: &(Text, Text)) -> bool
+    ensures { IsTrue result ↔ (pair.now ≡ other.now) }
+{
+    pair.0.as_str() == other.0.as_str() && pair.1.as_str() == other.1.as_str()
 }

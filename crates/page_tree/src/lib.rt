@@ -7,12 +7,16 @@
 mod attributes;
 mod control;
 mod fault;
+mod inspection;
+mod joining;
 mod limits;
 mod looking;
 mod memory;
 mod naming;
 mod page;
 mod place;
+mod reading;
+mod starting;
 mod text;
 mod tree;
 

@@ -1,9 +1,26 @@
-ghost use Rattle.std.specs.Prelude.{◌≡◌, option_map};
-ghost use Rattle.page_tree.specs.Look.{name_at, child_count_at, attribute_at};
+ghost use Rattle.std.specs.Prelude.{◌≡◌, ◌≢◌, ◌↔◌, IsTrue, IfOk, IfErr, Some, None, option_map};
+ghost use Rattle.serde_json.specs.View.{view};
+ghost use Rattle.page_tree.specs.Tree.{Tree as PlainTree};
+ghost use Rattle.page_tree.specs.Limits.{IsPage};
+ghost use Rattle.page_tree.specs.Value.{IsPageOf};
+ghost use Rattle.page_tree.specs.Fault.{fault_of_tree, fault_of_value};
+ghost use Rattle.page_tree.specs.declared.fault.PageFault.TheVariants.{NoMemory};
+ghost use Rattle.page_tree.specs.Look.{name_at, child_count_at, attribute_at, text_at};
+ghost use Rattle.page_tree.specs.Control.{control_at, start_text_at, start_checked_at};
 
+use crate::control::{Control, control_of};
+use crate::fault::PageFault;
+use crate::inspection::inspect_root;
+use crate::joining::add_texts;
 use crate::looking;
+use crate::memory::NoMemory;
 use crate::place::Place;
+use crate::reading::read_root;
+use crate::starting::{start_checked_of, start_text_of};
+use crate::text::Text;
 use crate::tree::Tree;
+use serde_json::Value;
+use std::alloc::Global;
 use std::marker::Model;
 
 /// A page: a tree whose root is an element, within the limits. Contracts see it as its plain tree.
@@ -27,6 +44,51 @@ impl Model for Page {
 }
 
 impl Page {
+    ghost use Rattle.page_tree.specs.Seen.{seen};
+
+    /// The page that a tree is. It needs no memory today; a page may come to keep more than the tree.
+    ///
+    /// Its faults are `NotAnElement`, `TooMany`, `TooDeep`, `BadName` and `BadAttribute` (names that don't ascend strictly, in byte order): the
+    /// first in document order, and at one node the first in this order.
+    pub fn new(_alloc: Global, root: Tree) -> Result<Page, PageFault>
+        ensures page { IfOk result (λ page. page ≡ seen root) }
+        ensures ok { IfOk result (λ page. IsPage page × (fault_of_tree page ≡ None)) }
+        ensures refused { IfErr result (λ e. e ≢ NoMemory → ¬ IsPage (seen root)) }
+        ensures fault { IfErr result (λ e. e ≢ NoMemory → fault_of_tree (seen root) ≡ Some e) }
+    {
+        inspect_root(&root)?;
+        Ok(Page { root })
+    }
+
+    /// The page that a JSON value stands for: an element is an object with `n` (its name), `a` (an object of attributes whose values are texts,
+    /// optional) and `c` (an array of children, optional), a text is a string; other members are ignored.
+    ///
+    /// The fault is the first in document order, and at one node the first of `TooMany`, `NotAnElement` (the root is no object) or `BadChildren`
+    /// (a child is neither object nor string), `TooDeep`, `BadName`, `BadAttribute`, `BadChildren` (`c` is no array).
+    pub fn from_value(alloc: Global, value: &Value) -> Result<Page, PageFault>
+        ensures ok { IfOk result (λ page. IsPageOf (view value.now) page × (fault_of_value (view value.now) ≡ None)) }
+        ensures refused { IfErr result (λ e. e ≢ NoMemory → (page : PlainTree) → ¬ IsPageOf (view value.now) page) }
+        ensures fault { IfErr result (λ e. e ≢ NoMemory → fault_of_value (view value.now) ≡ Some e) }
+    {
+        let root = read_root(alloc, value)?;
+        Ok(Page { root })
+    }
+
+    /// An equal page.
+    pub fn copy(&self) -> Result<Page, NoMemory>
+        ensures { IfOk result (λ page. page ≡ self.now) }
+    {
+        let root = self.root.copy()?;
+        Ok(Page { root })
+    }
+
+    /// Whether two pages are equal: their trees are.
+    pub fn same(&self, other: &Page) -> bool
+        ensures { IsTrue result ↔ (self.now ≡ other.now) }
+    {
+        self.root.same(&other.root)
+    }
+
     /// The name of the element there; none for a text, or where no node is.
     pub fn name(&self, place: &Place) -> Option<&str>
         ensures { option_map (λ name. name.now) result ≡ name_at place.now self.now }
@@ -49,5 +111,46 @@ impl Page {
         ensures { option_map (λ value. value.now) result ≡ attribute_at place.now name.now self.now }
     {
         looking::attribute(looking::find(&self.root, place.as_slice())?, name)
+    }
+
+    /// What the node there is to a form; Other for a text, or where no node is.
+    pub fn control(&self, place: &Place) -> Control
+        ensures { result ≡ control_at place.now self.now }
+    {
+        match looking::find(&self.root, place.as_slice()) {
+            None => Control::Other,
+            Some(node) => control_of(node),
+        }
+    }
+
+    /// The text that a Text control starts with; none for every other node, or where no node is.
+    pub fn start_text(&self, place: &Place) -> Result<Option<Text>, NoMemory>
+        ensures { IfOk result (λ text. text ≡ start_text_at place.now self.now) }
+    {
+        match looking::find(&self.root, place.as_slice()) {
+            None => Ok(None),
+            Some(node) => start_text_of(node),
+        }
+    }
+
+    /// Whether a Check or Radio starts on; false for every other node, or where no node is.
+    pub fn start_checked(&self, place: &Place) -> bool
+        ensures { result ≡ start_checked_at place.now self.now }
+    {
+        match looking::find(&self.root, place.as_slice()) {
+            None => false,
+            Some(node) => start_checked_of(node),
+        }
+    }
+
+    /// All texts at or under the node there, joined in document order; empty where no node is.
+    pub fn text_under(&self, place: &Place) -> Result<Text, NoMemory>
+        ensures { IfOk result (λ text. text ≡ text_at place.now self.now) }
+    {
+        let mut joined = String::new(self.root.allocator());
+        if let Some(node) = looking::find(&self.root, place.as_slice()) {
+            add_texts(node, &mut joined)?;
+        }
+        Ok(Text::from(joined))
     }
 }

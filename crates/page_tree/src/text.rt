@@ -28,6 +28,10 @@ impl Text {
         })
     }
 
+    pub(crate) fn allocator(&self) -> Global {
+        *self.string.allocator()
+    }
+
     pub fn as_str(&self) -> &str
         ensures { result.now ≡ self.now }
     {

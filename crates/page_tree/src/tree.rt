@@ -1,5 +1,10 @@
+ghost use Rattle.std.specs.Prelude.{◌≡◌, ◌↔◌, IfOk, IsTrue, map};
+ghost use Rattle.page_tree.specs.Seen.{seen, all_seen};
+
 use crate::attributes::Attributes;
+use crate::memory::NoMemory;
 use crate::text::Text;
+use std::alloc::Global;
 
 /// An element or a text, with all that is under it. Not every tree is a page: `Page::new` tells.
 #[derive(Debug, Drop)]
@@ -10,4 +15,94 @@ pub enum Tree {
         children: Vec<Tree>,
     },
     Words(Text),
+}
+
+impl Tree {
+    pub(crate) fn allocator(&self) -> Global {
+        match self {
+            Tree::Element { children, .. } => *children.allocator(),
+            Tree::Words(text) => text.allocator(),
+        }
+    }
+
+    /// A copy of the tree.
+    #[cycle(copying)]
+    pub(crate) fn copy(&self) -> Result<Tree, NoMemory>
+        ensures { IfOk result (λ copy. seen copy ≡ seen self.now) }
+    {
+        match self {
+            Tree::Words(text) => Ok(Tree::Words(text.copy()?)),
+            Tree::Element {
+                name,
+                attributes,
+                children,
+            } => {
+                let name = name.copy()?;
+                let attributes = attributes.copy()?;
+                let children = copy_all(children)?;
+                Ok(Tree::Element {
+                    name,
+                    attributes,
+                    children,
+                })
+            }
+        }
+    }
+
+    /// Whether two trees are equal.
+    #[cycle(comparing)]
+    pub(crate) fn same(&self, other: &Tree) -> bool
+        ensures { IsTrue result ↔ (seen self.now ≡ seen other.now) }
+    {
+        match (self, other) {
+            (Tree::Words(text), Tree::Words(other_text)) => text.as_str() == other_text.as_str(),
+            (
+                Tree::Element {
+                    name,
+                    attributes,
+                    children,
+                },
+                Tree::Element {
+                    name: other_name,
+                    attributes: other_attributes,
+                    children: other_children,
+                },
+            ) => {
+                if name.as_str() != other_name.as_str() {
+                    return false;
+                }
+                if !attributes.same(other_attributes) {
+                    return false;
+                }
+                same_all(children.as_slice(), other_children.as_slice())
+            }
+            _ => false,
+        }
+    }
+}
+
+#[cycle(copying)]
+fn copy_all(trees: &Vec<Tree>) -> Result<Vec<Tree>, NoMemory>
+    ensures { IfOk result (λ copies. map seen copies.items ≡ map seen trees.now.items) }
+{
+    let mut copies = Vec::with_capacity(*trees.allocator(), trees.len())?;
+    for tree in trees {
+        copies.push(tree.copy()?)?;
+    }
+    Ok(copies)
+}
+
+#[cycle(comparing)]
+fn same_all(trees: &[Tree], others: &[Tree]) -> bool
+    ensures { IsTrue result ↔ (all_seen trees.now ≡ all_seen others.now) }
+{
+    if trees.len() != others.len() {
+        return false;
+    }
+    for i in 0..trees.len() {
+        if !trees[i].same(&others[i]) {
+            return false;
+        }
+    }
+    true
 }

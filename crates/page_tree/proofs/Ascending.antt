@@ -1,0 +1,50 @@
+-- The names of an object's members ascend, since it is kept as an ordered map.
+use Rattle.std.proofs.Common.{◌≡◌, ℕ, List, [], ◌∷◌, map, true, Option, Some, None, option_map, option_and_then, codes, String, Global, Less, string_bytes, string_cmp, nat_cmp, refl, sym, ◌∙◌, ap, Ok}
+use Rattle.std.specs.Cmp.Lexicographic.{slice_cmp}
+use Rattle.std.specs.List.{AllByRecursion}
+use Rattle.std.specs.List.Sorted.{IsStrictlySortedBy}
+use Rattle.std.specs.Map.{keys_of}
+use Rattle.serde_json.specs.Data.{Data}
+use Rattle.serde_json.specs.Find.{get, as_str, as_object}
+use Rattle.serde_json.specs.View.{view, members_view}
+use Rattle.serde_json.specs.declared.value.Value.{Value}
+use Rattle.page_tree.specs.Tree.{Attribute}
+use Rattle.page_tree.specs.Limits.{names_of, is_ascending, is_below_first}
+use Rattle.page_tree.specs.Value.{texts_of, attributes_in}
+use Rattle.page_tree.specs.Visit.{or_fault, if_ascending}
+use Rattle.page_tree.specs.declared.fault.PageFault.TheVariants.{BadAttribute}
+
+abbrev pub Entry : Type 0
+Entry = String Global × Value
+
+names_of-next : (e : Entry) (es : List Entry) (found : List Attribute) (text : Option (List ℕ)) (rest : Option (List Attribute)) → texts_of (members_view es) ≡ rest
+    → option_and_then (λ t. option_map (λ r. (string_bytes e.0, t) ∷ r) rest) text ≡ Some found → ((r : List Attribute) → rest ≡ Some r → names_of r ≡ map string_bytes (keys_of es))
+    → names_of found ≡ string_bytes e.0 ∷ map string_bytes (keys_of es)
+names_of-next e es found None rest are is later = cc
+names_of-next e es found (Some t) None are is later = cc
+names_of-next e es found (Some t) (Some r) are is later =
+    let same : (string_bytes e.0, t) ∷ r ≡ found = cc in
+    sym (ap names_of same) ∙ ap (λ ns. string_bytes e.0 ∷ ns) (later r refl)
+
+names-texts_of : (es : List Entry) (found : List Attribute) → texts_of (members_view es) ≡ Some found → names_of found ≡ map string_bytes (keys_of es)
+names-texts_of [] found is =
+    let same : [] ≡ found = cc in
+    sym (ap names_of same)
+names-texts_of (e ∷ es) found is =
+    names_of-next e es found (as_str (view e.1)) _ refl is (λ r there. names-texts_of es r there)
+
+below_next : (k : String Global) (ks : List (String Global)) → AllByRecursion (λ y. string_cmp k y ≡ Less) ks → is_below_first (string_bytes k) (map string_bytes ks) ≡ true
+below_next k [] all = refl
+below_next k (l ∷ ks) all = let less : slice_cmp nat_cmp (string_bytes k) (string_bytes l) ≡ Less = all.0 in rw less refl
+
+ascending-sorted : (ks : List (String Global)) → IsStrictlySortedBy string_cmp ks → is_ascending (map string_bytes ks) ≡ true
+unfolding IsStrictlySortedBy
+ascending-sorted [] sorted = refl
+ascending-sorted (k ∷ ks) sorted = rw (below_next k ks sorted.0) (ascending-sorted ks sorted.1)
+
+-- what the code has read of an object is what the definition says
+pub attributes_read : (d given : Data) (es : List Entry) (found : List Attribute) → Some given ≡ get (codes "a") d → Some (members_view es) ≡ as_object given
+    → texts_of (members_view es) ≡ Some found → IsStrictlySortedBy string_cmp (keys_of es) → or_fault BadAttribute (option_and_then if_ascending (attributes_in d)) ≡ Ok found
+attributes_read d given es found at members texts sorted =
+    let ascend : is_ascending (names_of found) ≡ true = ap is_ascending (names-texts_of es found texts) ∙ ascending-sorted (keys_of es) sorted in
+    rw (← at, ← members, texts, ascend) refl

@@ -1,0 +1,21 @@
+use Rattle.std.proofs.Common.{sym}
+use Rattle.std.proofs.lemmas.Result.{err_from_is_err_and}
+use Rattle.page_tree.specs.Seen.{seen}
+use Rattle.page_tree.proofs.PageLaws.{inspected_ok, inspected_err}
+use Rattle.page_tree.proofs.page.Page.new.Goals as goal
+
+pub returns-in_err-inspect_root-clause-refused : goal.returns-in_err-inspect_root-clause-refused
+returns-in_err-inspect_root-clause-refused c =
+    let p = err_from_is_err_and c.from_residual.result c.from_residual.ensures.1 in
+    rw (p.1, p.2) (λ real. (inspected_err (seen c.args.root) c.in_err-inspect_root.field-0.0 (sym c.in_err-inspect_root.ensures)).0)
+
+pub returns-in_err-inspect_root-clause-fault : goal.returns-in_err-inspect_root-clause-fault
+returns-in_err-inspect_root-clause-fault c =
+    let p = err_from_is_err_and c.from_residual.result c.from_residual.ensures.1 in
+    rw (p.1, p.2) (λ real. (inspected_err (seen c.args.root) c.in_err-inspect_root.field-0.0 (sym c.in_err-inspect_root.ensures)).1)
+
+pub invariant_of-result : goal.invariant_of-result
+invariant_of-result c = (inspected_ok (seen c.args.root) c.in_ok-inspect_root.field-0 (sym c.in_ok-inspect_root.ensures)).0
+
+pub returns-clause-ok : goal.returns-clause-ok
+returns-clause-ok c = inspected_ok (seen c.args.root) c.in_ok-inspect_root.field-0 (sym c.in_ok-inspect_root.ensures)

@@ -1,0 +1,57 @@
+ghost use Rattle.std.specs.Prelude.{◌≡◌};
+ghost use Rattle.page_tree.specs.Seen.{seen, all_seen};
+ghost use Rattle.page_tree.specs.Visit.{inspect, inspect_all, inspect_page};
+
+use crate::fault::PageFault;
+use crate::limits::{MAX_DEPTH, MAX_NODES};
+use crate::naming::is_name;
+use crate::tree::Tree;
+
+/// How many nodes a tree has that is a page, or its first fault in document order.
+pub(crate) fn inspect_root(root: &Tree) -> Result<u32, PageFault>
+    ensures { result ≡ inspect_page (seen root.now) }
+{
+    match root {
+        Tree::Words(_) => Err(PageFault::NotAnElement),
+        Tree::Element { .. } => inspect_node(root, MAX_DEPTH, 0),
+    }
+}
+
+// Levels of elements are left for the node, and so many nodes stand before it.
+#[cycle(inspection)]
+fn inspect_node(tree: &Tree, levels: u32, before: u32) -> Result<u32, PageFault>
+    ensures { result ≡ inspect levels before (seen tree.now) }
+{
+    if before >= MAX_NODES {
+        return Err(PageFault::TooMany);
+    }
+    let Tree::Element {
+        name,
+        attributes,
+        children,
+    } = tree
+    else {
+        return Ok(before + 1);
+    };
+    if levels == 0 {
+        return Err(PageFault::TooDeep);
+    }
+    if !is_name(name.as_str()) {
+        return Err(PageFault::BadName);
+    }
+    if !attributes.is_ascending() {
+        return Err(PageFault::BadAttribute);
+    }
+    inspect_nodes(children.as_slice(), levels - 1, before + 1)
+}
+
+#[cycle(inspection)]
+fn inspect_nodes(trees: &[Tree], levels: u32, before: u32) -> Result<u32, PageFault>
+    ensures { result ≡ inspect_all levels before (all_seen trees.now) }
+{
+    let mut count = before;
+    for tree in trees {
+        count = inspect_node(tree, levels, count)?;
+    }
+    Ok(count)
+}
