@@ -7,3 +7,4 @@ pub mod Faults
 pub mod TreeLaws
 pub mod ValueLaws
 pub mod PageLaws
+pub mod Once

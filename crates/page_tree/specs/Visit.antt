@@ -70,6 +70,14 @@ visit levels = visit_node (inside levels)
 abbrev pub visit_page : Data → Result Tree PageFault
 visit_page d = or_fault NotAnElement (as_object d) >>= λ ms. visit max_depth 0 d >>= λ t. Ok t.0
 
+abbrev pub ok_of : {A E : Type 0} → Result A E → Option A
+ok_of (Ok x) = Some x
+ok_of (Err e) = None
+
+-- the page that a value stands for, as a function
+unfoldable pub page_in : Data → Option Tree
+page_in d = ok_of (visit_page d)
+
 -- ---- over a tree
 
 abbrev mutual

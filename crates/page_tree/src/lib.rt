@@ -17,6 +17,8 @@ mod page;
 mod place;
 mod reading;
 mod starting;
+#[cfg(test)]
+mod tests;
 mod text;
 mod tree;
 

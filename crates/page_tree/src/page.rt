@@ -1,9 +1,10 @@
-ghost use Rattle.std.specs.Prelude.{◌≡◌, ◌≢◌, ◌↔◌, IsTrue, IfOk, IfErr, Some, None, option_map};
+ghost use Rattle.std.specs.Prelude.{◌≡◌, ◌≢◌, ◌↔◌, IsTrue, IfOk, IfErr, MatchResult, Some, None, option_map};
 ghost use Rattle.serde_json.specs.View.{view};
 ghost use Rattle.page_tree.specs.Tree.{Tree as PlainTree};
 ghost use Rattle.page_tree.specs.Limits.{IsPage};
 ghost use Rattle.page_tree.specs.Value.{IsPageOf};
 ghost use Rattle.page_tree.specs.Fault.{fault_of_tree, fault_of_value};
+ghost use Rattle.page_tree.specs.Visit.{page_in};
 ghost use Rattle.page_tree.specs.declared.fault.PageFault.TheVariants.{NoMemory};
 ghost use Rattle.page_tree.specs.Look.{name_at, child_count_at, attribute_at, text_at};
 ghost use Rattle.page_tree.specs.Control.{control_at, start_text_at, start_checked_at};
@@ -67,8 +68,12 @@ impl Page {
     /// (a child is neither object nor string), `TooDeep`, `BadName`, `BadAttribute`, `BadChildren` (`c` is no array).
     pub fn from_value(alloc: Global, value: &Value) -> Result<Page, PageFault>
         ensures ok { IfOk result (λ page. IsPageOf (view value.now) page × (fault_of_value (view value.now) ≡ None)) }
+        ensures only { IfOk result (λ page. (other : PlainTree) → IsPageOf (view value.now) other → other ≡ page) }
         ensures refused { IfErr result (λ e. e ≢ NoMemory → (page : PlainTree) → ¬ IsPageOf (view value.now) page) }
         ensures fault { IfErr result (λ e. e ≢ NoMemory → fault_of_value (view value.now) ≡ Some e) }
+
+        // The same as a function.
+        ensures found { MatchResult result (λ page. page_in (view value.now) ≡ Some page) (λ e. e ≢ NoMemory → page_in (view value.now) ≡ None) }
     {
         let root = read_root(alloc, value)?;
         Ok(Page { root })
