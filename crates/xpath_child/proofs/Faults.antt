@@ -1,0 +1,110 @@
+-- The first fault of a text: what each step of the reading adds.
+use Rattle.std.proofs.Common.{◌≡◌, ℕ, suc, ◌+◌, ◌<◌, ◌≤◌, Bool, true, false, cond, nat_lt, eqb, List, [], ◌∷◌, ◌++◌, map, length, take, drop, get_or, Ok, Err, Option, Some, None, refl, sym, ◌∙◌, ap, arith, add-one, lt-ltb, le-ltb}
+use Rattle.std.proofs.lemmas.Bool.{eqb-false}
+use Rattle.std.specs.Option.{option_map_or}
+use Rattle.std.specs.List.{slice_split, onto_first}
+use Rattle.std.proofs.lemmas.List.{at_drop_more, take_more, map-append}
+use Rattle.std.proofs.lemmas.List.Splits.{length-slice_split}
+use Rattle.xpath_child.specs.Path.{max_steps}
+use Rattle.xpath_child.specs.Fault.{unless, is_test, is_closed_index, test_part, index_part, text_fault, or_later, first_fault, step_in, unless_fault, Fails}
+use Rattle.xpath_child.specs.declared.fault.PathFault.{PathFault}
+use Rattle.xpath_child.specs.declared.fault.PathFaultKind.{PathFaultKind}
+use Rattle.xpath_child.specs.declared.fault.PathFaultKind.TheVariants.{NotAbsolute, EmptyStep, BadName, BadIndex, TooManySteps, NoMemory}
+
+-- ---- tests that a result tells
+
+pub then_some : {A : Type 0} (b : Bool) (x y : A) → Some x ≡ cond b (Some y) None → b ≡ true
+then_some true x y h = refl
+then_some false x y h = cc
+
+pub else_none : {A : Type 0} (b : Bool) (y : A) → None ≡ cond b (Some y) None → b ≡ false
+else_none true y h = cc
+else_none false y h = refl
+
+-- ---- one step
+
+-- the chain of the checks, with the tests as variables
+abbrev chain : ℕ → ℕ → Bool → Bool → Bool → Option PathFault
+chain start bracket a b c = unless a EmptyStep start (unless b BadName start (unless c BadIndex bracket None))
+
+pub index_fault : (start : ℕ) (text rest : List ℕ) → eqb (length text) 0 ≡ false → is_test (test_part text) ≡ true → index_part text ≡ Some rest → is_closed_index rest ≡ false
+    → unless_fault (text_fault start text) (step_in text) ≡ Err (record { at = start + length (test_part text); kind = BadIndex })
+index_fault start text rest some test part broken =
+    let at = start + length (test_part text) in
+    let a : nat_lt 0 (length text) ≡ true = let ne = eqb-false _ _ some in lt-ltb 0 (length text) (omega arith) in
+    let c : option_map_or is_closed_index (index_part text) true ≡ false = ap (λ o. option_map_or is_closed_index o true) part ∙ broken in
+    let all : text_fault start text ≡ chain start at true true false =
+    ap (λ x. chain start at x (is_test (test_part text)) (option_map_or is_closed_index (index_part text) true)) a
+    ∙ ap (λ x. chain start at true x (option_map_or is_closed_index (index_part text) true)) test ∙ ap (chain start at true true) c in
+    ap (λ f. unless_fault f (step_in text)) all
+
+-- ---- from one answer to another
+
+pub unless_ok : {A : Type 0} (fault : Option PathFault) (x y : A) → unless_fault fault x ≡ Ok y → (fault ≡ None) × (x ≡ y)
+unless_ok None x y h = (refl, cc)
+unless_ok (Some e) x y h = cc
+
+unless_err : {A B : Type 0} (first whole : Option PathFault) (x : A) (y : B) (e : PathFault) → ((f : PathFault) → first ≡ Some f → whole ≡ Some f) → unless_fault first x ≡ Err e → unless_fault whole y ≡ Err e
+unless_err None whole x y e same h = cc
+unless_err (Some f) whole x y e same h =
+    let is : f ≡ e = cc in
+    ap (λ w. unless_fault w y) (same f refl) ∙ ap Err is
+
+pub fails_along : {A B : Type 0} (first whole : Option PathFault) (x : A) (y : B) (at : ℕ) (kind : PathFaultKind) → ((f : PathFault) → first ≡ Some f → whole ≡ Some f) → Fails at kind (unless_fault first x) → Fails at kind (unless_fault whole y)
+fails_along first whole x y at NotAbsolute same h = unless_err first whole x y _ same h
+fails_along first whole x y at EmptyStep same h = unless_err first whole x y _ same h
+fails_along first whole x y at BadName same h = unless_err first whole x y _ same h
+fails_along first whole x y at BadIndex same h = unless_err first whole x y _ same h
+fails_along first whole x y at TooManySteps same h = unless_err first whole x y _ same h
+fails_along first whole x y at NoMemory same h = h
+
+-- ---- the bytes of the steps, each with one `/`
+
+abbrev pub bytes_of : List (List ℕ) → ℕ
+bytes_of [] = 0
+bytes_of (text ∷ rest) = length text + 1 + bytes_of rest
+
+bytes_of-onto_first : (c : ℕ) (texts : List (List ℕ)) → 0 < length texts → bytes_of (onto_first c texts) ≡ suc (bytes_of texts)
+bytes_of-onto_first c [] h = absurd (omega arith)
+bytes_of-onto_first c (text ∷ texts) h = omega arith
+
+pub bytes_of-slice_split : (p : ℕ → Bool) (bs : List ℕ) → bytes_of (slice_split p bs) ≡ length bs + 1
+bytes_of-slice_split p [] = refl
+bytes_of-slice_split p (b ∷ bs) = by (p b) (bytes_of-slice_split p bs)
+  where
+    by : (t : Bool) → bytes_of (slice_split p bs) ≡ length bs + 1 → bytes_of (cond t ([] ∷ slice_split p bs) (onto_first b (slice_split p bs))) ≡ length (b ∷ bs) + 1
+    by true h = omega (arith, h)
+    by false h = omega (arith, h, bytes_of-onto_first b (slice_split p bs) (omega (arith, length-slice_split p bs)))
+
+-- ---- one step further
+
+module _ (texts : List (List ℕ)) (k : ℕ) (text : List ℕ) (inside : k < length texts) (is : text ≡ get_or texts k text) where
+  pub drop_next : drop k texts ≡ text ∷ drop (k + 1) texts
+  drop_next = at_drop_more (λ l. l) texts k text inside ∙ ap (λ t. t ∷ drop (k + 1) texts) (sym is)
+
+  pub bytes_next : bytes_of (drop k texts) ≡ length text + 1 + bytes_of (drop (k + 1) texts)
+  bytes_next = ap bytes_of drop_next
+
+  pub steps_next : map step_in (take (k + 1) texts) ≡ map step_in (take k texts) ++ step_in text ∷ []
+  steps_next = ap (map step_in) (take_more texts k text inside ∙ ap (λ t. take k texts ++ t ∷ []) (sym is)) ∙ map-append step_in (take k texts) (text ∷ [])
+
+  -- one step too many
+  pub too_many : (start : ℕ) → max_steps ≤ k → first_fault k start (drop k texts) ≡ Some (record { at = start; kind = TooManySteps })
+  too_many start h =
+      ap (first_fault k start) drop_next
+      ∙ ap (λ b. or_later (unless b TooManySteps start (text_fault start text)) (first_fault (suc k) (start + length text + 1) (drop (k + 1) texts))) (le-ltb k max_steps h)
+
+  abbrev stepped : (start : ℕ) → Bool → Option PathFault → Option PathFault
+  stepped start b own = or_later (unless b TooManySteps start own) (first_fault (suc k) (start + length text + 1) (drop (k + 1) texts))
+
+  within : (start : ℕ) → k < max_steps → first_fault k start (drop k texts) ≡ stepped start true (text_fault start text)
+  within start h = ap (first_fault k start) drop_next ∙ ap (λ b. stepped start b (text_fault start text)) (lt-ltb k max_steps h)
+
+  -- the step has a fault of its own
+  pub own_fault : (start : ℕ) → k < max_steps → (f : PathFault) → text_fault start text ≡ Some f → first_fault k start (drop k texts) ≡ Some f
+  own_fault start h f e = within start h ∙ ap (stepped start true) e
+
+  -- the step has none
+  pub no_fault : (start : ℕ) → k < max_steps → text_fault start text ≡ None → first_fault k start (drop k texts) ≡ first_fault (k + 1) (start + length text + 1) (drop (k + 1) texts)
+  no_fault start h e =
+      within start h ∙ ap (stepped start true) e ∙ ap (λ n. first_fault n (start + length text + 1) (drop (k + 1) texts)) (sym (add-one k))

@@ -1,0 +1,104 @@
+-- Which path a text has, and which fault a text has that no path has: this project's own rule. The text is cut at each `/`, each step has at
+-- most one fault of its own, by the order of the checks there, and the fault of the text is that of the first step that has one.
+use Rattle.std.specs.Prelude.{ℕ, suc, ◌+◌, ◌-◌, ◌≡◌, List, [], ◌∷◌, ◌++◌, map, length, take, drop, slice_index, Bool, true, ◌&&◌, ◌||◌, not, ◌==◌, if◌then◌else◌, nat_lt, nat_le, Option, Some, None, option_map, Result, Ok, Err, codes}
+use Rattle.std.specs.Option.{option_map_or}
+use Rattle.std.specs.List.{list_all, slice_split, before_first, position}
+use Rattle.std.specs.Char.{is_ascii_digit}
+use Rattle.std.specs.Str.{bytes_eq}
+use Rattle.std.specs.Str.Parse.{digits_value}
+use Rattle.page_tree.specs.Name.{is_name}
+use Rattle.xpath_child.specs.Path.{Test, any, named, Step, max_steps}
+use Rattle.xpath_child.specs.declared.fault.PathFault.{PathFault}
+use Rattle.xpath_child.specs.declared.fault.PathFaultKind.{PathFaultKind}
+use Rattle.xpath_child.specs.declared.fault.PathFaultKind.TheVariants.{NotAbsolute, EmptyStep, BadName, BadIndex, TooManySteps, NoMemory}
+
+-- the fault of that kind unless the test holds, and then what comes after it
+abbrev pub unless : Bool → PathFaultKind → ℕ → Option PathFault → Option PathFault
+unless test kind at later = if test then later else Some (record { at = at; kind = kind })
+
+-- ---- one step as it is written
+
+abbrev pub is_slash : ℕ → Bool
+is_slash c = c == 47
+
+abbrev pub is_bracket : ℕ → Bool
+is_bracket c = c == 91
+
+-- the part up to the first `[`, or to the end
+abbrev pub test_part : List ℕ → List ℕ
+test_part text = before_first is_bracket text
+
+-- what stands after the first `[`, if there is one
+abbrev pub index_part : List ℕ → Option (List ℕ)
+index_part text = option_map (λ i. drop (i + 1) text) (position is_bracket text)
+
+abbrev pub is_test : List ℕ → Bool
+is_test text = bytes_eq text (codes "*") || is_name text
+
+-- 1 to 9 digits, the first not 0
+abbrev pub is_index : List ℕ → Bool
+is_index digits = nat_lt 0 (length digits) && nat_le (length digits) 9 && list_all is_ascii_digit digits && not (slice_index digits 0 == 48)
+
+-- all but the last byte
+abbrev pub front : List ℕ → List ℕ
+front text = take (length text - 1) text
+
+-- an index and a `]`
+abbrev pub is_closed_index : List ℕ → Bool
+is_closed_index text = is_index (front text) && bytes_eq text (front text ++ codes "]")
+
+-- the fault of a step's own text, which begins at that byte
+abbrev pub text_fault : ℕ → List ℕ → Option PathFault
+text_fault start text =
+    unless (nat_lt 0 (length text)) EmptyStep start
+    (unless (is_test (test_part text)) BadName start
+    (unless (option_map_or is_closed_index (index_part text) true) BadIndex (start + length (test_part text)) None))
+
+-- the fault of a step before which so many stand
+abbrev pub step_fault : ℕ → ℕ → List ℕ → Option PathFault
+step_fault before start text = unless (nat_lt before max_steps) TooManySteps start (text_fault start text)
+
+-- ---- a text
+
+abbrev pub or_later : Option PathFault → Option PathFault → Option PathFault
+or_later None later = later
+or_later (Some fault) later = Some fault
+
+-- the first fault of steps, of which so many stand before them and the first begins at that byte
+abbrev pub first_fault : ℕ → ℕ → List (List ℕ) → Option PathFault
+first_fault before start [] = None
+first_fault before start (text ∷ rest) = or_later (step_fault before start text) (first_fault (suc before) (start + length text + 1) rest)
+
+-- what stands after a `/`, cut at each further one
+abbrev pub written_steps : List ℕ → List (List ℕ)
+written_steps rest = slice_split is_slash rest
+
+-- the fault of a text that no path has
+abbrev pub path_fault : List ℕ → Option PathFault
+path_fault [] = Some (record { at = 0; kind = NotAbsolute })
+path_fault (c ∷ rest) = unless (is_slash c) NotAbsolute 0 (first_fault 0 1 (written_steps rest))
+
+-- ---- the path that a text without a fault has
+
+abbrev pub test_in : List ℕ → Test
+test_in text = if bytes_eq text (codes "*") then any else named text
+
+abbrev pub step_in : List ℕ → Step
+step_in text = record { test = test_in (test_part text); index = option_map (λ rest. digits_value 10 (front rest)) (index_part text) }
+
+abbrev pub unless_fault : {A : Type 0} → Option PathFault → A → Result A PathFault
+unless_fault None x = Ok x
+unless_fault (Some fault) x = Err fault
+
+abbrev pub path_in : List ℕ → Result (List Step) PathFault
+path_in text = unless_fault (path_fault text) (map step_in (written_steps (drop 1 text)))
+
+-- ---- what the code answers: that, or want of memory, which stands at 0
+
+abbrev pub Fails : {A : Type 0} → ℕ → PathFaultKind → Result A PathFault → Type 0
+Fails at NoMemory read = at ≡ 0
+Fails at kind read = read ≡ Err (record { at = at; kind = kind })
+
+abbrev pub Gives : {X Y : Type 0} → (X → Y) → Result X PathFault → Result Y PathFault → Type 0
+Gives view (Ok x) read = read ≡ Ok (view x)
+Gives view (Err e) read = Fails e.at e.kind read

@@ -1,0 +1,5 @@
+pub mod Path
+pub mod Seen
+pub mod Fault
+pub mod Reaches
+pub mod Targets

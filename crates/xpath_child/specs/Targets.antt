@@ -1,0 +1,49 @@
+-- The places that a path reaches, as a list in document order, and its target as a function of path and page.
+use Rattle.std.specs.Prelude.{ℕ, suc, List, [], ◌∷◌, ◌++◌, Bool, true, false, nat_le, ◌&&◌, ◌==◌, if◌then◌else◌, Option, Some, None, flat_map, filter}
+use Rattle.std.specs.List.{range_with_len}
+use Rattle.page_tree.specs.Tree.{Tree}
+use Rattle.page_tree.specs.Look.{name_at, child_count_at}
+use Rattle.xpath_child.specs.Path.{Step}
+use Rattle.xpath_child.specs.Reaches.{matches, matches_at, matching_before}
+use Rattle.xpath_child.specs.declared.target.Target.{Target}
+use Rattle.xpath_child.specs.declared.target.Target.TheVariants.{Missing, One, Several}
+
+abbrev pub is_nth : Option ℕ → ℕ → Bool
+is_nth None before = true
+is_nth (Some n) before = n == suc before
+
+abbrev pub selects : Tree → Step → List ℕ → ℕ → Bool
+selects page step at i = matches_at page step.test at i && is_nth step.index (matching_before page step.test at i)
+
+-- the positions that the step selects among the first so many children
+abbrev pub selected : Tree → Step → List ℕ → ℕ → List ℕ
+selected page step at n = filter (selects page step at) (range_with_len 0 n)
+
+-- the places that the steps reach from a place
+abbrev pub places_below : Tree → List Step → List ℕ → List (List ℕ)
+places_below page [] at = at ∷ []
+places_below page (step ∷ steps) at = flat_map (λ i. places_below page steps (at ++ i ∷ [])) (selected page step at (child_count_at at page))
+
+abbrev pub places : List Step → Tree → List (List ℕ)
+places [] page = []
+places (step ∷ steps) page = if matches step.test (name_at [] page) && is_nth step.index 0 then places_below page steps [] else []
+
+-- none, the only one, or several
+abbrev pub target_of : List (List ℕ) → Target
+target_of [] = Missing
+target_of (place ∷ []) = One place
+target_of (a ∷ b ∷ rest) = Several
+
+abbrev pub target_in : List Step → Tree → Target
+target_in path page = target_of (places path page)
+
+-- a target and one place more
+abbrev pub note : Target → List ℕ → Target
+note Missing place = One place
+note (One other) place = Several
+note Several place = Several
+
+-- no match before which so many or more stand is the n-th
+abbrev pub is_past : Option ℕ → ℕ → Bool
+is_past None before = false
+is_past (Some n) before = nat_le n before
