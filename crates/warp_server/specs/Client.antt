@@ -1,0 +1,18 @@
+-- The names of clients: this project's own rule.
+use Rattle.std.specs.Prelude.{ℕ, List, length, Bool, ◌&&◌, ◌||◌, ◌==◌, nat_le, Option}
+use Rattle.std.specs.List.{list_all}
+use Rattle.warp_server.specs.Member.{if_so}
+
+abbrev pub max_client_bytes : ℕ
+max_client_bytes = 64
+
+-- `[A-Za-z0-9_-]`
+abbrev pub is_client_part : ℕ → Bool
+is_client_part c = (nat_le 65 c && nat_le c 90) || (nat_le 97 c && nat_le c 122) || (nat_le 48 c && nat_le c 57) || (c == 95) || (c == 45)
+
+-- 1 to 64 of these
+unfoldable pub is_client : List ℕ → Bool
+is_client text = nat_le 1 (length text) && nat_le (length text) max_client_bytes && list_all is_client_part text
+
+abbrev pub client_of : List ℕ → Option (List ℕ)
+client_of text = if_so (is_client text) text

@@ -1,0 +1,192 @@
+-- The text of a report: this project's own format.
+use Rattle.std.specs.Prelude.{ℕ, List, [], ◌∷◌, ◌++◌, Option, Some, None, codes, decimal}
+use Rattle.std.specs.List.{flat_map}
+use Rattle.serde_json.specs.Data.{string}
+use Rattle.serde_json.specs.Written.{compact_text}
+use Rattle.warp_server.specs.declared.outcome.ConflictKind.{ConflictKind}
+use Rattle.warp_server.specs.declared.outcome.ConflictKind.TheVariants.{NoPage, NoTarget, ManyTargets, NotAField, BaseChanged, NotALink, NotAForm, LogCut, Signalled}
+use Rattle.warp_server.specs.declared.outcome.Method.{Method}
+use Rattle.warp_server.specs.declared.outcome.Method.TheVariants.{Load, Get, Post}
+use Rattle.warp_server.specs.declared.outcome.Request.{Request}
+use Rattle.warp_server.specs.declared.outcome.Outcome.{Outcome}
+use Rattle.warp_server.specs.declared.outcome.Outcome.TheVariants.{Untouched, Done, Conflict}
+
+-- ---- what is reported
+
+-- why recording stopped
+pub data Stop : Type 0 where
+  none : Stop
+  asked : Stop
+  memory : Stop
+
+-- a fault by its number: of a line (E), or of its page (E7 with P), its path (E8 with X) or its place in the session (E9 with S)
+pub data LaneFault : Type 0 where
+  of_line : ℕ → LaneFault
+  of_page : ℕ → LaneFault
+  of_path : ℕ → LaneFault
+  of_session : ℕ → LaneFault
+
+-- how a lane ended; a fault stands at a line
+pub data End : Type 0 where
+  not_yet : End
+  bye : End
+  gave_up : End
+  faulted : LaneFault → ℕ → End
+
+-- what became of a visit; a conflict stands at an event
+pub data Standing : Type 0 where
+  untouched : Standing
+  done : Standing
+  waiting : ConflictKind → ℕ → Standing
+  kept : ConflictKind → ℕ → Standing
+  cancelled : ConflictKind → ℕ → Standing
+
+pub data Choice : Type 0 where
+  cancel : Choice
+  keep : Choice
+
+-- what a decision was answered; where it wasn't the front's, with the front
+pub data Answer : Type 0 where
+  accepted : Answer
+  no_client : Answer
+  not_front : Option ℕ → Answer
+
+pub record VisitReport : Type 0 where
+  pub number : ℕ
+  pub standing : Standing
+  pub requests : List Request
+
+pub record ClientReport : Type 0 where
+  pub client : List ℕ
+  pub taken : ℕ
+  pub end : End
+  pub cost : ℕ
+  pub lost : ℕ
+  pub visits : List VisitReport
+
+pub record Decision : Type 0 where
+  pub client : List ℕ
+  pub visit : ℕ
+  pub choice : Choice
+  pub answer : Answer
+
+pub record Report : Type 0 where
+  pub stop : Stop
+  pub clients : List ClientReport
+  pub decisions : List Decision
+
+-- ---- words
+
+-- words parted by one space, and the line's end
+abbrev pub line : List (List ℕ) → List ℕ
+line [] = 10 ∷ []
+line (word ∷ []) = word ++ 10 ∷ []
+line (word ∷ next ∷ rest) = word ++ 32 ∷ line (next ∷ rest)
+
+-- the text as a JSON string (RFC 8259, section 7), as `serde_json` writes it
+abbrev pub quoted : List ℕ → List ℕ
+quoted text = compact_text (string text)
+
+abbrev pub stop_word : Stop → List ℕ
+stop_word none = codes "none"
+stop_word asked = codes "asked"
+stop_word memory = codes "memory"
+
+abbrev pub fault_word : LaneFault → List ℕ
+fault_word (of_line kind) = codes "E" ++ decimal kind
+fault_word (of_page inner) = codes "E7.P" ++ decimal inner
+fault_word (of_path inner) = codes "E8.X" ++ decimal inner
+fault_word (of_session inner) = codes "E9.S" ++ decimal inner
+
+abbrev pub end_word : End → List ℕ
+end_word not_yet = codes "none"
+end_word bye = codes "bye"
+end_word gave_up = codes "gaveup"
+end_word (faulted fault at) = fault_word fault ++ codes "@" ++ decimal at
+
+abbrev pub kind_number : ConflictKind → ℕ
+kind_number NoPage = 1
+kind_number NoTarget = 2
+kind_number ManyTargets = 3
+kind_number NotAField = 4
+kind_number BaseChanged = 5
+kind_number NotALink = 6
+kind_number NotAForm = 7
+kind_number LogCut = 8
+kind_number Signalled = 9
+
+abbrev pub conflict_words : ConflictKind → ℕ → List (List ℕ)
+conflict_words kind at = (codes "K" ++ decimal (kind_number kind)) ∷ codes "at" ∷ decimal at ∷ []
+
+abbrev pub standing_words : Standing → List (List ℕ)
+standing_words untouched = codes "untouched" ∷ []
+standing_words done = codes "done" ∷ []
+standing_words (waiting kind at) = codes "waiting" ∷ conflict_words kind at
+standing_words (kept kind at) = codes "kept" ∷ conflict_words kind at
+standing_words (cancelled kind at) = codes "cancelled" ∷ conflict_words kind at
+
+abbrev pub choice_word : Choice → List ℕ
+choice_word cancel = codes "cancel"
+choice_word keep = codes "keep"
+
+abbrev pub answer_words : Answer → List (List ℕ)
+answer_words accepted = codes "ok" ∷ []
+answer_words no_client = codes "C1" ∷ []
+answer_words (not_front None) = codes "C2" ∷ codes "front" ∷ codes "none" ∷ []
+answer_words (not_front (Some visit)) = codes "C2" ∷ codes "front" ∷ decimal visit ∷ []
+
+-- ---- lines
+
+abbrev pub stop_line : Stop → List ℕ
+stop_line stop = line (codes "stop" ∷ stop_word stop ∷ [])
+
+abbrev pub client_line : ClientReport → List ℕ
+client_line c =
+    line (codes "client" ∷ c.client ∷ codes "taken" ∷ decimal c.taken ∷ codes "end" ∷ end_word c.end ∷ codes "cost" ∷ decimal c.cost ∷ codes "lost" ∷ decimal c.lost ∷ [])
+
+abbrev pub visit_line : VisitReport → List ℕ
+visit_line v = line (codes "visit" ∷ decimal v.number ∷ standing_words v.standing)
+
+-- the address and the pairs as JSON strings
+abbrev pub request_words : Method → List ℕ → List ℕ → List ℕ → List (List ℕ)
+request_words Load number address pairs = codes "load" ∷ number ∷ address ∷ []
+request_words Get number address pairs = codes "get" ∷ number ∷ address ∷ []
+request_words Post number address pairs = codes "post" ∷ number ∷ address ∷ pairs ∷ []
+
+abbrev pub request_line : Request → List ℕ
+request_line r = line (request_words r.method (decimal r.number) (quoted r.address) (quoted r.pairs))
+
+abbrev pub decision_line : Decision → List ℕ
+decision_line d = line (codes "decide" ∷ d.client ∷ decimal d.visit ∷ choice_word d.choice ∷ answer_words d.answer)
+
+-- ---- the whole text
+
+-- each visit's line stands before those of its requests, each client's before those of its visits
+abbrev pub visit_text : VisitReport → List ℕ
+visit_text v = visit_line v ++ flat_map request_line v.requests
+
+abbrev pub client_text : ClientReport → List ℕ
+client_text c = client_line c ++ flat_map visit_text c.visits
+
+abbrev pub report_text : Report → List ℕ
+report_text r = stop_line r.stop ++ (flat_map client_text r.clients ++ flat_map decision_line r.decisions)
+
+-- ---- the report of an outcome that nobody decided on
+
+abbrev pub standing_of : Outcome → Standing
+standing_of Untouched = untouched
+standing_of (Done requests) = done
+standing_of (Conflict requests at kind) = waiting kind at
+
+abbrev pub requests_of : Outcome → List Request
+requests_of Untouched = []
+requests_of (Done requests) = requests
+requests_of (Conflict requests at kind) = requests
+
+abbrev pub visit_report : ℕ → Outcome → VisitReport
+visit_report number outcome = record { number = number; standing = standing_of outcome; requests = requests_of outcome }
+
+-- of one client with one visit, whose lane was taken to its bye
+abbrev pub whole_lane : List ℕ → ℕ → ℕ → ℕ → ℕ → Outcome → Report
+whole_lane client taken cost lost visit outcome =
+    record { stop = none; clients = record { client = client; taken = taken; end = bye; cost = cost; lost = lost; visits = visit_report visit outcome ∷ [] } ∷ []; decisions = [] }

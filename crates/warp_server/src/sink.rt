@@ -1,0 +1,106 @@
+//! Writers that remember whether their last write moved bytes.
+ghost use Rattle.std.specs.Prelude.{◌≡◌, [], ◌∷◌, ◌++◌, List};
+ghost use Rattle.std.specs.Io.{WritesAtMost};
+ghost use Rattle.std.specs.Io.KnownBytes.{WriteAppends, Keeps};
+ghost use Rattle.warp_server.specs.Answers.{Answer, answer_of, last_moved_nothing};
+
+use crate::history::History;
+use std::io;
+use std::io::Write;
+
+/// A writer that tells whether its last write failed or took nothing. Contracts see what each of its writes answered.
+///
+/// Generic code writes by `put`, since of `write` it knows nothing but the contents.
+pub trait Sink: Write {
+    // What the writes answered so far.
+    ghost puts: { Self → List Answer };
+
+    /// Whether the last write failed or took nothing. Before the first it answers false.
+    fn failed(&self) -> bool
+        ensures { result ≡ last_moved_nothing (puts self.now) };
+
+    /// One write.
+    fn put(&mut self, buf: &[u8]) -> io::Result<usize>
+        ensures bound { WritesAtMost result buf.now }
+        ensures bytes { WriteAppends (Self.contents self.old) (Self.contents self.new) result buf.now }
+        ensures told { puts self.new ≡ puts self.old ++ answer_of result buf.now ∷ [] };
+}
+
+/// Any writer as a sink. It takes no memory and keeps no bytes back.
+#[derive(Drop)]
+pub struct Told<W> {
+    writer: W,
+    failed: bool,
+    history: History,
+    ghost agrees: { failed ≡ last_moved_nothing history.answers },
+}
+
+impl<W: Write> Told<W> {
+    ghost use Rattle.warp_server.specs.Told.{told_writer, told_puts};
+
+    /// A sink that wasn't written to yet.
+    pub fn new(writer: W) -> Told<W>
+        ensures writer { told_writer result ≡ writer }
+        ensures fresh { told_puts result ≡ [] }
+    {
+        Told {
+            writer,
+            failed: false,
+            history: History::new(),
+        }
+    }
+}
+
+impl<W: Write> Write for Told<W> {
+    ghost contents = { λ told. W.contents told.writer };
+
+    fn write(&mut self, buf: &[u8]) -> io::Result<usize>
+        ensures bound { WritesAtMost result buf.now }
+        ensures bytes { WriteAppends (W.contents self.old.writer) (W.contents self.new.writer) result buf.now }
+        ensures told { self.new.history.answers ≡ self.old.history.answers ++ answer_of result buf.now ∷ [] }
+    {
+        match self.writer.write(buf) {
+            Ok(count) => {
+                self.failed = count == 0;
+                self.history.moved(&buf[..count]);
+                Ok(count)
+            }
+            Err(error) => {
+                self.failed = true;
+                self.history.failed();
+                Err(error)
+            }
+        }
+    }
+
+    fn flush(&mut self) -> io::Result<()>
+        ensures bytes { Keeps (W.contents self.old.writer) (W.contents self.new.writer) }
+        ensures told { self.new.history.answers ≡ self.old.history.answers }
+    {
+        self.writer.flush()
+    }
+}
+
+impl<W: Write> Sink for Told<W> {
+    ghost puts = { λ told. told.history.answers };
+
+    fn failed(&self) -> bool {
+        self.failed
+    }
+
+    fn put(&mut self, buf: &[u8]) -> io::Result<usize> {
+        self.write(buf)
+    }
+}
+
+impl<S: Sink> Sink for &mut S {
+    ghost puts = { λ sink. S.puts sink.now };
+
+    fn failed(&self) -> bool {
+        (**self).failed()
+    }
+
+    fn put(&mut self, buf: &[u8]) -> io::Result<usize> {
+        (**self).put(buf)
+    }
+}

@@ -1,0 +1,40 @@
+ghost use Rattle.std.specs.Prelude.{◌≡◌};
+
+/// How a run ended.
+#[derive(Clone, Copy, Debug, PartialEq, Eq)]
+pub enum Status {
+    /// The report was written.
+    Done,
+    /// The first line is no site.
+    BadSite,
+    /// What follows is no upload.
+    BadUpload,
+    /// An allocation was refused.
+    OutOfMemory,
+    /// A read of the site line failed, or a write of the report failed or took nothing.
+    InputOutput,
+}
+
+impl Status {
+    /// The exit status of the program.
+    pub fn code(self) -> u8 {
+        match self {
+            Status::Done => 0,
+            Status::BadSite => 3,
+            Status::BadUpload => 4,
+            Status::OutOfMemory => 5,
+            Status::InputOutput => 6,
+        }
+    }
+
+    /// The line for standard error; none where the run was done.
+    pub fn line(self) -> Option<&'static str> {
+        match self {
+            Status::Done => None,
+            Status::BadSite => Some("bad site"),
+            Status::BadUpload => Some("bad hello"),
+            Status::OutOfMemory => Some("no memory"),
+            Status::InputOutput => Some("input or output failed"),
+        }
+    }
+}
