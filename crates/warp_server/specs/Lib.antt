@@ -24,3 +24,4 @@ pub mod Report
 pub mod UploadLines
 pub mod Run
 pub mod Intake
+pub mod Status

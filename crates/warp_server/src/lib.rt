@@ -1,43 +1,54 @@
-//! The replay server: a site and an upload come in, a report goes out.
+//! The replay server: a site line and an upload come in, a report goes out.
+//!
+//! `run` is the whole of it, for any reader and any writer. Its contract says which report was written, or which fault the input has. Today an upload is
+//! one visit that is only loaded and clicked on.
 #![tactic(auto)]
 
-mod addresses;
-mod clicks;
-mod client;
+// Bytes in: sources, and the lines that are cut from them.
 mod fault;
 mod history;
-mod intake;
 mod limits;
 mod lines;
-mod members;
-mod message;
-mod outcome;
-mod replaying;
-mod report;
-mod running;
-mod sink;
+mod source;
+mod window;
+
+// The site.
+mod addresses;
 mod site;
 mod site_fault;
 mod site_reading;
-mod source;
-mod status;
+
+// The messages of an upload, and the upload that they make.
+mod clicks;
+mod client;
+mod members;
+mod message;
 mod thin;
 mod unread;
 mod upload;
-mod window;
+
+// Replay, and the report.
+mod outcome;
+mod replaying;
+mod report;
+
+// Bytes out.
+mod sink;
 mod writing;
 
+// One run.
+mod intake;
+mod running;
+mod status;
+
 pub use fault::LineFault;
-pub use limits::{MAX_READS, READ_BYTES};
 pub use lines::Lines;
-pub use outcome::{ConflictKind, Method, Outcome, Request, Requests};
 pub use running::run;
 pub use sink::{Sink, Told};
 pub use site::Site;
 pub use site_fault::SiteFault;
 pub use source::{Fed, Last, Source};
 pub use status::Status;
-pub use writing::WriteFailed;
 
 #[cfg(test)]
 mod fakes;

@@ -1,5 +1,5 @@
+use crate::outcome::{ConflictKind, Method, Outcome, Request, Requests};
 use crate::report::compose;
-use crate::{ConflictKind, Method, Outcome, Request, Requests};
 use page_tree::{NoMemory, Text};
 use std::alloc::Global;
 use std::test::Fail;

@@ -1,4 +1,5 @@
-ghost use Rattle.std.specs.Prelude.{◌≡◌};
+ghost use Rattle.std.specs.Prelude.{◌≡◌, option_map};
+ghost use Rattle.warp_server.specs.Status.{exit_code, error_line};
 
 /// How a run ended.
 #[derive(Clone, Copy, Debug, PartialEq, Eq)]
@@ -17,7 +18,9 @@ pub enum Status {
 
 impl Status {
     /// The exit status of the program.
-    pub fn code(self) -> u8 {
+    pub fn code(self) -> u8
+        ensures { result ≡ exit_code self }
+    {
         match self {
             Status::Done => 0,
             Status::BadSite => 3,
@@ -28,7 +31,9 @@ impl Status {
     }
 
     /// The line for standard error; none where the run was done.
-    pub fn line(self) -> Option<&'static str> {
+    pub fn line(self) -> Option<&'static str>
+        ensures { option_map (λ line. line.now) result ≡ error_line self }
+    {
         match self {
             Status::Done => None,
             Status::BadSite => Some("bad site"),
