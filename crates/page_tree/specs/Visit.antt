@@ -1,5 +1,5 @@
--- The course of the two walks in the code, for their private contracts: the tree or the first fault, with the number of nodes up to there.
--- `proofs/Laws` ties them to what stands for a page and to the first fault in document order.
+-- The course of the two walks in the code: the tree or the first fault, with the number of nodes up to there. `proofs/ValueLaws`, `TreeLaws` and
+-- `Once` tie them to what stands for a page and to the first fault in document order: `page_in` finds a page just where `IsPageOf` has one.
 use Rattle.std.specs.Prelude.{ℕ, zero, suc, ◌-◌, List, [], ◌∷◌, if◌then◌else◌, nat_lt, Option, Some, None, option_and_then, Result, Ok, Err, ◌≡◌}
 use Rattle.serde_json.specs.Data.{Data, null, boolean, number, string, array, object, Items, no_items, item}
 use Rattle.serde_json.specs.Find.{as_object}

@@ -132,17 +132,19 @@ both_held start place answers answers' more line site upload first is cut_is sit
 never : {o : Option Upload} (upload : Upload) → o ≡ Some upload → o ≡ None → ⊥
 never upload some none = let same : Some upload ≡ None = sym some ∙ none in cc
 
-pub refused_behind : (start place : ℕ) (answers answers' more : List Answer) (line : List ℕ) (refused : Refused) → start ≡ 0 → answers' ≡ answers ++ more
-    → site_line (drop start (bytes_of answers)) (ending_of answers) ≡ Some (Ok line) → place ≡ start + length line + 1 → RefusesUpload place (bytes_of answers') (ending_of answers') Fresh refused
+pub refused_behind : (start place : ℕ) (answers answers' more : List Answer) (line : List ℕ) (site : Site) (refused : Refused) → start ≡ 0 → answers' ≡ answers ++ more
+    → site_line (drop start (bytes_of answers)) (ending_of answers) ≡ Some (Ok line) → IsSiteLine line site → place ≡ start + length line + 1 → RefusesUpload place (bytes_of answers') (ending_of answers') Fresh refused
     → Refuses (bytes_of answers') (ending_of answers') refused
-refused_behind start place answers answers' more line refused.ReadFailed first is cut_is behind_is none = absurd none
-refused_behind start place answers answers' more line refused.NoSite first is cut_is behind_is none = absurd none
-refused_behind start place answers answers' more line refused.NoUpload first is cut_is behind_is none =
+refused_behind start place answers answers' more line site refused.ReadFailed first is cut_is site_is behind_is none = absurd none
+refused_behind start place answers answers' more line site refused.NoSite first is cut_is site_is behind_is none = absurd none
+refused_behind start place answers answers' more line site refused.NoUpload first is cut_is site_is behind_is none =
     let from : place ≡ length line + 1 = omega arith in
     let nothing : MakesNone (length line + 1) (bytes_of answers') (ending_of answers') Fresh = rw from at none in
     record {
       line = line;
       cut_is = site_line_later start answers answers' more line first is cut_is;
+      site = site;
+      site_is = site_is;
       none = λ later ended upload one. never upload (upload_found (complete_lines (behind line (bytes_of answers' ++ later))) upload one) (nothing later ended);
     }
-refused_behind start place answers answers' more line refused.NoMemory first is cut_is behind_is none = tt
+refused_behind start place answers answers' more line site refused.NoMemory first is cut_is site_is behind_is none = tt

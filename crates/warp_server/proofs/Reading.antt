@@ -1,10 +1,11 @@
 -- What one read more does to the list of answers, and to the bytes that are kept.
-use Rattle.std.proofs.Common.{◌≡◌, ℕ, ◌+◌, ◌-◌, ◌*◌, ◌<◌, ◌≤◌, List, [], ◌∷◌, ◌++◌, length, drop, true, false, ◌||◌, find, Option, Some, None, is_some, is_none, refl, ap, ◌∙◌, arith, length-append}
+use Rattle.std.proofs.Common.{◌≡◌, ℕ, ◌+◌, ◌-◌, ◌*◌, ◌<◌, ◌≤◌, List, [], ◌∷◌, ◌++◌, length, take, drop, true, false, ◌⊎◌, inl, inr, ◌||◌, find, Option, Some, None, is_some, is_none, refl, ap, ◌∙◌, arith, length-append}
 use Rattle.std.proofs.lemmas.Grind.{common_steps}
-use Rattle.std.proofs.lemmas.List.{drop-append-le}
+use Rattle.std.proofs.lemmas.List.{drop-append-le, take-append-le, take_all}
+use Rattle.std.proofs.Math.Nat.{eq-or-lt_of_le}
 use Rattle.std.proofs.lemmas.List.Folds.{find-append}
 use Rattle.warp_server.specs.Answers.{Answer, moves_nothing, bytes_of}
-use Rattle.warp_server.specs.Cutting.{ending_of}
+use Rattle.warp_server.specs.Cutting.{ending_of, StopsAtEnd}
 use Rattle.warp_server.specs.Reading.{IsTail}
 use Rattle.warp_server.specs.declared.fault.LineFault.TheVariants.{ReadFailed, Truncated}
 
@@ -53,3 +54,21 @@ still_small answers answers' bytes reads small next short =
 pub still_tail : (answers answers' : List Answer) (tail tail' bytes : List ℕ) → IsTail (bytes_of answers) tail → answers' ≡ answers ++ Some bytes ∷ [] → tail' ≡ tail ++ bytes → IsTail (bytes_of answers') tail'
 still_tail answers answers' tail tail' bytes h next grown =
     rw (next, grown, bytes_more answers bytes) (tail_more (bytes_of answers) tail bytes h)
+
+-- one read more, where the input had not ended
+stops_at : (answers : List Answer) (answer : Answer) (n : ℕ) → StopsAtEnd answers → ending_of answers ≡ None → (n ≡ length answers) ⊎ (n < length answers) → ending_of (take n (answers ++ answer ∷ [])) ≡ None
+stops_at answers answer n stops none (inl last) =
+    let whole : take n (answers ++ answer ∷ []) ≡ answers = take-append-le n answers (answer ∷ []) (omega (arith, last)) ∙ take_all n answers (omega (arith, last)) in
+    ap ending_of whole ∙ none
+stops_at answers answer n stops none (inr inside) = ap ending_of (take-append-le n answers (answer ∷ []) (omega (arith, inside))) ∙ stops n inside
+
+pub stops_more : (answers : List Answer) (answer : Answer) → StopsAtEnd answers → ending_of answers ≡ None → StopsAtEnd (answers ++ answer ∷ [])
+stops_more answers answer stops none n below =
+    let within : n ≤ length answers = omega (arith, below, length-append answers (answer ∷ [])) in
+    stops_at answers answer n stops none (eq-or-lt_of_le within)
+
+-- the same, by what the code knows
+pub still_stops : {F : Type 0} (fault : Option F) (answers answers' : List Answer) (answer : Answer) → fault ≡ None → (is_some fault || is_none (find moves_nothing answers)) ≡ true → length answers < 1048576 → StopsAtEnd answers
+    → answers' ≡ answers ++ answer ∷ [] → StopsAtEnd answers'
+still_stops fault answers answers' answer none going few stops is =
+    rw is (stops_more answers answer stops (ends_not_yet answers (rw none at going) few))

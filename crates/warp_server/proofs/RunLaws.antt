@@ -17,12 +17,12 @@ report_held input ending site upload text both is =
 pub report_written : (reads reads' puts puts' : List Answer) (contents contents' : Option (List ℕ)) (site : Site) (upload : Upload) (text : List ℕ) → Reads reads reads' (λ input ending. HasBoth input ending site upload)
     → text ≡ report_text (report_of site upload) → Takes puts puts' contents contents' text 0 → Reads reads reads' (WritesReport puts puts' contents contents')
 report_written reads reads' puts puts' contents contents' site upload text both is takes =
-    record { more = both.more; reads_are = both.reads_are; holds = (text, report_held _ _ site upload text both.holds is, takes) }
+    record { more = both.more; reads_are = both.reads_are; ends = both.ends; holds = (text, report_held _ _ site upload text both.holds is, takes) }
 
 pub part_written : (reads reads' puts puts' : List Answer) (contents contents' : Option (List ℕ)) (site : Site) (upload : Upload) (text : List ℕ) → Reads reads reads' (λ input ending. HasBoth input ending site upload)
     → text ≡ report_text (report_of site upload) → TakesPart puts puts' contents contents' text → Reads reads reads' (WritesPart puts puts' contents contents')
 part_written reads reads' puts puts' contents contents' site upload text both is takes =
-    record { more = both.more; reads_are = both.reads_are; holds = (text, report_held _ _ site upload text both.holds is, takes) }
+    record { more = both.more; reads_are = both.reads_are; ends = both.ends; holds = (text, report_held _ _ site upload text both.holds is, takes) }
 
 -- a report of equal data has the same text
 pub same_report : (text client client' : List ℕ) (taken taken' cost cost' visit visit' : ℕ) (outcome : Outcome) → client ≡ client' → taken ≡ taken' → cost ≡ cost' → visit ≡ visit'

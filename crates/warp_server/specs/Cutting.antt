@@ -1,5 +1,5 @@
 -- How a stream of bytes is cut into lines: this project's own rule. The reads by which the bytes came don't occur in it.
-use Rattle.std.specs.Prelude.{ℕ, ◌+◌, List, length, take, Bool, ◌==◌, if◌then◌else◌, nat_lt, nat_le, position, find, option_map, Option, Some, None, Result, Ok, Err}
+use Rattle.std.specs.Prelude.{◌≡◌, ℕ, ◌+◌, ◌<◌, List, length, take, Bool, ◌==◌, if◌then◌else◌, nat_lt, nat_le, position, find, option_map, Option, Some, None, Result, Ok, Err}
 use Rattle.warp_server.specs.Answers.{Answer, moves_nothing}
 use Rattle.warp_server.specs.Limits.{max_reads}
 use Rattle.warp_server.specs.declared.fault.LineFault.{LineFault}
@@ -33,3 +33,7 @@ ending_by None reads = if nat_le max_reads reads then Some TooManyReads else Non
 -- How the input of these reads ends: with the first one that failed or gave nothing, else with the last one that may be made, else not yet.
 abbrev pub ending_of : List Answer → Option LineFault
 ending_of answers = ending_by (find moves_nothing answers) (length answers)
+
+-- No read was made once the input had ended.
+abbrev pub StopsAtEnd : List Answer → Type 0
+StopsAtEnd answers = (n : ℕ) → n < length answers → ending_of (take n answers) ≡ None

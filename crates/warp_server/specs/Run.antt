@@ -2,7 +2,7 @@
 use Rattle.std.specs.Prelude.{◌≡◌, ◌≢◌, ℕ, ◌+◌, List, [], ◌++◌, length, drop, if◌then◌else◌, Option, Some, IsSome, Result, Ok, Err, ◌⊎◌}
 use Rattle.serde_json.specs.Data.{Data}
 use Rattle.warp_server.specs.Answers.{Answer, bytes_of}
-use Rattle.warp_server.specs.Cutting.{cut, ending_of}
+use Rattle.warp_server.specs.Cutting.{cut, ending_of, StopsAtEnd}
 use Rattle.warp_server.specs.UploadLines.{complete_lines}
 use Rattle.warp_server.specs.Site.{Site, IsSiteOf, IsJsonOf, is_affected, page_of}
 use Rattle.warp_server.specs.Upload.{Upload, taken}
@@ -33,8 +33,11 @@ report_of site upload = upload_report upload (outcome_of site upload)
 -- ---- the site line
 
 -- the first line of the input, of at most 1 MiB, or why there is none
+abbrev pub max_site_bytes : ℕ
+max_site_bytes = 1048576
+
 abbrev pub site_line : List ℕ → Option LineFault → Option (Result (List ℕ) LineFault)
-site_line input ending = cut 1048576 input ending
+site_line input ending = cut max_site_bytes input ending
 
 -- the line is the JSON text of this site
 abbrev pub IsSiteLine : List ℕ → Site → Type 0
@@ -59,6 +62,8 @@ NoUpload line input ending = (more : List ℕ) → (IsSome ending → more ≡ [
 pub record HasBadUpload (input : List ℕ) (ending : Option LineFault) : Type 0 where
   pub line : List ℕ
   pub cut_is : site_line input ending ≡ Some (Ok line)
+  pub site : Site
+  pub site_is : IsSiteLine line site
   pub none : NoUpload line input ending
 
 -- ---- the report of an input
@@ -74,10 +79,11 @@ pub record HasReport (input : List ℕ) (ending : Option LineFault) (text : List
 
 -- ---- what a run does
 
--- from these reads to those, the answers of its own
+-- from these reads to those, the answers of its own, none after the input's end
 pub record Reads (reads reads' : List Answer) (P : List ℕ → Option LineFault → Type 0) : Type 0 where
   pub more : List Answer
   pub reads_are : reads' ≡ reads ++ more
+  pub ends : StopsAtEnd more
   pub holds : P (bytes_of more) (ending_of more)
 
 pub record WritesNothing (puts puts' : List Answer) (contents contents' : Option (List ℕ)) : Type 0 where

@@ -3,6 +3,7 @@ ghost use Rattle.std.specs.Prelude.{◌≡◌, ◌≢◌, ◌+◌, ◌-◌, ◌*
 ghost use Rattle.std.specs.Borrow.{sem};
 ghost use Rattle.std.specs.Io.BufRead.{Rests};
 ghost use Rattle.warp_server.specs.Answers.{moves_nothing, bytes_of, failures_of};
+ghost use Rattle.warp_server.specs.Cutting.{StopsAtEnd};
 ghost use Rattle.warp_server.specs.Limits.{max_reads, read_bytes};
 ghost use Rattle.warp_server.specs.Reading.{ReadsOn, EachNeeded, IsTail, failures_told};
 
@@ -29,6 +30,7 @@ pub struct Lines<R> {
     ghost small: { length (bytes_of history.answers) ≤ read_bytes * reads },
     ghost tail: { IsTail (bytes_of history.answers) window.kept },
     ghost going: { (is_some fault || is_none (find moves_nothing history.answers)) ≡ true },
+    ghost stops: { StopsAtEnd history.answers },
 }
 
 impl<R: Source> Lines<R> {
@@ -60,12 +62,13 @@ impl<R: Source> Lines<R> {
 
     /// The source, without what was read of it.
     pub fn into_reader(self) -> R
-        ensures { result ≡ lines_reader self }
+        ensures reader { result ≡ lines_reader self }
+        ensures ends { StopsAtEnd (lines_answers self) }
     {
         self.reader
     }
 
-    /// The line that the last call of `advance` cut, without its line end.
+    /// The line that the last call of `advance` cut, without its line end. Before the first call, and after a refused one, what it gives is left open.
     pub fn line(&self) -> &[u8]
         ensures { result.now ≡ lines_line self.now }
     {

@@ -9,9 +9,9 @@ use std::marker::Model;
 pub enum ConflictKind {
     /// K1: the site has no page there.
     NoPage,
-    /// K2: an event's target is on the old page alone.
+    /// K2: an event's path selects nothing on the page.
     NoTarget,
-    /// K3: an event has several targets.
+    /// K3: an event's path selects several places.
     ManyTargets,
     /// K4: the target takes no input or no click.
     NotAField,

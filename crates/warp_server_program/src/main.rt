@@ -2,24 +2,32 @@
 #![tactic(auto)]
 
 use std::io;
+use std::io::ErrorKind;
 use std::process::ExitCode;
-use warp_server::{Fed, Told, run};
-use words::has_words;
+use warp_server::{Fed, Status, Told, run};
+use words::{are_understood, words_of};
 
 mod words;
 
 const USAGE: &str = "usage: warp_server [listen PORT LANES SITEFILE]";
 
 fn main(rt: HostRuntime) -> ExitCode {
-    if has_words(&rt) {
-        let _ = rt.eprintln(USAGE);
-        return ExitCode::from(2);
+    match words_of(&rt) {
+        Ok(words) if are_understood(words.as_slice()) => {
+            let mut reader = Fed::new(rt.stdin());
+            let mut writer = Told::new(io::writer(&rt));
+            ended(&rt, run(&rt, &mut reader, &mut writer))
+        }
+        Err(error) if error.kind() == ErrorKind::OutOfMemory => ended(&rt, Status::OutOfMemory),
+        _ => {
+            let _ = rt.eprintln(USAGE);
+            ExitCode::from(2)
+        }
     }
-    let status = run(
-        &rt,
-        &mut Fed::new(rt.stdin()),
-        &mut Told::new(io::writer(&rt)),
-    );
+}
+
+// Says on standard error how it ended, and gives the exit status.
+fn ended(rt: &impl Eprint, status: Status) -> ExitCode {
     if let Some(line) = status.line() {
         let _ = rt.eprintln(line);
     }
