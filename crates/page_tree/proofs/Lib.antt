@@ -8,3 +8,4 @@ pub mod TreeLaws
 pub mod ValueLaws
 pub mod PageLaws
 pub mod Once
+pub mod RealFaults

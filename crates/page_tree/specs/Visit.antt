@@ -78,6 +78,10 @@ ok_of (Err e) = None
 unfoldable pub page_in : Data → Option Tree
 page_in d = ok_of (visit_page d)
 
+-- the same with the first fault of a value that stands for none
+unfoldable pub page_or_fault : Data → Result Tree PageFault
+page_or_fault d = visit_page d
+
 -- ---- over a tree
 
 abbrev mutual

@@ -4,7 +4,7 @@ ghost use Rattle.page_tree.specs.Tree.{Tree as PlainTree};
 ghost use Rattle.page_tree.specs.Limits.{IsPage};
 ghost use Rattle.page_tree.specs.Value.{IsPageOf};
 ghost use Rattle.page_tree.specs.Fault.{fault_of_tree, fault_of_value};
-ghost use Rattle.page_tree.specs.Visit.{page_in};
+ghost use Rattle.page_tree.specs.Visit.{page_in, page_or_fault, Gives};
 ghost use Rattle.page_tree.specs.declared.fault.PageFault.TheVariants.{NoMemory};
 ghost use Rattle.page_tree.specs.Look.{name_at, child_count_at, attribute_at, text_at};
 ghost use Rattle.page_tree.specs.Control.{control_at, start_text_at, start_checked_at};
@@ -66,13 +66,15 @@ impl Page {
     ///
     /// The fault is the first in document order, and at one node the first of `TooMany`, `NotAnElement` (the root is no object) or `BadChildren`
     /// (a child is neither object nor string), `TooDeep`, `BadName`, `BadAttribute`, `BadChildren` (`c` is no array).
+    #[tactic(auto, unfolding(crate::specs::Visit::page_or_fault))]
     pub fn from_value(alloc: Global, value: &Value) -> Result<Page, PageFault>
         ensures ok { IfOk result (λ page. IsPageOf (view value.now) page × (fault_of_value (view value.now) ≡ None)) }
         ensures only { IfOk result (λ page. (other : PlainTree) → IsPageOf (view value.now) other → other ≡ page) }
         ensures refused { IfErr result (λ e. e ≢ NoMemory → (page : PlainTree) → ¬ IsPageOf (view value.now) page) }
         ensures fault { IfErr result (λ e. e ≢ NoMemory → fault_of_value (view value.now) ≡ Some e) }
 
-        // The same as a function.
+        // The same as functions.
+        ensures exact { Gives (λ page. page) result (page_or_fault (view value.now)) }
         ensures found { MatchResult result (λ page. page_in (view value.now) ≡ Some page) (λ e. e ≢ NoMemory → page_in (view value.now) ≡ None) }
     {
         let root = read_root(alloc, value)?;

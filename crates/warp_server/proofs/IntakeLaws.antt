@@ -1,30 +1,45 @@
 -- What reading the site line and the upload gives, by how lines are cut.
-use Rattle.std.proofs.Common.{◌≡◌, ◌≢◌, ℕ, ◌+◌, ◌≤◌, List, [], ◌∷◌, ◌++◌, length, drop, Bool, true, false, nat_lt, if◌then◌else◌, option_map, Option, Some, None, IsSome, Result, Ok, Err, refl, sym, ◌∙◌, ap, arith, inl, inr, append_assoc}
+use Rattle.std.proofs.Common.{◌≡◌, ◌≢◌, ℕ, ◌+◌, ◌<◌, ◌≤◌, List, [], ◌∷◌, ◌++◌, length, drop, Bool, true, false, nat_le, nat_lt, if◌then◌else◌, option_map, Option, Some, None, IsSome, Result, Ok, Err, refl, sym, ◌∙◌, ap, arith, inl, inr, append_assoc}
 use Rattle.std.proofs.lemmas.Bool.{ltb-true}
+use Rattle.std.proofs.lemmas.Bool.Decides.{nat_tests}
 use Rattle.std.proofs.lemmas.List.{append-nil}
-use Rattle.warp_server.specs.Cutting.{cut, cut_by, line_length, ending_of}
-use Rattle.warp_server.specs.UploadLines.{complete_lines}
+use Rattle.upload_reader.specs.Cutting.{cut, cut_by, line_length, ending_of}
+use Rattle.upload_reader.specs.CompleteLines.{complete_lines}
+use Rattle.warp_server.specs.Message.{line_in}
 use Rattle.warp_server.specs.Thin.{upload_from, go_on}
 use Rattle.warp_server.specs.Run.{site_line, IsSiteLine, behind}
 use Rattle.warp_server.specs.Upload.{Upload}
 use Rattle.warp_server.specs.Intake.{HasBoth, Refuses, MakesUpload, RefusesSite, GoesOn, MakesNone, RefusesUpload, no_site, no_upload, bad_site}
 use Rattle.serde_json.specs.Data.{Data}
 use Rattle.warp_server.specs.Site.{Site, IsJsonOf, IsSiteOf}
-use Rattle.warp_server.specs.declared.fault.LineFault.{LineFault}
-use Rattle.warp_server.specs.declared.fault.LineFault.TheVariants.{ReadFailed, TooManyReads, Truncated, LineTooLong, NoMemory}
+use Rattle.upload_reader.specs.declared.fault.LineFault.{LineFault}
+use Rattle.upload_reader.specs.declared.fault.LineFault.TheVariants.{ReadFailed, TooManyReads, Truncated, LineTooLong, NoMemory}
 use Rattle.warp_server.specs.declared.site_fault.SiteFault.{SiteFault}
 use Rattle.warp_server.specs.declared.site_fault.SiteFault.TheVariants as site_fault
 use Rattle.std.specs.Option.{IsNone, unwrap_or}
 use Rattle.std.proofs.lemmas.Grind.{flat_map-append}
-use Rattle.warp_server.specs.Answers.{Answer, bytes_of}
+use Rattle.upload_reader.specs.Answers.{Answer, bytes_of}
 use Rattle.warp_server.specs.declared.intake.Refused.{Refused}
 use Rattle.warp_server.specs.declared.intake.Refused.TheVariants as refused
 use Rattle.warp_server.specs.declared.thin.Thin.TheVariants.{Fresh}
 use Rattle.warp_server.specs.declared.thin.Thin.{Thin}
 use Rattle.warp_server.specs.declared.thin.Next.{Next}
-use Rattle.warp_server.proofs.LineLaws.{long_upload}
+use Rattle.upload_reader.proofs.LineLaws.{IsLong}
 use Rattle.warp_server.proofs.UploadLaws.{upload_is, upload_found}
-use Rattle.warp_server.proofs.CutLaws.{lines_from, first_is_long, no_lines, cut_longer}
+use Rattle.upload_reader.proofs.CutLaws.{lines_from, first_is_long, no_lines, cut_longer}
+
+-- ---- the upload of a first line that is too long
+
+not_within : (n limit : ℕ) → limit < n → nat_le n limit ≡ false
+not_within n limit long = grind (arith, nat_tests)
+
+long_line : (line : List ℕ) → 65536 < length line → line_in line ≡ None
+unfolding line_in
+long_line line long = rw (not_within (length line) 65536 long) refl
+
+long_upload : (thin : Thin) (lines : List (List ℕ)) → IsLong 65536 lines → upload_from thin lines ≡ None
+long_upload thin [] long = refl
+long_upload thin (line ∷ rest) long = rw (long_line line long) refl
 
 -- ---- no next line, no upload
 

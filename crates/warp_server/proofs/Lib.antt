@@ -1,8 +1,3 @@
-pub mod Steps
-pub mod Scanning
-pub mod Cutting
-pub mod Reading
-pub mod Searching
 pub mod TextWriting
 pub mod Cut
 pub mod PageFaults
@@ -10,8 +5,6 @@ pub mod Kept
 pub mod SiteLaws
 pub mod MessageReading
 pub mod ReplayLaws
-pub mod LineLaws
 pub mod UploadLaws
-pub mod CutLaws
 pub mod IntakeLaws
 pub mod RunLaws

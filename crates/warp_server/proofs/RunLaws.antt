@@ -1,6 +1,6 @@
 -- What a run does, by what was read and written.
 use Rattle.std.proofs.Common.{◌≡◌, ℕ, List, Option, ap, ◌∙◌}
-use Rattle.warp_server.specs.Answers.{Answer}
+use Rattle.upload_reader.specs.Answers.{Answer}
 use Rattle.warp_server.specs.Report.{whole_lane, report_text}
 use Rattle.warp_server.specs.declared.outcome.Outcome.{Outcome}
 use Rattle.warp_server.specs.Run.{report_of, HasReport, Reads, WritesReport, WritesPart}
@@ -8,7 +8,7 @@ use Rattle.warp_server.specs.Intake.{HasBoth}
 use Rattle.warp_server.specs.Site.{Site}
 use Rattle.warp_server.specs.Upload.{Upload}
 use Rattle.warp_server.specs.Writing.{Takes, TakesPart}
-use Rattle.warp_server.specs.declared.fault.LineFault.{LineFault}
+use Rattle.upload_reader.specs.declared.fault.LineFault.{LineFault}
 
 report_held : (input : List ℕ) (ending : Option LineFault) (site : Site) (upload : Upload) (text : List ℕ) → HasBoth input ending site upload → text ≡ report_text (report_of site upload) → HasReport input ending text
 report_held input ending site upload text both is =

@@ -3,9 +3,9 @@ use Rattle.std.proofs.Common.{◌≡◌, ℕ, zero, suc, ◌+◌, ◌<◌, List,
 use Rattle.std.proofs.lemmas.Grind.{common_steps}
 use Rattle.std.proofs.lemmas.List.Sums.{sum_by-append}
 use Rattle.std.specs.Io.KnownBytes.{Appends, Keeps}
-use Rattle.warp_server.specs.Answers.{Answer, empty_of, moves_nothing}
+use Rattle.upload_reader.specs.Answers.{Answer, empty_of, moves_nothing}
 use Rattle.warp_server.specs.Writing.{Takes}
-use Rattle.warp_server.proofs.Reading.{moves_some, bytes_more}
+use Rattle.upload_reader.proofs.ReadLaws.{moves_some, bytes_more}
 
 -- nothing is written yet
 pub takes_none : (puts : List Answer) (contents : Option (List ℕ)) (text : List ℕ) → Takes puts puts contents contents (take 0 text) 0

@@ -1,14 +1,14 @@
 -- What reading the site line and the upload gives, for private contracts.
 use Rattle.std.specs.Prelude.{◌≡◌, ℕ, List, [], ◌++◌, drop, Option, Some, None, IsSome, Result, Ok, Err}
-use Rattle.warp_server.specs.UploadLines.{complete_lines}
-use Rattle.warp_server.specs.Answers.{Answer}
+use Rattle.upload_reader.specs.CompleteLines.{complete_lines}
+use Rattle.upload_reader.specs.Answers.{Answer}
 use Rattle.warp_server.specs.Site.{Site}
 use Rattle.warp_server.specs.Run.{HasBadSite, HasBadUpload, HasFailedRead, Reads, behind, site_line, IsSiteLine}
 use Rattle.warp_server.specs.Thin.{upload_from, go_on}
 use Rattle.warp_server.specs.Whole.{IsUpload}
 use Rattle.warp_server.specs.Upload.{Upload}
-use Rattle.warp_server.specs.declared.fault.LineFault.{LineFault}
-use Rattle.warp_server.specs.declared.fault.LineFault.TheVariants as line_fault
+use Rattle.upload_reader.specs.declared.fault.LineFault.{LineFault}
+use Rattle.upload_reader.specs.declared.fault.LineFault.TheVariants as line_fault
 use Rattle.warp_server.specs.declared.site_fault.SiteFault.{SiteFault}
 use Rattle.warp_server.specs.declared.site_fault.SiteFault.TheVariants as site_fault
 use Rattle.warp_server.specs.declared.intake.Refused.{Refused}

@@ -1,12 +1,3 @@
-pub mod Limits
-pub mod Answers
-pub mod Last
-pub mod Fed
-pub mod Cutting
-pub mod Window
-pub mod Lines
-pub mod Reading
-pub mod Giving
 pub mod Told
 pub mod Writing
 pub mod Site
@@ -21,7 +12,6 @@ pub mod Thin
 pub mod Whole
 pub mod Replay
 pub mod Report
-pub mod UploadLines
 pub mod Run
 pub mod Intake
 pub mod Status

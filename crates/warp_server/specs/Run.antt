@@ -1,17 +1,17 @@
 -- What a run answers and writes, by what its reads gave: this project's own rules. The input is the bytes that the reads gave, and how it ended.
 use Rattle.std.specs.Prelude.{◌≡◌, ◌≢◌, ℕ, ◌+◌, List, [], ◌++◌, length, drop, if◌then◌else◌, Option, Some, IsSome, Result, Ok, Err, ◌⊎◌}
 use Rattle.serde_json.specs.Data.{Data}
-use Rattle.warp_server.specs.Answers.{Answer, bytes_of}
-use Rattle.warp_server.specs.Cutting.{cut, ending_of, StopsAtEnd}
-use Rattle.warp_server.specs.UploadLines.{complete_lines}
+use Rattle.upload_reader.specs.Answers.{Answer, bytes_of}
+use Rattle.upload_reader.specs.Cutting.{cut, ending_of, StopsAtEnd}
+use Rattle.upload_reader.specs.CompleteLines.{complete_lines}
 use Rattle.warp_server.specs.Site.{Site, IsSiteOf, IsJsonOf, is_affected, page_of}
 use Rattle.warp_server.specs.Upload.{Upload, taken}
 use Rattle.warp_server.specs.Whole.{IsUpload}
 use Rattle.warp_server.specs.Replay.{outcome}
 use Rattle.warp_server.specs.Report.{Report, whole_lane, report_text}
 use Rattle.warp_server.specs.Writing.{Takes, TakesPart}
-use Rattle.warp_server.specs.declared.fault.LineFault.{LineFault}
-use Rattle.warp_server.specs.declared.fault.LineFault.TheVariants.{ReadFailed}
+use Rattle.upload_reader.specs.declared.fault.LineFault.{LineFault}
+use Rattle.upload_reader.specs.declared.fault.LineFault.TheVariants.{ReadFailed}
 use Rattle.warp_server.specs.declared.outcome.Outcome.{Outcome}
 use Rattle.warp_server.specs.declared.outcome.Outcome.TheVariants.{Untouched}
 use Rattle.warp_server.specs.declared.status.Status.{Status}

@@ -1,6 +1,6 @@
 -- What clauses see of a Told.
 use Rattle.std.specs.Prelude.{List}
-use Rattle.warp_server.specs.Answers.{Answer}
+use Rattle.upload_reader.specs.Answers.{Answer}
 use Rattle.warp_server.specs.declared.sink.Told.{Told}
 
 -- the writer that it was made of

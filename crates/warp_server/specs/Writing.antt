@@ -1,7 +1,7 @@
 -- What writing a text does to its writer.
 use Rattle.std.specs.Prelude.{◌≡◌, ℕ, ◌<◌, List, ◌++◌, length, take, true, Option, Result, Ok, Err}
 use Rattle.std.specs.Io.KnownBytes.{Appends}
-use Rattle.warp_server.specs.Answers.{Answer, bytes_of, empty_of, last_moved_nothing}
+use Rattle.upload_reader.specs.Answers.{Answer, bytes_of, empty_of, last_moved_nothing}
 
 -- The writer took just these bytes, in any number of writes, of which so many failed or took nothing. Where its contents are known, they grew by
 -- just these bytes.

@@ -1,21 +1,19 @@
 //! The site and the upload, read from the lines of a source.
 ghost use Rattle.std.specs.Prelude.{◌≡◌, ◌+◌, ◌*◌, ◌<◌, ◌≤◌, length, [], None, IfOk, IfErr, OnOk};
-ghost use Rattle.warp_server.specs.Cutting.{ending_of};
-ghost use Rattle.warp_server.specs.Lines.{lines_answers, lines_place, lines_line, lines_input, lines_fault, lines_reader, lines_uncut};
-ghost use Rattle.warp_server.specs.Reading.{ReadsOn};
+ghost use Rattle.upload_reader.specs.Cutting.{ending_of};
+ghost use Rattle.upload_reader.specs.Lines.{lines_answers, lines_place, lines_line, lines_input, lines_fault, lines_reader, lines_uncut};
+ghost use Rattle.upload_reader.specs.Reading.{ReadsOn};
 ghost use Rattle.warp_server.specs.Run.{site_line, IsSiteLine};
 ghost use Rattle.warp_server.specs.Intake.{HasBoth, Refuses, Intakes, RefusesSite, GoesOn, MakesUpload, RefusesUpload, no_site, no_upload, bad_site};
 ghost use Rattle.warp_server.specs.declared.thin.Thin.TheVariants.{Fresh};
 
-use crate::fault::LineFault;
-use crate::lines::Lines;
 use crate::message::MAX_LINE_BYTES;
 use crate::site::Site;
 use crate::site_fault::SiteFault;
-use crate::source::Source;
 use crate::thin::{Next, Thin};
 use crate::upload::Upload;
 use std::alloc::Global;
+use upload_reader::{LineFault, Lines, Source};
 
 /// The longest site line, in bytes, without its line end.
 const MAX_SITE_BYTES: usize = 1_048_576;

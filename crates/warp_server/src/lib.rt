@@ -4,14 +4,6 @@
 //! one visit that is only loaded and clicked on.
 #![tactic(auto)]
 
-// Bytes in: sources, and the lines that are cut from them.
-mod fault;
-mod history;
-mod limits;
-mod lines;
-mod source;
-mod window;
-
 // The site.
 mod addresses;
 mod site;
@@ -41,17 +33,12 @@ mod intake;
 mod running;
 mod status;
 
-pub use fault::LineFault;
-pub use lines::Lines;
 pub use running::run;
 pub use sink::{Sink, Told};
 pub use site::Site;
 pub use site_fault::SiteFault;
-pub use source::{Fed, Last, Source};
 pub use status::Status;
 
-#[cfg(test)]
-mod fakes;
 #[cfg(test)]
 mod report_tests;
 #[cfg(test)]

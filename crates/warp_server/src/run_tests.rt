@@ -1,8 +1,8 @@
-use crate::fakes::{Drip, Refusal, Sips};
 use crate::{Fed, Status, Told, run};
 use std::alloc::{AllocError, Global};
 use std::process::Abort;
 use std::test::Fail;
+use stream_fakes::{Drip, Refusal, Sips};
 
 const SITE: &str =
     r#"{"patched":["/a"],"pages":{"/a":{"n":"html","c":[{"n":"body","c":[{"n":"a","a":{"href":"/b"},"c":["go"]}]}]}}}"#;

@@ -9,12 +9,12 @@ use crate::replaying::replay;
 use crate::report::compose;
 use crate::sink::Sink;
 use crate::site::Site;
-use crate::source::Source;
 use crate::status::Status;
 use crate::upload::Upload;
 use crate::writing::write_text;
 use page_tree::NoMemory;
 use std::alloc::Global;
+use upload_reader::Source;
 
 /// Reads a site line and an upload, replays the upload on the site, and writes the report.
 ///

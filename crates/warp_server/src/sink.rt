@@ -2,11 +2,11 @@
 ghost use Rattle.std.specs.Prelude.{◌≡◌, [], ◌∷◌, ◌++◌, List};
 ghost use Rattle.std.specs.Io.{WritesAtMost};
 ghost use Rattle.std.specs.Io.KnownBytes.{WriteAppends, Keeps};
-ghost use Rattle.warp_server.specs.Answers.{Answer, answer_of, last_moved_nothing};
+ghost use Rattle.upload_reader.specs.Answers.{Answer, answer_of, last_moved_nothing};
 
-use crate::history::History;
 use std::io;
 use std::io::Write;
+use upload_reader::History;
 
 /// A writer that tells whether its last write failed or took nothing. Contracts see what each of its writes answered.
 ///
@@ -52,12 +52,14 @@ impl<W: Write> Told<W> {
 }
 
 impl<W: Write> Write for Told<W> {
-    ghost contents = { λ told. W.contents told.writer };
+    ghost use Rattle.warp_server.specs.Told.{told_writer, told_puts};
+
+    ghost contents = { λ told. W.contents (told_writer told) };
 
     fn write(&mut self, buf: &[u8]) -> io::Result<usize>
         ensures bound { WritesAtMost result buf.now }
-        ensures bytes { WriteAppends (W.contents self.old.writer) (W.contents self.new.writer) result buf.now }
-        ensures told { self.new.history.answers ≡ self.old.history.answers ++ answer_of result buf.now ∷ [] }
+        ensures bytes { WriteAppends (W.contents (told_writer self.old)) (W.contents (told_writer self.new)) result buf.now }
+        ensures told { told_puts self.new ≡ told_puts self.old ++ answer_of result buf.now ∷ [] }
     {
         match self.writer.write(buf) {
             Ok(count) => {
@@ -74,15 +76,17 @@ impl<W: Write> Write for Told<W> {
     }
 
     fn flush(&mut self) -> io::Result<()>
-        ensures bytes { Keeps (W.contents self.old.writer) (W.contents self.new.writer) }
-        ensures told { self.new.history.answers ≡ self.old.history.answers }
+        ensures bytes { Keeps (W.contents (told_writer self.old)) (W.contents (told_writer self.new)) }
+        ensures told { told_puts self.new ≡ told_puts self.old }
     {
         self.writer.flush()
     }
 }
 
 impl<W: Write> Sink for Told<W> {
-    ghost puts = { λ told. told.history.answers };
+    ghost use Rattle.warp_server.specs.Told.{told_puts};
+
+    ghost puts = { λ told. told_puts told };
 
     fn failed(&self) -> bool {
         self.failed

@@ -6,3 +6,4 @@ pub mod Faults
 pub mod Sound
 pub mod Complete
 pub mod Answered
+pub mod RealFaults

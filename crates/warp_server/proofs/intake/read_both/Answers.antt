@@ -1,5 +1,5 @@
 use Rattle.std.proofs.lemmas.Result.{err_from_is_err_and}
-use Rattle.warp_server.specs.Lines.{lines_answers, lines_place, lines_line}
+use Rattle.upload_reader.specs.Lines.{lines_answers, lines_place, lines_line}
 use Rattle.warp_server.proofs.IntakeLaws.{both_held, refused_behind}
 use Rattle.warp_server.proofs.intake.read_both.Goals as goal
 

@@ -1,6 +1,6 @@
 use Rattle.std.proofs.Common.{Err, ap}
-use Rattle.warp_server.specs.Cutting.{ending_of}
-use Rattle.warp_server.specs.Lines.{lines_answers, lines_uncut}
+use Rattle.upload_reader.specs.Cutting.{ending_of}
+use Rattle.upload_reader.specs.Lines.{lines_answers, lines_uncut}
 use Rattle.warp_server.proofs.IntakeLaws.{bad_refused}
 use Rattle.warp_server.proofs.intake.read_site.Goals as goal
 

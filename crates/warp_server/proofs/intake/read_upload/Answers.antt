@@ -1,8 +1,8 @@
 use Rattle.std.proofs.Common.{◌∙◌}
 use Rattle.std.proofs.lemmas.Result.{err_from_is_err_and}
-use Rattle.warp_server.specs.Cutting.{ending_of}
-use Rattle.warp_server.specs.Lines.{lines_answers, lines_place, lines_input}
-use Rattle.warp_server.proofs.Searching.{reads_then}
+use Rattle.upload_reader.specs.Cutting.{ending_of}
+use Rattle.upload_reader.specs.Lines.{lines_answers, lines_place, lines_input}
+use Rattle.upload_reader.proofs.Searching.{reads_then}
 use Rattle.warp_server.proofs.IntakeLaws.{grown, refused_later}
 use Rattle.warp_server.proofs.intake.read_upload.Goals as goal
 

@@ -1,7 +1,7 @@
 use Rattle.std.proofs.Common.{◌≡◌, ℕ, ◌+◌, ◌-◌, ◌*◌, List, ◌++◌, drop, None}
-use Rattle.warp_server.specs.UploadLines.{complete_lines}
-use Rattle.warp_server.specs.Lines.{lines_answers, lines_place, lines_input, lines_fault, lines_reader}
-use Rattle.warp_server.specs.Reading.{ReadsOn}
+use Rattle.upload_reader.specs.CompleteLines.{complete_lines}
+use Rattle.upload_reader.specs.Lines.{lines_answers, lines_place, lines_input, lines_fault, lines_reader}
+use Rattle.upload_reader.specs.Reading.{ReadsOn}
 use Rattle.warp_server.specs.Thin.{upload_from}
 use Rattle.warp_server.specs.declared.thin.Thin.TheVariants.{Fresh}
 use Rattle.warp_server.proofs.intake.read_upload.Given as goal

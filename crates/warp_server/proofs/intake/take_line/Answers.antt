@@ -1,5 +1,5 @@
-use Rattle.warp_server.specs.Cutting.{ending_of}
-use Rattle.warp_server.specs.Lines.{lines_answers, lines_place, lines_line, lines_input, lines_fault}
+use Rattle.upload_reader.specs.Cutting.{ending_of}
+use Rattle.upload_reader.specs.Lines.{lines_answers, lines_place, lines_line, lines_input, lines_fault}
 use Rattle.warp_server.proofs.IntakeLaws.{upload_refused, line_goes, none_now}
 use Rattle.warp_server.proofs.intake.take_line.Goals as goal
 

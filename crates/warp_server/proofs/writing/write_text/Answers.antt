@@ -1,5 +1,5 @@
 use Rattle.std.proofs.Common.{ℕ, List, drop, arith, length-take}
-use Rattle.warp_server.proofs.Scanning.{rest_is}
+use Rattle.upload_reader.proofs.Scanning.{rest_is}
 use Rattle.warp_server.proofs.TextWriting.{takes_more}
 use Rattle.warp_server.proofs.writing.write_text.Goals as goal
 

@@ -1,0 +1,41 @@
+-- What a hello's line has wrong tells of no failed read.
+use Rattle.std.proofs.Common.{◌≡◌, ℕ, List, Bool, true, false, if◌then◌else◌, Option, Some, None, Result, Ok, Err, refl, codes}
+use Rattle.serde_json.specs.Data.{Data}
+use Rattle.upload_reader.specs.Client.{is_client}
+use Rattle.upload_reader.specs.Greeted.{hello_failures, failures_of_hello}
+use Rattle.upload_reader.specs.Hello.{Greets, is_hello, client_said, greeting_said, hello_by, hello_said}
+use Rattle.upload_reader.specs.Member.{text_in, or_not_json, value_in}
+use Rattle.upload_reader.specs.declared.hello_fault.HelloFault.{HelloFault}
+use Rattle.upload_reader.specs.declared.hello_fault.HelloFault.TheVariants.{BadClient, NoHello, Line, NoMemory}
+
+abbrev Calm : Result (List ℕ) HelloFault → Type 0
+Calm result = failures_of_hello result ≡ 0
+
+named : (test : Bool) (text : List ℕ) → Calm (if test then Ok text else Err BadClient)
+named true text = refl
+named false text = refl
+
+said : (o : Option (List ℕ)) → Calm (client_said o)
+said None = refl
+said (Some text) = named (is_client text) text
+
+by_type : (test : Bool) (r : Result (List ℕ) HelloFault) → Calm r → Calm (if test then r else Err NoHello)
+by_type true r calm = calm
+by_type false r calm = refl
+
+greeting_calm : (d : Data) → Calm (greeting_said d)
+unfolding greeting_said
+greeting_calm d = by_type (is_hello (text_in (codes "t") d)) (client_said (text_in (codes "client") d)) (said (text_in (codes "client") d))
+
+by_json : (number : ℕ) (o : Option Data) → Calm (hello_by number (or_not_json o))
+by_json number None = refl
+by_json number (Some d) = greeting_calm d
+
+hello_calm : (number : ℕ) (line : List ℕ) → Calm (hello_said number line)
+hello_calm number line = by_json number (value_in line)
+
+pub no_read_told : (number : ℕ) (line : List ℕ) (fault : HelloFault) → Greets (Err fault) (hello_said number line) → hello_failures fault ≡ 0
+no_read_told number line BadClient greets = refl
+no_read_told number line NoHello greets = refl
+no_read_told number line NoMemory greets = refl
+no_read_told number line (Line at kind) greets = rw greets at (hello_calm number line)

@@ -1,0 +1,34 @@
+-- This project's own limits on what is read.
+use Rattle.std.specs.Prelude.{ℕ}
+
+-- reads of one Lines
+abbrev pub max_reads : ℕ
+max_reads = 1048576
+
+-- bytes that each read is offered
+abbrev pub read_bytes : ℕ
+read_bytes = 8192
+
+-- the longest line of an upload, in bytes, without its line end
+abbrev pub max_line_bytes : ℕ
+max_line_bytes = 65536
+
+-- messages of a lane, without hello and bye
+abbrev pub max_messages : ℕ
+max_messages = 1000000
+
+-- open visits of a client
+abbrev pub max_open : ℕ
+max_open = 256
+
+-- events of a visit
+abbrev pub max_events : ℕ
+max_events = 10000
+
+-- the greatest number in a message: 2 to the 53rd, less 1
+abbrev pub max_number : ℕ
+max_number = 9007199254740991
+
+-- the longest name of a client, in bytes
+abbrev pub max_client_bytes : ℕ
+max_client_bytes = 64

@@ -1,0 +1,33 @@
+-- What an upload gives next.
+use Rattle.std.specs.Prelude.{ℕ, List, [], ◌∷◌, Option, Some, None}
+use Rattle.upload_reader.specs.Stream.{Costed}
+use Rattle.upload_reader.specs.Taking.{failures_in}
+use Rattle.upload_reader.specs.declared.ending.Ending.{Ending}
+use Rattle.upload_reader.specs.declared.ending.Ending.TheVariants as ending
+use Rattle.upload_reader.specs.declared.lane_fault.LaneEnd.{LaneEnd}
+use Rattle.upload_reader.specs.declared.next.Next.{Next}
+use Rattle.upload_reader.specs.declared.next.Next.TheVariants.{Got, Over, GaveUp}
+
+abbrev pub given_by : Next → List Costed
+given_by (Got message cost) = (message, cost) ∷ []
+given_by (Over end) = []
+given_by GaveUp = []
+
+abbrev pub ending_by : Next → Option Ending
+ending_by (Got message cost) = None
+ending_by (Over end) = Some (ending.Over end)
+ending_by GaveUp = Some ending.GaveUp
+
+abbrev pub next_of : Ending → Next
+next_of (ending.Over end) = Over end
+next_of ending.GaveUp = GaveUp
+
+abbrev pub IfOver : Next → (LaneEnd → Type 0) → Type 0
+IfOver (Got message cost) P = Unit {0}
+IfOver (Over end) P = P end
+IfOver GaveUp P = Unit {0}
+
+-- how many reads failed in a call that answers so
+abbrev pub failures_told : Next → ℕ
+failures_told (Over end) = failures_in (ending.Over end)
+failures_told next = 0

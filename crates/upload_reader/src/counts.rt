@@ -1,0 +1,47 @@
+//! What is kept of an open visit.
+ghost use Rattle.std.specs.Prelude.{◌≡◌, ◌+◌, ◌<◌, ◌^◌};
+ghost use Rattle.upload_reader.specs.Session.{request_of};
+
+use crate::message::Event;
+
+/// The largest request that its events made, 0 for none, and how many events it has.
+#[derive(Drop)]
+pub(crate) struct Counts {
+    pub(crate) largest: u64,
+    pub(crate) events: u32,
+}
+
+impl Counts {
+    ghost use Rattle.upload_reader.specs.Standing.{counts_with};
+
+    /// With no event.
+    pub(crate) fn new() -> Counts
+        ensures largest { result.largest ≡ 0 }
+        ensures events { result.events ≡ 0 }
+    {
+        Counts {
+            largest: 0,
+            events: 0,
+        }
+    }
+
+    /// One event more.
+    pub(crate) fn add(&mut self, event: &Event)
+        requires { self.old.events + 1 < 2 ^ 32 }
+        ensures { self.new ≡ counts_with self.old event.now }
+    {
+        self.largest = self.largest.max(request_of(event));
+        self.events += 1;
+    }
+}
+
+/// The number of the request that an event made, 0 for none.
+pub(crate) fn request_of(event: &Event) -> u64
+    ensures { result ≡ request_of event.now }
+{
+    match event {
+        Event::Input { .. } => 0,
+        Event::Click { req, .. } => *req,
+        Event::Submit { req, .. } => *req,
+    }
+}

@@ -1,0 +1,547 @@
+use crate::hello_reading::read_hello;
+use crate::line::Line;
+use crate::line_reading::{is_blank, read_line};
+use crate::unread::Unread;
+use crate::{Client, Event, HelloFault, LaneFault, LineFault, Message, SessionFault};
+use page_tree::{NoMemory, Page, PageFault, Place};
+use serde_json::Value;
+use std::alloc::Global;
+use std::collections::HashSet;
+use std::test::Fail;
+use xpath_child::{PathFault, PathFaultKind};
+
+const PAGE: &str = r#"{"n":"html","c":[{"n":"p","a":{"id":"x"},"c":["go"]}]}"#;
+
+fn event_text(alloc: Global, visit: u64, event: &Event) -> Result<String, Fail> {
+    let text = match event {
+        Event::Input { at, target, value } => {
+            let target = target.write()?;
+            format!(in alloc;
+                "input {visit} {at} {} [{}]",
+                target.as_str(),
+                value.as_str()
+            )?
+        }
+        Event::Click { at, target, req } => {
+            let target = target.write()?;
+            format!(in alloc; "click {visit} {at} {} {req}", target.as_str())?
+        }
+        Event::Submit {
+            at,
+            target,
+            by,
+            req,
+        } => {
+            let target = target.write()?;
+            let mut text = format!(in alloc; "submit {visit} {at} {}", target.as_str())?;
+            if let Some(button) = by {
+                text.push_str(" by ")?;
+                text.push_str(button.write()?.as_str())?;
+            }
+            format!(in alloc; "{text} {req}")?
+        }
+    };
+    Ok(text)
+}
+
+fn message_text(alloc: Global, message: &Message) -> Result<String, Fail> {
+    match message {
+        Message::Load {
+            visit,
+            at,
+            parent,
+            from,
+            address,
+            page,
+        } => {
+            let name = page.name(&Place::root(alloc)).unwrap_or("");
+            Ok(format!(in alloc;
+                "load {visit} {at} {parent} {from} [{}] {name}",
+                address.as_str()
+            )?)
+        }
+        Message::Act { visit, event } => event_text(alloc, *visit, event),
+        Message::Ended { visit, at } => Ok(format!(in alloc; "end {visit} {at}")?),
+    }
+}
+
+// What a line says, in words, or its fault.
+fn line_text(alloc: Global, line: &[u8]) -> Result<String, Fail> {
+    match read_line(alloc, line) {
+        Ok(Line::Blank) => Ok(String::from_str(alloc, "blank")?),
+        Ok(Line::Bye) => Ok(String::from_str(alloc, "bye")?),
+        Ok(Line::Says(message)) => message_text(alloc, &message),
+        Err(Unread::Fault(fault)) => Ok(fault.to_string(alloc)?),
+        Err(Unread::NoMemory) => Err(Fail::new("no memory")),
+    }
+}
+
+fn fault_of(alloc: Global, line: &str) -> Result<LaneFault, Fail> {
+    match read_line(alloc, line.as_bytes()) {
+        Ok(_) => Err(Fail::new("no fault")),
+        Err(Unread::Fault(fault)) => Ok(fault),
+        Err(Unread::NoMemory) => Err(Fail::new("no memory")),
+    }
+}
+
+// The first text, the second so many times, and the third.
+fn repeated(
+    alloc: Global,
+    before: &str,
+    again: &str,
+    times: u32,
+    after: &str,
+) -> Result<String, NoMemory> {
+    let mut text = String::from_str(alloc, before)?;
+    for _ in 0..times {
+        text.push_str(again)?;
+    }
+    text.push_str(after)?;
+    Ok(text)
+}
+
+// Three parts, the middle one so many times and closed as often.
+fn nested(
+    alloc: Global,
+    before: &str,
+    open: &str,
+    times: u32,
+    inner: &str,
+    close: &str,
+    after: &str,
+) -> Result<String, NoMemory> {
+    let opened = repeated(alloc, before, open, times, inner)?;
+    repeated(alloc, opened.as_str(), close, times, after)
+}
+
+// Lines, and what each says.
+const MESSAGES: [(&str, &str); 17] = [
+    (
+        r#"{"t":"load","visit":3,"at":7,"path":"/a?b","page":{"n":"html"}}"#,
+        "load 3 7 0 0 [/a?b] html",
+    ),
+    (
+        r#"{"t":"load","visit":9007199254740991,"at":0,"parent":2,"from":5,"path":"","page":{"n":"p","c":["x"]}}"#,
+        "load 9007199254740991 0 2 5 [] p",
+    ),
+    (
+        r#"{"t":"input","visit":1,"at":9007199254740991,"target":"/html/p[2]","value":"a\nb"}"#,
+        "input 1 9007199254740991 /html/p[2] [a\nb]",
+    ),
+    (
+        r#"{"t":"input","visit":1,"at":0,"target":"/*","value":""}"#,
+        "input 1 0 /* []",
+    ),
+    (
+        r#"{"t":"click","visit":1,"at":4,"target":"/a"}"#,
+        "click 1 4 /a 0",
+    ),
+    (
+        r#"{"t":"click","visit":1,"at":4,"target":"/a","req":6}"#,
+        "click 1 4 /a 6",
+    ),
+    (
+        r#"{"t":"submit","visit":1,"at":4,"target":"/a"}"#,
+        "submit 1 4 /a 0",
+    ),
+    (
+        r#"{"t":"submit","visit":1,"at":4,"target":"/a","by":"/b[1]"}"#,
+        "submit 1 4 /a by /b[1] 0",
+    ),
+    (
+        r#"{"t":"submit","visit":1,"at":4,"target":"/a","req":0}"#,
+        "submit 1 4 /a 0",
+    ),
+    (
+        r#"{"req":8,"by":"/b","target":"/a","at":4,"visit":1,"t":"submit"}"#,
+        "submit 1 4 /a by /b 8",
+    ),
+    (r#"{"t":"end","visit":1,"at":2}"#, "end 1 2"),
+    (r#"{"t":"bye"}"#, "bye"),
+    // Members that a message doesn't have.
+    (
+        r#"{"x":[null,{}],"t":"end","visit":1,"at":2,"page":7,"":0}"#,
+        "end 1 2",
+    ),
+    (r#"{"t":"bye","visit":0}"#, "bye"),
+    // The last of equal members counts.
+    (
+        r#"{"t":"bye","visit":0,"t":"end","visit":4,"at":2}"#,
+        "end 4 2",
+    ),
+    (r#"{"t":7,"\u0074":"b\u0079e"}"#, "bye"),
+    // Spaces round the text.
+    (" {\"t\" :\t\"bye\"}\r", "bye"),
+];
+
+#[test]
+fn reads_each_kind_of_message(rt: HostRuntime) -> Result<(), Fail> {
+    for (line, want) in MESSAGES {
+        let said = line_text(rt.alloc(), line.as_bytes())?;
+        assert_eq!(rt; said.as_str(), want, "at {line}");
+    }
+    Ok(())
+}
+
+#[test]
+fn keeps_the_page_of_a_load(rt: HostRuntime) -> Result<(), Fail> {
+    let alloc = rt.alloc();
+    let line = format!(in alloc;
+        "{{\"t\":\"load\",\"visit\":1,\"at\":0,\"path\":\"/\",\"page\":{PAGE}}}"
+    )?;
+    let value = Value::from_str(alloc, PAGE)?;
+    let want = Page::from_value(alloc, &value)?;
+    let Ok(Line::Says(Message::Load { page, .. })) = read_line(alloc, line.as_bytes()) else {
+        return Err(Fail::new("no load"));
+    };
+    assert!(rt; page.same(&want));
+    Ok(())
+}
+
+#[test]
+fn leaves_blank_lines_aside(rt: HostRuntime) -> Result<(), Fail> {
+    for line in ["", " ", "\t", "\r", "  \t \r"] {
+        assert!(rt; is_blank(line.as_bytes()));
+        assert!(rt; line_text(rt.alloc(), line.as_bytes())?.as_str() == "blank");
+    }
+    for line in ["\x0b", "\x0c", " \0", "\u{a0}", " \x0b", "."] {
+        assert!(rt; !is_blank(line.as_bytes()));
+        assert!(rt; line_text(rt.alloc(), line.as_bytes())?.as_str() == "E5");
+    }
+    Ok(())
+}
+
+#[test]
+fn refuses_what_is_no_json(rt: HostRuntime) -> Result<(), Fail> {
+    let table: [&[u8]; 5] = [
+        b"{",
+        b"\xff",
+        b"{\"t\":\"bye\",\"x\":\"\xff\"}",
+        b"{\"t\":\"bye\"}{}",
+        b"{\"t\":\"bye\",}",
+    ];
+    for line in table {
+        let said = line_text(rt.alloc(), line)?;
+        assert_eq!(rt; said.as_str(), "E5", "at {}", line.escape_ascii());
+    }
+    Ok(())
+}
+
+// JSON texts that are no message.
+const NO_MESSAGES: [&str; 30] = [
+    r#"[]"#,
+    r#"null"#,
+    r#""bye""#,
+    r#"{}"#,
+    r#"{"t":null}"#,
+    r#"{"t":"Bye"}"#,
+    r#"{"t":""}"#,
+    r#"{"t":"hello","client":"a"}"#,
+    r#"{"t":"end","at":0}"#,
+    r#"{"t":"end","visit":1}"#,
+    r#"{"t":"end","visit":0,"at":0}"#,
+    r#"{"t":"end","visit":1.5,"at":0}"#,
+    r#"{"t":"end","visit":1.0,"at":0}"#,
+    r#"{"t":"end","visit":9007199254740992,"at":0}"#,
+    r#"{"t":"end","visit":"1","at":0}"#,
+    r#"{"t":"end","visit":-1,"at":0}"#,
+    r#"{"t":"end","visit":1,"at":-0}"#,
+    r#"{"t":"end","visit":1,"at":9007199254740992}"#,
+    r#"{"t":"end","visit":1,"at":0,"visit":null}"#,
+    r#"{"t":"input","visit":1,"at":0,"target":"/a"}"#,
+    r#"{"t":"input","visit":1,"at":0,"target":"/a","value":null}"#,
+    r#"{"t":"click","visit":1,"at":0}"#,
+    r#"{"t":"click","visit":1,"at":0,"target":"/a","req":null}"#,
+    r#"{"t":"submit","visit":1,"at":0,"target":"/a","by":null}"#,
+    r#"{"t":"submit","visit":1,"at":0,"target":"/a","req":9007199254740992}"#,
+    r#"{"t":"load","visit":1,"at":0,"path":"/"}"#,
+    r#"{"t":"load","visit":1,"at":0,"path":null,"page":{"n":"p"}}"#,
+    r#"{"t":"load","visit":1,"at":0,"page":{"n":"p"}}"#,
+    r#"{"t":"load","visit":1,"at":0,"parent":null,"path":"/","page":{"n":"p"}}"#,
+    r#"{"t":"load","visit":1,"at":0,"from":null,"path":"/","page":{"n":"p"}}"#,
+];
+
+#[test]
+fn refuses_what_is_no_message(rt: HostRuntime) -> Result<(), Fail> {
+    for line in NO_MESSAGES {
+        let said = line_text(rt.alloc(), line.as_bytes())?;
+        assert_eq!(rt; said.as_str(), "E6", "at {line}");
+    }
+    Ok(())
+}
+
+#[test]
+fn refuses_a_load_of_no_page(rt: HostRuntime) -> Result<(), Fail> {
+    let alloc = rt.alloc();
+    let table = [
+        ("null", "E7.P1"),
+        (r#""html""#, "E7.P1"),
+        (r#"{"n":"1x"}"#, "E7.P2"),
+        (r#"{"n":"a","a":{"id":7}}"#, "E7.P3"),
+        (r#"{"n":"a","c":"go"}"#, "E7.P4"),
+    ];
+    for (page, want) in table {
+        let line = format!(in alloc;
+            "{{\"t\":\"load\",\"visit\":1,\"at\":0,\"path\":\"/\",\"page\":{page}}}"
+        )?;
+        let said = line_text(alloc, line.as_bytes())?;
+        assert_eq!(rt; said.as_str(), want, "at {page}");
+    }
+    Ok(())
+}
+
+#[test]
+fn refuses_a_page_past_its_limits(rt: HostRuntime) -> Result<(), Fail> {
+    let alloc = rt.alloc();
+    let start = r#"{"t":"load","visit":1,"at":0,"path":"/","page":"#;
+    for (levels, want) in [(48, "load 1 0 0 0 [/] a"), (49, "E7.P5")] {
+        let line = nested(
+            alloc,
+            start,
+            r#"{"n":"a","c":["#,
+            levels - 1,
+            r#"{"n":"a"}"#,
+            "]}",
+            "}",
+        )?;
+        let said = line_text(alloc, line.as_bytes())?;
+        assert_eq!(rt; said.as_str(), want, "{levels} levels");
+    }
+    for (texts, want) in [(4095, "load 1 0 0 0 [/] a"), (4096, "E7.P6")] {
+        let page = repeated(alloc, r#"{"n":"a","c":["#, r#""","#, texts - 1, r#"""]}"#)?;
+        let line = format!(in alloc; "{start}{page}}}")?;
+        let said = line_text(alloc, line.as_bytes())?;
+        assert_eq!(rt; said.as_str(), want, "{texts} texts");
+    }
+    Ok(())
+}
+
+#[test]
+fn takes_texts_nested_127_deep(rt: HostRuntime) -> Result<(), Fail> {
+    let alloc = rt.alloc();
+    for (arrays, want) in [(126, "bye"), (127, "E5")] {
+        let line = nested(alloc, r#"{"t":"bye","x":"#, "[", arrays, "", "]", "}")?;
+        let said = line_text(alloc, line.as_bytes())?;
+        assert_eq!(rt; said.as_str(), want, "in {arrays} arrays");
+    }
+    Ok(())
+}
+
+#[test]
+fn names_where_a_path_is_wrong(rt: HostRuntime) -> Result<(), Fail> {
+    let table = [
+        (
+            r#"{"t":"input","visit":1,"at":0,"target":"/a[0]","value":""}"#,
+            2,
+            PathFaultKind::BadIndex,
+        ),
+        (
+            r#"{"t":"click","visit":1,"at":0,"target":""}"#,
+            0,
+            PathFaultKind::NotAbsolute,
+        ),
+        (
+            r#"{"t":"submit","visit":1,"at":0,"target":"/a","by":"/a/"}"#,
+            3,
+            PathFaultKind::EmptyStep,
+        ),
+        (
+            r#"{"t":"submit","visit":1,"at":0,"target":"/a/1","by":"b"}"#,
+            3,
+            PathFaultKind::BadName,
+        ),
+    ];
+    for (line, at, kind) in table {
+        let want = LaneFault::BadTarget(PathFault { at, kind });
+        assert_eq!(rt; fault_of(rt.alloc(), line)?, want, "at {line}");
+    }
+    Ok(())
+}
+
+// Lines with several faults, the first of which counts.
+const SEVERAL_FAULTS: [(&str, &str); 9] = [
+    // No JSON text, and everything else.
+    (
+        r#"{"t":"submit","visit":0,"at":0,"target":"a","by":"b""#,
+        "E5",
+    ),
+    // A bad member and a bad page.
+    (
+        r#"{"t":"load","page":null,"visit":0,"at":0,"path":"/"}"#,
+        "E6",
+    ),
+    (
+        r#"{"t":"load","page":null,"visit":1,"at":0,"path":7}"#,
+        "E6",
+    ),
+    // A bad member and bad paths.
+    (r#"{"t":"input","target":"a","visit":1,"at":0}"#, "E6"),
+    (
+        r#"{"t":"click","target":"a","visit":1,"at":0,"req":1.5}"#,
+        "E6",
+    ),
+    (
+        r#"{"t":"submit","target":"a","visit":1,"at":0,"by":7}"#,
+        "E6",
+    ),
+    (
+        r#"{"t":"submit","target":"a","by":"b","visit":1,"at":0,"req":-1}"#,
+        "E6",
+    ),
+    // Both paths.
+    (
+        r#"{"t":"submit","by":"b","target":"/a[0]","visit":1,"at":0}"#,
+        "E8.X4",
+    ),
+    (
+        r#"{"t":"submit","by":"b","target":"/a","visit":1,"at":0}"#,
+        "E8.X1",
+    ),
+];
+
+#[test]
+fn names_the_first_fault_of_a_line(rt: HostRuntime) -> Result<(), Fail> {
+    for (line, want) in SEVERAL_FAULTS {
+        let said = line_text(rt.alloc(), line.as_bytes())?;
+        assert_eq!(rt; said.as_str(), want, "at {line}");
+    }
+    Ok(())
+}
+
+// The client of the line, or the fault.
+fn hello_text(alloc: Global, line: &str) -> Result<String, Fail> {
+    match read_hello(alloc, 3, line.as_bytes()) {
+        Ok(client) => Ok(String::from_str(alloc, client.text())?),
+        Err(HelloFault::NoMemory) => Err(Fail::new("no memory")),
+        Err(fault) => Ok(fault.to_string(alloc)?),
+    }
+}
+
+// Lines, and what each says as a hello.
+const HELLOS: [(&str, &str); 19] = [
+    (r#"{"t":"hello","client":"a"}"#, "a"),
+    (r#"{"client":"Az09_-","x":7,"t":"hello"}"#, "Az09_-"),
+    (r#"{"t":"bye","client":7,"t":"hello","client":"b"}"#, "b"),
+    (r#"{"t":"load","client":"a"}"#, "U2"),
+    (
+        r#"{"t":"load","visit":1,"at":0,"path":"/","page":{"n":"p"}}"#,
+        "U2",
+    ),
+    (r#"{"t":"Hello","client":"a"}"#, "U2"),
+    (r#"{"t":7,"client":"a b"}"#, "U2"),
+    (r#"{"client":"a"}"#, "U2"),
+    ("[]", "U2"),
+    ("null", "U2"),
+    (r#"{"t":"hello"}"#, "U1"),
+    (r#"{"t":"hello","client":null}"#, "U1"),
+    (r#"{"t":"hello","client":7}"#, "U1"),
+    (r#"{"t":"hello","client":""}"#, "U1"),
+    (r#"{"t":"hello","client":"a b"}"#, "U1"),
+    (r#"{"t":"hello","client":"a.b"}"#, "U1"),
+    (r#"{"t":"hello","client":"é"}"#, "U1"),
+    ("{", "U3"),
+    ("", "U3"),
+];
+
+#[test]
+fn reads_a_hello(rt: HostRuntime) -> Result<(), Fail> {
+    let alloc = rt.alloc();
+    for (line, want) in HELLOS {
+        let said = hello_text(alloc, line)?;
+        assert_eq!(rt; said.as_str(), want, "at {line}");
+    }
+    for (length, is_taken) in [(64, true), (65, false)] {
+        let line = repeated(alloc, r#"{"t":"hello","client":""#, "x", length, "\"}")?;
+        let name = repeated(alloc, "", "x", length, "")?;
+        let want = if is_taken { name.as_str() } else { "U1" };
+        assert_eq!(rt; hello_text(alloc, line.as_str())?.as_str(), want);
+    }
+    let fault = HelloFault::Line {
+        line: 3,
+        fault: LaneFault::NotJson,
+    };
+    assert_eq!(rt; read_hello(alloc, 3, b"{").err(), Some(fault));
+    Ok(())
+}
+
+#[test]
+fn compares_clients_by_their_text(rt: HostRuntime) -> Result<(), Fail> {
+    let alloc = rt.alloc();
+    let client = Client::read(alloc, "a-1")?;
+    assert!(rt; client == client.copy()?);
+    assert!(rt; client != Client::read(alloc, "a-2")?);
+    let mut known = HashSet::new(alloc);
+    known.insert(client)?;
+    known.insert(Client::read(alloc, "b")?)?;
+    known.insert(Client::read(alloc, "a-1")?)?;
+    assert_eq!(rt; known.len(), 2);
+    assert!(rt; known.contains(&Client::read(alloc, "b")?));
+    assert!(rt; !known.contains(&Client::read(alloc, "B")?));
+    Ok(())
+}
+
+#[test]
+fn writes_lane_faults_as_their_numbers(rt: HostRuntime) -> Result<(), Fail> {
+    let alloc = rt.alloc();
+    let bad_index = PathFault {
+        at: 2,
+        kind: PathFaultKind::BadIndex,
+    };
+    let of_lanes = [
+        (LaneFault::ReadFailed, "E1"),
+        (LaneFault::TooManyReads, "E2"),
+        (LaneFault::Truncated, "E3"),
+        (LaneFault::LineTooLong, "E4"),
+        (LaneFault::NotJson, "E5"),
+        (LaneFault::BadMessage, "E6"),
+        (LaneFault::BadPage(PageFault::TooDeep), "E7.P5"),
+        (LaneFault::BadTarget(bad_index), "E8.X4"),
+        (LaneFault::BadSession(SessionFault::AfterEnd), "E9.S4"),
+        (LaneFault::LaneFull, "E10"),
+    ];
+    for (fault, want) in of_lanes {
+        assert_eq!(rt; fault.to_string(alloc)?.as_str(), want);
+    }
+    Ok(())
+}
+
+#[test]
+fn writes_other_faults_as_their_numbers(rt: HostRuntime) -> Result<(), Fail> {
+    let alloc = rt.alloc();
+    let of_lines = [
+        (LineFault::ReadFailed, "E1"),
+        (LineFault::TooManyReads, "E2"),
+        (LineFault::Truncated, "E3"),
+        (LineFault::LineTooLong, "E4"),
+    ];
+    for (fault, want) in of_lines {
+        assert_eq!(rt; fault.to_string(alloc)?.as_str(), want);
+    }
+    let of_sessions = [
+        (SessionFault::VisitOrder, "S1"),
+        (SessionFault::NoParent, "S2"),
+        (SessionFault::NoVisit, "S3"),
+        (SessionFault::AfterEnd, "S4"),
+        (SessionFault::RequestOrder, "S5"),
+        (SessionFault::VisitFull, "S6"),
+        (SessionFault::TooManyOpen, "S7"),
+        (SessionFault::NoMemory, "S8"),
+    ];
+    for (fault, want) in of_sessions {
+        assert_eq!(rt; fault.to_string(alloc)?.as_str(), want);
+    }
+    let line = HelloFault::Line {
+        line: 1,
+        fault: LaneFault::NotJson,
+    };
+    let of_hellos = [
+        (HelloFault::BadClient, "U1"),
+        (HelloFault::NoHello, "U2"),
+        (line, "U3"),
+        (HelloFault::NoMemory, "U4"),
+    ];
+    for (fault, want) in of_hellos {
+        assert_eq!(rt; fault.to_string(alloc)?.as_str(), want);
+    }
+    Ok(())
+}
