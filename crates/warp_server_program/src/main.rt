@@ -4,7 +4,8 @@
 use std::io;
 use std::io::ErrorKind;
 use std::process::ExitCode;
-use warp_server::{Fed, Status, Told, run};
+use upload_reader::Fed;
+use warp_server::{Status, Told, run};
 use words::{are_understood, words_of};
 
 mod words;
