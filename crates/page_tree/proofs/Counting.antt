@@ -47,3 +47,11 @@ child_count place page n children found are = rw (← found) (sym (count-all_see
 pub children_fit : (place : List ℕ) (page n : Tree) (children : List code.Tree) → Some n ≡ node_at place page → all_seen children ≡ children_of n → nodes page ≤ max_nodes → length children ≤ max_nodes
 children_fit place page n children found are few =
     omega (arith, count-all_seen children, ap count are, children-nodes n, node_at-nodes place page n (sym found))
+
+under-nodes : (t : Tree) → nodes_of_all (children_of t) ≤ nodes t
+under-nodes (element name attributes children) = omega arith
+under-nodes (words text) = omega arith
+
+pub few_under : (place : List ℕ) (page n : Tree) (children : List code.Tree) → Some n ≡ node_at place page → all_seen children ≡ children_of n → nodes page ≤ max_nodes → nodes_of_all (all_seen children) ≤ max_nodes
+few_under place page n children found are few =
+    omega (arith, ap nodes_of_all are, under-nodes n, node_at-nodes place page n (sym found))

@@ -1,5 +1,6 @@
 pub mod Children
 pub mod Counting
+pub mod Below
 pub mod Levels
 pub mod Found
 pub mod Ascending

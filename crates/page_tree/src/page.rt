@@ -1,4 +1,8 @@
-ghost use Rattle.std.specs.Prelude.{◌≡◌, ◌≢◌, ◌↔◌, IsTrue, IfOk, IfErr, MatchResult, Some, None, option_map};
+ghost use Rattle.std.specs.Prelude.{ℕ, List, ◌≡◌, ◌≢◌, ◌↔◌, IsTrue, IsSome, IfOk, IfErr, MatchResult, Some, None, option_map};
+ghost use Rattle.std.specs.List.{Contains};
+ghost use Rattle.std.specs.List.Sorted.{IsStrictlySortedBy};
+ghost use Rattle.std.specs.Ordering.{nat_cmp};
+ghost use Rattle.std.specs.Cmp.Lexicographic.{slice_cmp};
 ghost use Rattle.serde_json.specs.View.{view};
 ghost use Rattle.page_tree.specs.Tree.{Tree as PlainTree};
 ghost use Rattle.page_tree.specs.Limits.{IsPage};
@@ -6,7 +10,8 @@ ghost use Rattle.page_tree.specs.Value.{IsPageOf};
 ghost use Rattle.page_tree.specs.Fault.{fault_of_tree, fault_of_value};
 ghost use Rattle.page_tree.specs.Visit.{page_in, page_or_fault, Gives};
 ghost use Rattle.page_tree.specs.declared.fault.PageFault.TheVariants.{NoMemory};
-ghost use Rattle.page_tree.specs.Look.{name_at, child_count_at, attribute_at, text_at};
+ghost use Rattle.page_tree.specs.Look.{node_at, name_at, child_count_at, attribute_at, text_at};
+ghost use Rattle.page_tree.specs.Under.{is_under, places_under};
 ghost use Rattle.page_tree.specs.Control.{control_at, start_text_at, start_checked_at};
 
 use crate::control::{Control, control_of};
@@ -20,6 +25,7 @@ use crate::reading::read_root;
 use crate::starting::{start_checked_of, start_text_of};
 use crate::text::Text;
 use crate::tree::Tree;
+use crate::walking::add_places_under;
 use serde_json::Value;
 use std::alloc::Global;
 use std::marker::Model;
@@ -96,6 +102,13 @@ impl Page {
         self.root.same(&other.root)
     }
 
+    /// Tells that the page is within the limits.
+    pub fn within_limits(&self)
+        ensures { IsPage self.now }
+    {
+        let _ = &self.root;
+    }
+
     /// The name of the element there; none for a text, or where no node is.
     pub fn name(&self, place: &Place) -> Option<&str>
         ensures { option_map (λ name. name.now) result ≡ name_at place.now self.now }
@@ -159,5 +172,18 @@ impl Page {
             add_texts(node, &mut joined)?;
         }
         Ok(Text::from(joined))
+    }
+
+    /// The places of all nodes under the one there, texts too, in document order; none where no node is.
+    pub fn places_under(&self, place: &Place) -> Result<Vec<Place>, NoMemory>
+        ensures exact { IfOk result (λ found. found.items ≡ places_under place.now self.now) }
+        ensures every { IfOk result (λ found. (q : List ℕ) → Contains found.items q ↔ (IsTrue (is_under place.now q) × IsSome (node_at q self.now))) }
+        ensures order { IfOk result (λ found. IsStrictlySortedBy (slice_cmp nat_cmp) found.items) }
+    {
+        let mut found = Vec::new(self.root.allocator());
+        if let Some(node) = looking::find(&self.root, place.as_slice()) {
+            add_places_under(looking::children(node), place, &mut found)?;
+        }
+        Ok(found)
     }
 }

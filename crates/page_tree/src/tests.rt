@@ -1,6 +1,8 @@
 use crate::{Attributes, Control, NoMemory, Page, PageFault, Place, Text, Tree, is_name};
 use serde_json::Value;
 use std::alloc::Global;
+use std::cmp::Ordering;
+use std::collections::BTreeMap;
 use std::process::Abort;
 use std::test::Fail;
 
@@ -442,5 +444,80 @@ fn gives_back_what_it_was_made_of(rt: HostRuntime) -> Result<(), Fail> {
     assert!(rt; attributes.get("k") == Some("v"));
     assert!(rt; attributes.get("v").is_none());
     assert_eq!(rt; attributes.into_vec().len(), 1);
+    Ok(())
+}
+
+const NESTED: &str =
+    r#"{"n":"html","c":[{"n":"body","c":[{"n":"div","c":[{"n":"a","c":["x"]}]},{"n":"p"},{"n":"div","c":[{"n":"a","c":["y"]}]}]}]}"#;
+
+fn shown(alloc: Global, places: &[Place]) -> Result<String, Fail> {
+    let mut text = String::new(alloc);
+    for place in places {
+        text.push_str(format!(in alloc; "{:?}", place.as_slice())?.as_str())?;
+    }
+    Ok(text)
+}
+
+#[test]
+fn lists_the_places_under_a_node(rt: HostRuntime) -> Result<(), Fail> {
+    let alloc = rt.alloc();
+    let page = read(alloc, NESTED)?;
+    page.within_limits();
+    let cases: [(&[u32], &str); 6] = [
+        (
+            &[],
+            "[0][0, 0][0, 0, 0][0, 0, 0, 0][0, 1][0, 2][0, 2, 0][0, 2, 0, 0]",
+        ),
+        (&[0, 0], "[0, 0, 0][0, 0, 0, 0]"),
+        // An element without children, a text, and no node.
+        (&[0, 1], ""),
+        (&[0, 0, 0, 0], ""),
+        (&[0, 3], ""),
+        (&[0, 0, 0, 0, 0], ""),
+    ];
+    for (above, under) in cases {
+        let found = page.places_under(&place(alloc, above)?)?;
+        assert_eq!(rt; shown(alloc, found.as_slice())?.as_str(), under);
+    }
+    Ok(())
+}
+
+#[test]
+fn compares_places(rt: HostRuntime) -> Result<(), Fail> {
+    let alloc = rt.alloc();
+    // Two places, their order, and whether the first is under the second.
+    let cases: [(&[u32], &[u32], Ordering, bool); 8] = [
+        (&[], &[], Ordering::Equal, false),
+        (&[0, 1], &[0, 1], Ordering::Equal, false),
+        (&[0], &[], Ordering::Greater, true),
+        (&[0, 1, 0], &[0, 1], Ordering::Greater, true),
+        (&[0, 1, 0, 5], &[0], Ordering::Greater, true),
+        (&[0], &[0, 1], Ordering::Less, false),
+        (&[0, 2], &[0, 10], Ordering::Less, false),
+        (&[1], &[0, 9], Ordering::Greater, false),
+    ];
+    for (one, other, order, under) in cases {
+        let one = place(alloc, one)?;
+        let other = place(alloc, other)?;
+        assert_eq!(rt; one.cmp(&other), order);
+        assert_eq!(rt; one.partial_cmp(&other), Some(order));
+        assert_eq!(rt; one == other, order == Ordering::Equal);
+        assert_eq!(rt; one.is_under(&other), under);
+    }
+    Ok(())
+}
+
+#[test]
+fn keeps_places_in_a_map(rt: HostRuntime) -> Result<(), Fail> {
+    let alloc = rt.alloc();
+    let field = place(alloc, &[0, 2])?;
+    let copy = field.copy()?;
+    assert_eq!(rt; copy, field);
+    assert_eq!(rt; copy.as_slice(), [0, 2].as_slice());
+    let mut texts = BTreeMap::new(alloc);
+    texts.insert(copy, "a")?;
+    texts.insert(Place::root(alloc), "b")?;
+    assert!(rt; texts.get(&field) == Some(&"a"));
+    assert!(rt; texts.get(&place(alloc, &[0])?).is_none());
     Ok(())
 }
