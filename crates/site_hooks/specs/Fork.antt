@@ -1,0 +1,24 @@
+-- What clauses see of a Fork, and which of its two sites an address goes to.
+use Rattle.std.specs.Prelude.{ℕ, List, Bool, if◌then◌else◌, nat_eq}
+use Rattle.std.specs.List.{starts_with}
+use Rattle.site_hooks.specs.declared.fork.Fork.{Fork}
+
+-- the prefix that its first site has
+abbrev pub fork_prefix : {A B : Type 0} → Fork A B → List ℕ
+fork_prefix fork = fork.prefix
+
+-- the site of the addresses that begin with the prefix
+abbrev pub fork_inside : {A B : Type 0} → Fork A B → A
+fork_inside fork = fork.inside
+
+-- the site of all others
+abbrev pub fork_outside : {A B : Type 0} → Fork A B → B
+fork_outside fork = fork.outside
+
+-- whether an address begins with a prefix
+abbrev pub begins_with : List ℕ → List ℕ → Bool
+begins_with prefix address = starts_with nat_eq address prefix
+
+-- one answer where the address begins with the prefix, the other where it doesn't
+abbrev pub parted : {X : Type 0} → List ℕ → List ℕ → X → X → X
+parted prefix address inside outside = if begins_with prefix address then inside else outside

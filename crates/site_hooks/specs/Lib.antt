@@ -1,0 +1,3 @@
+pub mod Closures
+pub mod Fork
+pub mod Table

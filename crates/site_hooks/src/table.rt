@@ -1,0 +1,97 @@
+//! A site of pages by address, with watched paths.
+ghost use Rattle.std.specs.Prelude.{◌≡◌, [], ◌∷◌, ◌++◌, ℕ, List, Some, None, if◌then◌else◌, IfOk, OnOk, OnErr};
+ghost use Rattle.std.specs.Str.{bytes_eq};
+ghost use Rattle.site_hooks.specs.Table.{page_in, watched_in, watched_text, is_changed, signals_in};
+
+use crate::hooks::SiteHooks;
+use crate::law::SiteLaw;
+use page_tree::{NoMemory, Page, Text};
+use std::alloc::Global;
+use std::collections::BTreeMap;
+use xpath_child::{Path, Target};
+
+/// A site that was set up page by page. The page at an address is the one that was added for the whole address; a conflict is signalled where a
+/// watched path has another text on the old page than on the new, at whatever address.
+#[derive(Debug, Drop)]
+pub struct Table {
+    pages: BTreeMap<String, Page>,
+    watched: Vec<Path>,
+}
+
+impl Table {
+    /// A site without pages that watches nothing. It takes no memory.
+    pub fn new(alloc: Global) -> Table
+        ensures pages { (address : List ℕ) → page_in result address ≡ None }
+        ensures watched { watched_in result ≡ [] }
+    {
+        Table {
+            pages: BTreeMap::new(alloc),
+            watched: Vec::new(alloc),
+        }
+    }
+
+    /// Adds the page at an address, in place of an earlier one; after an error all is as before.
+    pub fn add_page(&mut self, address: Text, page: Page) -> Result<(), NoMemory>
+        ensures ok { OnOk result ((other : List ℕ) → page_in self.new other ≡ (if bytes_eq address other then Some page else page_in self.old other)) }
+        ensures err { OnErr result ((other : List ℕ) → page_in self.new other ≡ page_in self.old other) }
+        ensures watched { watched_in self.new ≡ watched_in self.old }
+    {
+        self.pages.insert(address.into_string(), page)?;
+        Ok(())
+    }
+
+    /// Watches one path more; after an error all is as before.
+    pub fn watch(&mut self, path: Path) -> Result<(), NoMemory>
+        ensures ok { OnOk result (watched_in self.new ≡ watched_in self.old ++ path ∷ []) }
+        ensures err { OnErr result (watched_in self.new ≡ watched_in self.old) }
+        ensures pages { (address : List ℕ) → page_in self.new address ≡ page_in self.old address }
+    {
+        self.watched.push(path)?;
+        Ok(())
+    }
+}
+
+impl SiteLaw for Table {
+    ghost page_of = { page_in };
+
+    ghost signals = { λ table address old new. signals_in table old new };
+}
+
+impl SiteHooks for Table {
+    fn make(&self, address: &str) -> Result<Option<Page>, NoMemory> {
+        match self.pages.get(address) {
+            None => Ok(None),
+            Some(page) => Ok(Some(page.copy()?)),
+        }
+    }
+
+    fn signals(&self, _address: &str, old: &Page, new: &Page) -> Result<bool, NoMemory> {
+        for path in &self.watched {
+            if changed(path, old, new)? {
+                return Ok(true);
+            }
+        }
+        Ok(false)
+    }
+}
+
+// Whether a path has another text on the old page than on the new.
+fn changed(path: &Path, old: &Page, new: &Page) -> Result<bool, NoMemory>
+    ensures { IfOk result (λ changed. changed ≡ is_changed old.now new.now path.now) }
+{
+    match (text_on(old, path)?, text_on(new, path)?) {
+        (None, None) => Ok(false),
+        (Some(before), Some(after)) => Ok(before.as_str() != after.as_str()),
+        _ => Ok(true),
+    }
+}
+
+// The text under the only place that a path selects on a page.
+fn text_on(page: &Page, path: &Path) -> Result<Option<Text>, NoMemory>
+    ensures { IfOk result (λ text. text ≡ watched_text page.now path.now) }
+{
+    match path.select(page)? {
+        Target::One(place) => Ok(Some(page.text_under(&place)?)),
+        Target::Missing | Target::Several => Ok(None),
+    }
+}
