@@ -1,0 +1,6 @@
+pub mod Cut
+pub mod FieldsStandForEvents
+pub mod OnePlaceMore
+pub mod Overlay
+pub mod Sorting
+pub mod Stepping

@@ -1,0 +1,122 @@
+-- Why one event can't be replayed: from the page that it was made on, the page that stands there now, and the event alone (this project's own rules).
+use Rattle.std.specs.Prelude.{ℕ, List, Bool, true, false, not, ◌&&◌, ◌==◌, if◌then◌else◌, Option, Some, None, is_some, codes}
+use Rattle.std.specs.Str.{bytes_eq}
+use Rattle.page_tree.specs.Tree.{Tree}
+use Rattle.page_tree.specs.Look.{attribute_at}
+use Rattle.page_tree.specs.Control.{control_at, start_text_at}
+use Rattle.page_tree.specs.Under.{is_under}
+use Rattle.page_tree.specs.declared.control.Control.{Control}
+use Rattle.page_tree.specs.declared.control.Control.TheVariants as control
+use Rattle.xpath_child.specs.Path.{Step}
+use Rattle.xpath_child.specs.Targets.{target_in}
+use Rattle.xpath_child.specs.declared.target.Target.{Target}
+use Rattle.xpath_child.specs.declared.target.Target.TheVariants.{Missing, One, Several}
+use Rattle.upload_reader.specs.declared.message.Event.{Event}
+use Rattle.upload_reader.specs.declared.message.Event.TheVariants.{Input, Click, Submit}
+use Rattle.visit_replay.specs.declared.outcome.ConflictKind.{ConflictKind}
+use Rattle.visit_replay.specs.declared.outcome.ConflictKind.TheVariants.{NoTarget, ManyTargets, NotAField, BaseChanged, NotALink, NotAForm}
+
+abbrev pub path_of : Event → List Step
+path_of (Input at target value) = target
+path_of (Click at target req) = target
+path_of (Submit at target by req) = target
+
+-- "disabled" means that the node itself has the attribute, whatever its value
+abbrev pub is_disabled : List ℕ → Tree → Bool
+is_disabled place page = is_some (attribute_at place (codes "disabled") page)
+
+-- ---- inputs: into a text control that isn't disabled, over an unchanged start text
+
+unfoldable pub input_conflict_on : Control → Bool → Bool → Option ConflictKind
+input_conflict_on control.Text disabled unchanged = if disabled then Some NotAField else (if unchanged then None else Some BaseChanged)
+input_conflict_on control.Check disabled unchanged = Some NotAField
+input_conflict_on control.Radio disabled unchanged = Some NotAField
+input_conflict_on control.Submit disabled unchanged = Some NotAField
+input_conflict_on control.Link disabled unchanged = Some NotAField
+input_conflict_on control.Form disabled unchanged = Some NotAField
+input_conflict_on control.Other disabled unchanged = Some NotAField
+
+-- the start text of the only place that the path selected
+abbrev pub start_text_of_target : Target → Tree → Option (List ℕ)
+start_text_of_target Missing page = None
+start_text_of_target (One place) page = start_text_at place page
+start_text_of_target Several page = None
+
+-- an absent text is the same as no other, an absent one too
+abbrev pub is_same_text : Option (List ℕ) → Option (List ℕ) → Bool
+is_same_text None other = false
+is_same_text (Some text) None = false
+is_same_text (Some text) (Some other) = bytes_eq text other
+
+-- whether the path selected, on the old page, one text control that started as the one at the place does now
+abbrev pub is_unchanged : Tree → Tree → List Step → List ℕ → Bool
+is_unchanged old new path place = is_same_text (start_text_of_target (target_in path old) old) (start_text_at place new)
+
+abbrev pub input_conflict : Tree → Tree → List Step → List ℕ → Option ConflictKind
+input_conflict old new path place = input_conflict_on (control_at place new) (is_disabled place new) (is_unchanged old new path place)
+
+-- ---- clicks: on no radio button and no disabled checkbox; one that made a request, on a link
+
+abbrev pub off_link : ℕ → Option ConflictKind
+off_link req = if req == 0 then None else Some NotALink
+
+unfoldable pub click_conflict_on : Control → Bool → ℕ → Option ConflictKind
+click_conflict_on control.Radio disabled req = Some NotAField
+click_conflict_on control.Check disabled req = if disabled then Some NotAField else off_link req
+click_conflict_on control.Link disabled req = None
+click_conflict_on control.Text disabled req = off_link req
+click_conflict_on control.Submit disabled req = off_link req
+click_conflict_on control.Form disabled req = off_link req
+click_conflict_on control.Other disabled req = off_link req
+
+abbrev pub click_conflict : Tree → ℕ → List ℕ → Option ConflictKind
+click_conflict new req place = click_conflict_on (control_at place new) (is_disabled place new) req
+
+-- ---- submits: of a form, and by a button of it where one was pressed
+
+unfoldable pub is_enabled_submit : Control → Bool → Bool
+is_enabled_submit control.Submit disabled = not disabled
+is_enabled_submit control.Text disabled = false
+is_enabled_submit control.Check disabled = false
+is_enabled_submit control.Radio disabled = false
+is_enabled_submit control.Link disabled = false
+is_enabled_submit control.Form disabled = false
+is_enabled_submit control.Other disabled = false
+
+-- the only place that was selected is an enabled button under the form
+abbrev pub is_button_of : Tree → List ℕ → Target → Bool
+is_button_of new form Missing = false
+is_button_of new form (One place) = is_under form place && is_enabled_submit (control_at place new) (is_disabled place new)
+is_button_of new form Several = false
+
+abbrev pub has_button : Tree → List ℕ → Option (List Step) → Bool
+has_button new form None = true
+has_button new form (Some path) = is_button_of new form (target_in path new)
+
+unfoldable pub submit_conflict_on : Control → Bool → Option ConflictKind
+submit_conflict_on control.Form button = if button then None else Some NotAForm
+submit_conflict_on control.Text button = Some NotAForm
+submit_conflict_on control.Check button = Some NotAForm
+submit_conflict_on control.Radio button = Some NotAForm
+submit_conflict_on control.Submit button = Some NotAForm
+submit_conflict_on control.Link button = Some NotAForm
+submit_conflict_on control.Other button = Some NotAForm
+
+abbrev pub submit_conflict : Tree → Option (List Step) → List ℕ → Option ConflictKind
+submit_conflict new by place = submit_conflict_on (control_at place new) (has_button new place by)
+
+-- ---- any event
+
+abbrev pub conflict_at : Tree → Tree → Event → List ℕ → Option ConflictKind
+conflict_at old new (Input at target value) place = input_conflict old new target place
+conflict_at old new (Click at target req) place = click_conflict new req place
+conflict_at old new (Submit at target by req) place = submit_conflict new by place
+
+-- a target must be one place
+abbrev pub on_target : Target → (List ℕ → Option ConflictKind) → Option ConflictKind
+on_target Missing found = Some NoTarget
+on_target (One place) found = found place
+on_target Several found = Some ManyTargets
+
+abbrev pub conflict : Tree → Tree → Event → Option ConflictKind
+conflict old new event = on_target (target_in (path_of event) new) (conflict_at old new event)

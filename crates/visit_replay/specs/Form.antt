@@ -1,0 +1,99 @@
+-- What a form sends (HTML 4.01, section 17.13; where it says nothing, or another thing, these are this project's own rules: `on` for an absent
+-- `value`, an empty text for that of a button, no pair of an empty name, nested forms' nodes too, the visit's address for no action, no query or fragment of the
+-- action's own under Get).
+use Rattle.std.specs.Prelude.{ℕ, List, [], ◌∷◌, ◌++◌, Bool, false, ◌||◌, ◌==◌, if◌then◌else◌, Option, Some, None, unwrap_or, option_map, option_and_then, codes}
+use Rattle.std.specs.List.{filter_map, before_first}
+use Rattle.std.specs.Option.{option_map_or}
+use Rattle.std.specs.Str.{str_eq_ignore_ascii_case}
+use Rattle.form_urlencoded.specs.Form.{extend_pairs}
+use Rattle.page_tree.specs.Tree.{Tree}
+use Rattle.page_tree.specs.Look.{attribute_at}
+use Rattle.page_tree.specs.Control.{control_at, start_checked_at}
+use Rattle.page_tree.specs.Under.{places_under}
+use Rattle.page_tree.specs.declared.control.Control.{Control}
+use Rattle.page_tree.specs.declared.control.Control.TheVariants as control
+use Rattle.xpath_child.specs.Path.{Step}
+use Rattle.xpath_child.specs.Targets.{target_in}
+use Rattle.xpath_child.specs.declared.target.Target.{Target}
+use Rattle.xpath_child.specs.declared.target.Target.TheVariants.{Missing}
+use Rattle.upload_reader.specs.declared.message.Event.{Event}
+use Rattle.visit_replay.specs.Conflict.{is_disabled}
+use Rattle.visit_replay.specs.Field.{is_only, value_before, is_on_before}
+use Rattle.visit_replay.specs.declared.outcome.Method.TheVariants.{Get, Post}
+use Rattle.visit_replay.specs.declared.outcome.Request.{Request}
+
+-- an absent text and an empty one are the same
+abbrev pub unless_empty : Option (List ℕ) → Option (List ℕ)
+unless_empty None = None
+unless_empty (Some []) = None
+unless_empty (Some (c ∷ text)) = Some (c ∷ text)
+
+-- ---- the pairs (section 17.13.2: successful controls)
+
+abbrev pub Pair : Type 0
+Pair = List ℕ × List ℕ
+
+-- a control that is disabled, or has no name, sends nothing
+abbrev pub sent_name : List ℕ → Tree → Option (List ℕ)
+sent_name place new = if is_disabled place new then None else unless_empty (attribute_at place (codes "name") new)
+
+abbrev pub value_or : List ℕ → List ℕ → Tree → List ℕ
+value_or default place new = unwrap_or (attribute_at place (codes "value") new) default
+
+-- what a control sends that holds that text, or is on or off, where `by` is what the path of the pressed button selects
+unfoldable pub sent_value : Control → List ℕ → Bool → Target → Tree → List ℕ → Option (List ℕ)
+sent_value control.Text text on by new place = Some text
+sent_value control.Check text on by new place = if on then Some (value_or (codes "on") place new) else None
+sent_value control.Radio text on by new place = if start_checked_at place new then Some (value_or (codes "on") place new) else None
+sent_value control.Submit text on by new place = if is_only place by then Some (value_or [] place new) else None
+sent_value control.Link text on by new place = None
+sent_value control.Form text on by new place = None
+sent_value control.Other text on by new place = None
+
+abbrev pub paired : Option (List ℕ) → Option (List ℕ) → Option Pair
+paired name value = option_and_then (λ n. option_map (λ v. (n, v)) value) name
+
+abbrev pub pair_of : Tree → List Event → Target → List ℕ → Option Pair
+pair_of new before by place = paired (sent_name place new) (sent_value (control_at place new) (value_before new before place) (is_on_before new before place) by new place)
+
+-- of all nodes under the form, in document order
+abbrev pub pairs_of : Tree → List Event → Target → List ℕ → List Pair
+pairs_of new before by form = filter_map (pair_of new before by) (places_under form new)
+
+-- what the pressed button's path selects; where none was pressed, nothing
+abbrev pub button_of : Tree → Option (List Step) → Target
+button_of new None = Missing
+button_of new (Some path) = target_in path new
+
+-- the pairs as `application/x-www-form-urlencoded` (section 17.13.4)
+abbrev pub encoded : Tree → List Event → Option (List Step) → List ℕ → List ℕ
+encoded new before by form = extend_pairs [] (pairs_of new before (button_of new by) form)
+
+-- ---- method and address (section 17.13.3)
+
+abbrev pub is_mark : ℕ → Bool
+is_mark c = c == 63 || c == 35
+
+-- an address up to its first `?` or `#`
+abbrev pub bare : List ℕ → List ℕ
+bare address = before_first is_mark address
+
+abbrev pub is_post : List ℕ → Tree → Bool
+is_post form new = option_map_or (λ method. str_eq_ignore_ascii_case method (codes "post")) (attribute_at form (codes "method") new) false
+
+-- where the form sends to: its action, or the visit's address where that is absent or empty
+abbrev pub action_of : List ℕ → List ℕ → Tree → List ℕ
+action_of address form new = unwrap_or (unless_empty (attribute_at form (codes "action") new)) address
+
+abbrev pub post_request : ℕ → List ℕ → List ℕ → Request
+post_request number action pairs = record { number = number; method = Post; address = action; pairs = pairs }
+
+-- the pairs stand in the address, in the place of the action's own query and fragment
+abbrev pub get_request : ℕ → List ℕ → List ℕ → Request
+get_request number action pairs = record { number = number; method = Get; address = bare action ++ codes "?" ++ pairs; pairs = pairs }
+
+abbrev pub form_request_of : Bool → ℕ → List ℕ → List ℕ → Request
+form_request_of post number action pairs = if post then post_request number action pairs else get_request number action pairs
+
+abbrev pub form_request : List ℕ → Tree → List Event → Option (List Step) → List ℕ → ℕ → Request
+form_request address new before by form number = form_request_of (is_post form new) number (action_of address form new) (encoded new before by form)

@@ -1,0 +1,7 @@
+pub mod Conflict
+pub mod Field
+pub mod Form
+pub mod Requests
+pub mod Outcome
+pub mod Now
+pub mod Standing

@@ -1,0 +1,67 @@
+-- What replaying a visit gives: the first case that holds. Events are numbered from 1, the load is event 0.
+use Rattle.std.specs.Prelude.{ℕ, ◌+◌, List, [], length, Bool, if◌then◌else◌, Option, Some, None, is_some, option_and_then, slice_get}
+use Rattle.std.specs.List.{list_any, position}
+use Rattle.std.specs.Str.{bytes_eq}
+use Rattle.page_tree.specs.Tree.{Tree}
+use Rattle.upload_reader.specs.declared.message.Event.{Event}
+use Rattle.client_log.specs.declared.visit.Visit.{Visit}
+use Rattle.visit_replay.specs.Conflict.{conflict}
+use Rattle.visit_replay.specs.Form.{bare}
+use Rattle.visit_replay.specs.Requests.{requests_before}
+use Rattle.visit_replay.specs.declared.outcome.ConflictKind.{ConflictKind}
+use Rattle.visit_replay.specs.declared.outcome.ConflictKind.TheVariants.{NoPage, LogCut, Ui}
+use Rattle.visit_replay.specs.declared.outcome.Request.{Request}
+use Rattle.visit_replay.specs.declared.outcome.Outcome.{Outcome}
+use Rattle.visit_replay.specs.declared.outcome.Outcome.TheVariants.{Untouched, Done, Conflict}
+
+-- ---- which visits are replayed
+
+abbrev pub is_listed : List (List ℕ) → List ℕ → Bool
+is_listed addresses address = list_any (bytes_eq address) addresses
+
+-- the patch lists the address up to its first `?` or `#`
+abbrev pub is_affected : List (List ℕ) → List ℕ → Bool
+is_affected patch address = is_listed patch (bare address)
+
+-- ---- the first event that can't be replayed
+
+abbrev pub is_bad : Tree → Tree → Event → Bool
+is_bad old new event = is_some (conflict old new event)
+
+-- how many events stand before it
+abbrev pub first_bad : Tree → Tree → List Event → Option ℕ
+first_bad old new events = position (is_bad old new) events
+
+abbrev pub conflict_of : Tree → Tree → List Event → ℕ → Option ConflictKind
+conflict_of old new events k = option_and_then (conflict old new) (slice_get events k)
+
+-- ---- the outcome
+
+abbrev pub all_requests : Visit → Tree → List Request
+all_requests visit new = requests_before visit.address new visit.events (length visit.events)
+
+abbrev pub behind_the_events : Visit → Tree → ConflictKind → Outcome
+behind_the_events visit new kind = Conflict (all_requests visit new) (length visit.events + 1) kind
+
+-- where no event is bad: the visit was kept in part, or the site signals a conflict, or all is done
+abbrev pub at_end : Visit → Tree → Bool → Outcome
+at_end visit new signalled =
+    if visit.cut then behind_the_events visit new LogCut else
+    (if signalled then behind_the_events visit new Ui else Done (all_requests visit new))
+
+abbrev pub at_event : Visit → Tree → Bool → Option (ℕ × ConflictKind) → Outcome
+at_event visit new signalled (Some found) = Conflict (requests_before visit.address new visit.events found.0) (found.0 + 1) found.1
+at_event visit new signalled None = at_end visit new signalled
+
+-- its place among the events, and why
+abbrev pub first_conflict : Tree → Tree → List Event → Option (ℕ × ConflictKind)
+first_conflict old new events = option_and_then (λ k. option_and_then (λ kind. Some (k, kind)) (conflict_of old new events k)) (first_bad old new events)
+
+abbrev pub on_page : Visit → (Tree → Bool) → Option Tree → Outcome
+on_page visit signalled None = Conflict [] 0 NoPage
+on_page visit signalled (Some new) = at_event visit new (signalled new) (first_conflict visit.page new visit.events)
+
+-- by a site's law: the page that it has at an address, and whether it signals a conflict between the old page and the new one there
+abbrev pub outcome : (List ℕ → Option Tree) → (List ℕ → Tree → Tree → Bool) → List (List ℕ) → Visit → Outcome
+outcome page_of signals patch visit =
+    if is_affected patch visit.address then on_page visit (signals visit.address visit.page) (page_of visit.address) else Untouched

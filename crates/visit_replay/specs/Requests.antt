@@ -1,0 +1,46 @@
+-- The requests of a visit that is replayed on a page.
+use Rattle.std.specs.Prelude.{ℕ, List, [], ◌∷◌, take, ◌==◌, if◌then◌else◌, Option, Some, None, option_map, option_and_then, slice_get, codes}
+use Rattle.std.specs.List.{filter_map, range_with_len}
+use Rattle.page_tree.specs.Tree.{Tree}
+use Rattle.page_tree.specs.Look.{attribute_at}
+use Rattle.xpath_child.specs.Targets.{target_in}
+use Rattle.xpath_child.specs.declared.target.Target.{Target}
+use Rattle.xpath_child.specs.declared.target.Target.TheVariants.{Missing, One, Several}
+use Rattle.upload_reader.specs.declared.message.Event.{Event}
+use Rattle.upload_reader.specs.declared.message.Event.TheVariants.{Input, Click, Submit}
+use Rattle.visit_replay.specs.Conflict.{path_of}
+use Rattle.visit_replay.specs.Form.{form_request}
+use Rattle.visit_replay.specs.declared.outcome.Method.TheVariants.{Load, Get}
+use Rattle.visit_replay.specs.declared.outcome.Request.{Request}
+
+abbrev pub load_request : List ℕ → Request
+load_request address = record { number = 0; method = Load; address = address; pairs = [] }
+
+abbrev pub link_request : ℕ → List ℕ → Request
+link_request number address = record { number = number; method = Get; address = address; pairs = [] }
+
+-- with 0 for its number an event makes none
+abbrev pub numbered : ℕ → Option Request → Option Request
+numbered req request = if req == 0 then None else request
+
+-- of an event at that place, behind those events: a click sends the address of its link as it is written, a submit its form
+abbrev pub request_at : List ℕ → Tree → List Event → Event → List ℕ → Option Request
+request_at address new before (Input at target value) place = None
+request_at address new before (Click at target req) place = numbered req (option_map (link_request req) (attribute_at place (codes "href") new))
+request_at address new before (Submit at target by req) place = numbered req (Some (form_request address new before by place req))
+
+abbrev pub at_only : Target → (List ℕ → Option Request) → Option Request
+at_only Missing made = None
+at_only (One place) made = made place
+at_only Several made = None
+
+abbrev pub request_of : List ℕ → Tree → List Event → Event → Option Request
+request_of address new before event = at_only (target_in (path_of event) new) (request_at address new before event)
+
+-- of the event with k events before it
+abbrev pub nth_request : List ℕ → Tree → List Event → ℕ → Option Request
+nth_request address new events k = option_and_then (request_of address new (take k events)) (slice_get events k)
+
+-- of the load and of the first n events, in order
+abbrev pub requests_before : List ℕ → Tree → List Event → ℕ → List Request
+requests_before address new events n = load_request address ∷ filter_map (nth_request address new events) (range_with_len 0 n)

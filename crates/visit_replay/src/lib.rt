@@ -1,0 +1,29 @@
+//! What a visit gives when it is replayed on the page that stands at its address now: the requests that result, or a conflict.
+//!
+//! `replay` goes through a visit's events once. Each event's path must select one element of the page, which must still take it; what was typed and
+//! clicked is kept by the places of the fields, and a form sends what its fields hold. It is proved that the outcome is the one that `specs/` defines:
+//! `Conflict` says why one event can't be replayed, `Field` what a field holds, `Form` what a form sends, `Requests` and `Outcome` the rest.
+#![tactic(auto)]
+
+mod address;
+mod conflicts;
+mod fields;
+mod forms;
+mod outcome;
+mod patch;
+mod replaying;
+mod requests;
+mod walking;
+
+pub use outcome::{ConflictKind, Method, Outcome, Request, Requests};
+pub use patch::{Patch, affected};
+pub use replaying::replay;
+
+#[cfg(test)]
+mod conflict_tests;
+#[cfg(test)]
+mod form_tests;
+#[cfg(test)]
+mod test_visits;
+#[cfg(test)]
+mod tests;
