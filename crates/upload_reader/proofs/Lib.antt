@@ -8,6 +8,7 @@ pub mod CutLaws
 pub mod TurnLaws
 pub mod StreamLaws
 pub mod RealLaws
+pub mod PositiveLaws
 pub mod LongestLaws
 pub mod TakeLaws
 pub mod TakingLaws

@@ -1,11 +1,15 @@
 -- What a search for a line keeps, read by read.
-use Rattle.std.proofs.Common.{◌≡◌, ℕ, ◌+◌, ◌-◌, ◌≤◌, List, [], ◌++◌, length, take, drop, position, Option, None, inl, inr, ap, sym, ◌∙◌, arith}
+use Rattle.std.proofs.Common.{◌≡◌, ℕ, ◌+◌, ◌-◌, ◌≤◌, List, [], ◌++◌, length, take, drop, position, Option, Some, None, IfSome, inl, inr, ap, sym, ◌∙◌, arith}
 use Rattle.std.proofs.lemmas.Grind.{common_steps}
 use Rattle.std.proofs.Math.Nat.{eq-or-lt_of_le}
 use Rattle.std.proofs.lemmas.List.{take_all, take-append-le}
+use Rattle.std.proofs.lemmas.Option.{MatchOption-at_some}
 use Rattle.upload_reader.specs.Answers.{Answer, bytes_of}
 use Rattle.upload_reader.specs.Cutting.{cut, line_length, is_line_feed}
+use Rattle.upload_reader.specs.Lines.{lines_fault}
 use Rattle.upload_reader.specs.Reading.{ReadsOn, EachNeeded, IsTail}
+use Rattle.upload_reader.specs.declared.fault.LineFault.{LineFault}
+use Rattle.upload_reader.specs.declared.lines.Lines.{Lines}
 use Rattle.upload_reader.proofs.Cutting.{cut_by_ending, none_within}
 
 -- two steps of reading are one
@@ -19,6 +23,14 @@ reads_then here here' here'' there there' there'' a b = record {
 -- nothing was read
 pub reads_none : (here there : List Answer) → ReadsOn here here there there
 reads_none here there = record { more = []; here_is = grind (arith, common_steps); there_is = grind (arith, common_steps) }
+
+-- two steps that leave lines with a fault as they are leave them so together
+pub again_then : {R : Type 0} (old now new : Lines R) → IfSome (lines_fault old) (λ _. now ≡ old) → IfSome (lines_fault now) (λ _. new ≡ now) → IfSome (lines_fault old) (λ _. new ≡ old)
+again_then old now new first second = by (lines_fault old) (λ same. ap lines_fault same) first
+  where
+    by : (had : Option LineFault) → (now ≡ old → lines_fault now ≡ had) → IfSome had (λ _. now ≡ old) → IfSome had (λ _. new ≡ old)
+    by None view first = tt
+    by (Some fault) view first = MatchOption-at_some _ (λ _. new ≡ now) fault (view first) second ∙ first
 
 -- a search that found nothing
 pub unfound : (limit : ℕ) (seen kept : List ℕ) (found : Option ℕ) → seen ≡ kept → found ≡ line_length limit seen → found ≡ None → line_length limit kept ≡ None

@@ -23,5 +23,6 @@ pub mod Taking
 pub mod Upload
 pub mod Next
 pub mod Real
+pub mod Positive
 pub mod Longest
 pub mod Standing

@@ -5,6 +5,7 @@ use Rattle.upload_reader.specs.Taking.{failures_in}
 use Rattle.upload_reader.specs.declared.ending.Ending.{Ending}
 use Rattle.upload_reader.specs.declared.ending.Ending.TheVariants as ending
 use Rattle.upload_reader.specs.declared.lane_fault.LaneEnd.{LaneEnd}
+use Rattle.upload_reader.specs.declared.message.Message.{Message}
 use Rattle.upload_reader.specs.declared.next.Next.{Next}
 use Rattle.upload_reader.specs.declared.next.Next.TheVariants.{Got, Over, GaveUp}
 
@@ -21,6 +22,11 @@ ending_by GaveUp = Some ending.GaveUp
 abbrev pub next_of : Ending → Next
 next_of (ending.Over end) = Over end
 next_of ending.GaveUp = GaveUp
+
+abbrev pub IfGot : Next → (Message → ℕ → Type 0) → Type 0
+IfGot (Got message cost) P = P message cost
+IfGot (Over end) P = Unit {0}
+IfGot GaveUp P = Unit {0}
 
 abbrev pub IfOver : Next → (LaneEnd → Type 0) → Type 0
 IfOver (Got message cost) P = Unit {0}

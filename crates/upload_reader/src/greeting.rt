@@ -1,5 +1,5 @@
 //! How an upload begins.
-ghost use Rattle.std.specs.Prelude.{◌≡◌, ℕ, ◌+◌, ◌*◌, ◌<◌, ◌≤◌, IsNone, IfOk, OnOk};
+ghost use Rattle.std.specs.Prelude.{◌≡◌, ℕ, ◌+◌, ◌*◌, ◌<◌, ◌≤◌, IsNone, IfSome, IfOk, OnOk};
 ghost use Rattle.upload_reader.specs.Answers.{failures_of};
 ghost use Rattle.upload_reader.specs.Cutting.{ending_of};
 ghost use Rattle.upload_reader.specs.Limits.{max_reads, read_bytes};
@@ -25,6 +25,7 @@ pub(crate) fn greet<R: Source>(
 ) -> Result<(Client, u64), HelloFault>
     ensures reads { ReadsOn (lines_answers lines.old) (lines_answers lines.new) (R.answers (lines_reader lines.old)) (R.answers (lines_reader lines.new)) }
     ensures same { R.lender (lines_reader lines.new) ≡ R.lender (lines_reader lines.old) }
+    ensures again { IfSome (lines_fault lines.old) (λ _. lines.new ≡ lines.old) }
     ensures place { lines_place lines.old ≤ lines_place lines.new }
     ensures numbered { IfOk result (λ hello. hello.1 ≤ lines_place lines.new) }
     ensures fault { OnOk result (IsNone (lines_fault lines.new)) }
@@ -50,6 +51,7 @@ fn greet_line<R: Source>(
     requires few { passed ≤ lines_place lines.old }
     ensures reads { ReadsOn (lines_answers lines.old) (lines_answers lines.new) (R.answers (lines_reader lines.old)) (R.answers (lines_reader lines.new)) }
     ensures same { R.lender (lines_reader lines.new) ≡ R.lender (lines_reader lines.old) }
+    ensures again { IfSome (lines_fault lines.old) (λ _. lines.new ≡ lines.old) }
     ensures bounded { lines_place lines.new ≤ read_bytes * max_reads }
     ensures place { lines_place lines.old ≤ lines_place lines.new }
     ensures further { OnOk result (lines_place lines.old < lines_place lines.new) }

@@ -1,5 +1,5 @@
 //! How far a lane was taken.
-ghost use Rattle.std.specs.Prelude.{◌≡◌, ◌+◌, ◌^◌, ◌<◌, ◌≤◌, [], ◌∷◌, ◌++◌, length, Some, IfOk, IfErr, OnOk, OnErr};
+ghost use Rattle.std.specs.Prelude.{◌≡◌, ◌+◌, ◌^◌, ◌<◌, ◌≤◌, [], ◌∷◌, ◌++◌, length, Some, IfSome, IfOk, IfErr, OnOk, OnErr};
 ghost use Rattle.upload_reader.specs.Limits.{max_messages};
 ghost use Rattle.upload_reader.specs.InTurn.{on};
 ghost use Rattle.upload_reader.specs.Stream.{messages_of};
@@ -36,6 +36,7 @@ pub(crate) struct Progress {
 impl Progress {
     ghost use Rattle.upload_reader.specs.Taking.{lane_of, taken_of, costed_in, ended_by, line_ending, failures_in, TakesLine};
     ghost use Rattle.upload_reader.specs.Stream.{take_line, take_message};
+    ghost use Rattle.upload_reader.specs.Positive.{IsPositive};
 
     /// A lane that begins behind this session and so many lines. The fault is the one that its lines have.
     pub(crate) fn begin(session: Session, lines: u64, fault: Option<LineFault>) -> Progress
@@ -71,6 +72,7 @@ impl Progress {
         ensures lane { lane_of self.new ≡ lane_of self.old }
         ensures turn { TakesLine result (take_line (lane_of self.old).earlier (taken_of self.old) line.now) (taken_of self.old) (taken_of self.new) }
         ensures given { IfOk result (λ costed. (taken_of self.new).given ≡ (taken_of self.old).given ++ costed_in costed) }
+        ensures priced { IfOk result (λ costed. IfSome costed (λ it. IsPositive it.0 it.1)) }
         ensures lines { OnOk result ((taken_of self.new).lines ≤ (taken_of self.old).lines + 1) }
         ensures same { OnErr result (taken_of self.new ≡ taken_of self.old) }
         ensures no_read { IfErr result (λ ending. failures_in ending ≡ 0) }
@@ -93,10 +95,12 @@ impl Progress {
         message: Message,
         cost: u32,
     ) -> Result<Option<(Message, u32)>, Ending>
+        requires priced { IsPositive message cost }
         requires few { (taken_of self.old).lines + 1 < 2 ^ 64 }
         ensures lane { lane_of self.new ≡ lane_of self.old }
         ensures turn { TakesLine result (take_message (lane_of self.old).earlier (taken_of self.old) message cost) (taken_of self.old) (taken_of self.new) }
         ensures given { IfOk result (λ costed. (taken_of self.new).given ≡ (taken_of self.old).given ++ costed_in costed) }
+        ensures priced { IfOk result (λ costed. IfSome costed (λ it. IsPositive it.0 it.1)) }
         ensures lines { OnOk result ((taken_of self.new).lines ≤ (taken_of self.old).lines + 1) }
         ensures same { OnErr result (taken_of self.new ≡ taken_of self.old) }
     {

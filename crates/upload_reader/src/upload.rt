@@ -3,9 +3,9 @@ ghost use Rattle.std.specs.Coded.{codes};
 ghost use Rattle.page_tree.specs.contracts.page.Page as pages;
 ghost use Rattle.upload_reader.specs.declared.ending.Ending.TheVariants.{Over};
 ghost use Rattle.upload_reader.specs.declared.lane_fault.LaneEnd.{LaneEnd as PlainEnd};
-ghost use Rattle.std.specs.Prelude.{◌≡◌, ◌≢◌, ◌+◌, ◌-◌, ◌≤◌, [], ◌++◌, drop, true, Some, None, IsNone, IfSome, IfOk, IfErr, MatchResult};
+ghost use Rattle.std.specs.Prelude.{◌≡◌, ◌≢◌, ◌+◌, ◌-◌, ◌≤◌, [], ◌++◌, length, drop, true, Some, None, IsNone, IfSome, IfOk, IfErr, MatchResult};
 ghost use Rattle.upload_reader.specs.Answers.{failures_of};
-ghost use Rattle.upload_reader.specs.Cutting.{ending_of};
+ghost use Rattle.upload_reader.specs.Cutting.{ending_of, StopsAtEnd};
 ghost use Rattle.upload_reader.specs.Lines.{lines_answers, lines_input, lines_place, lines_fault, lines_reader};
 ghost use Rattle.upload_reader.specs.Reading.{ReadsOn};
 ghost use Rattle.upload_reader.specs.Stream.{untaken, messages_of};
@@ -41,11 +41,13 @@ pub struct Upload<R> {
 
 impl<R: Source> Upload<R> {
     ghost use Rattle.upload_reader.specs.Upload.{upload_client, upload_lines, upload_reader, upload_answers, upload_input, upload_lane, upload_start, upload_given, upload_ending};
-    ghost use Rattle.upload_reader.specs.Next.{given_by, ending_by, next_of, failures_told, IfOver};
+    ghost use Rattle.upload_reader.specs.Next.{given_by, ending_by, next_of, failures_told, IfGot, IfOver};
     ghost use Rattle.upload_reader.specs.Greeted.{Begins, ReadsForHello, hello_failures, hello_greeting, fault_greeting};
     ghost use Rattle.upload_reader.specs.declared.hello_fault.HelloFault.TheVariants.{NoMemory};
     ghost use Rattle.upload_reader.specs.Longest.{IsStreamOf};
     ghost use Rattle.upload_reader.specs.Real.{is_real};
+    ghost use Rattle.upload_reader.specs.Positive.{IsPositive};
+    ghost use Rattle.upload_reader.specs.Limits.{max_messages};
 
     /// The upload that begins with the first line that isn't blank, which is its hello, `{"t":"hello","client":..}`. Its lines are numbered from 1 at the
     /// first line that is read here, and its session is new. What was read behind the hello is kept.
@@ -53,6 +55,9 @@ impl<R: Source> Upload<R> {
         // What was read here was read on the source.
         ensures reads { MatchResult result (λ upload. ReadsOn (lines_answers lines) (upload_answers upload) (R.answers (lines_reader lines)) (R.answers (upload_reader upload))) (λ refused. ReadsOn (lines_answers lines) (lines_answers refused.lines) (R.answers (lines_reader lines)) (R.answers (lines_reader refused.lines))) }
         ensures same { MatchResult result (λ upload. R.lender (upload_reader upload) ≡ R.lender (lines_reader lines)) (λ refused. R.lender (lines_reader refused.lines) ≡ R.lender (lines_reader lines)) }
+
+        // Lines that had a fault are left as they are.
+        ensures unread { IfErr result (λ refused. IfSome (lines_fault lines) (λ _. refused.lines ≡ lines)) }
 
         // Where the input holds a hello: its client. The lane begins behind it.
         ensures client { IfOk result (λ upload. Begins (lines_fault lines) (lines_place lines) (upload_input upload) (ending_of (upload_answers upload)) (hello_greeting (upload_start upload - lines_place lines) (upload_client upload) (upload_lane upload).lines)) }
@@ -120,9 +125,10 @@ impl<R: Source> Upload<R> {
         self.progress.session()
     }
 
-    /// The source, without what was read of it.
+    /// The source, without what was read of it. No read was made after the input's end.
     pub fn into_reader(self) -> R
-        ensures { result ≡ upload_reader self }
+        ensures reader { result ≡ upload_reader self }
+        ensures ends { StopsAtEnd (upload_answers self) }
     {
         self.lines.into_reader()
     }
@@ -132,6 +138,7 @@ impl<R: Source> Upload<R> {
         // What was read here was read on the source.
         ensures reads { ReadsOn (upload_answers self.old) (upload_answers self.new) (R.answers (upload_reader self.old)) (R.answers (upload_reader self.new)) }
         ensures same { R.lender (upload_reader self.new) ≡ R.lender (upload_reader self.old) }
+        ensures unread { IfSome (upload_lane self.old).fault (λ _. upload_lines self.new ≡ upload_lines self.old) }
         ensures client { upload_client self.new ≡ upload_client self.old }
         ensures lane { upload_lane self.new ≡ upload_lane self.old }
         ensures start { upload_start self.new ≡ upload_start self.old }
@@ -141,6 +148,10 @@ impl<R: Source> Upload<R> {
         ensures first { FirstOf (upload_lane self.new) (upload_start self.new) (upload_given self.new) (upload_input self.new) }
         ensures over { IfOver result (StreamEnds (upload_lane self.new) (upload_start self.new) (upload_given self.new) (upload_input self.new) (ending_of (upload_answers self.new))) }
         ensures real { IfOver result (λ end. is_real end ≡ true) }
+
+        // Its cost and the number of its visit are at least 1. No more messages are given than a lane may have.
+        ensures priced { IfGot result IsPositive }
+        ensures few { length (upload_given self.new) ≤ max_messages }
 
         // Said without a walk over the lines: the messages are those of the longest front of the lane's lines that can be taken.
         ensures longest { IfOver result (λ end. (upload_lane self.new).fault ≡ None → IsStreamOf (upload_lane self.new) (drop (upload_start self.new) (upload_input self.new)) (ending_of (upload_answers self.new)) (record { messages = upload_given self.new; end = Some end })) }

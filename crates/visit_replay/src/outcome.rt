@@ -39,7 +39,7 @@ pub enum Method {
 /// A request that a replayed visit makes.
 #[derive(Debug, Drop)]
 pub struct Request {
-    /// That of the event that made it; 0 for the visit's own load.
+    /// The request number of the click or submit that made it; 0 for the visit's own load.
     pub number: u64,
     pub method: Method,
     pub address: Text,

@@ -10,11 +10,11 @@ use page_tree::{NoMemory, Page};
 use site_hooks::SiteHooks;
 use std::alloc::Global;
 
-/// What replaying a visit gives: it is untouched where the patch doesn't list its address, and done where every event can be replayed on the page
-/// that the site has there now. Otherwise it is a conflict at the first event that can't be; behind the last event where the log kept only a part of
-/// the visit, or where the site signals one between the old page and the new; or at the load where the site has no page there.
+/// What replaying a visit gives. It is untouched where the patch doesn't list its address. It is a conflict at the load where the site has no page
+/// there; at the first event that can't be replayed on that page; behind the last event where the log kept only a part of the visit, or where the
+/// site signals one between the old page and the new. Else it is done.
 ///
-/// The hooks are asked only where no case before decides.
+/// The hooks are asked only where no case before decides (which is tested, not proved).
 pub fn replay<H: SiteHooks>(
     alloc: Global,
     hooks: &H,

@@ -1,10 +1,7 @@
 pub mod TextWriting
-pub mod Cut
-pub mod PageFaults
-pub mod Kept
+pub mod SiteSteps
 pub mod SiteLaws
-pub mod MessageReading
-pub mod ReplayLaws
-pub mod UploadLaws
+pub mod GatherLaws
+pub mod LaneLaws
 pub mod IntakeLaws
 pub mod RunLaws

@@ -1,15 +1,37 @@
 -- A value stands for at most one site, the one that is read of it.
-use Rattle.std.proofs.Common.{◌≡◌, ℕ, List, [], ◌∷◌, Bool, true, false, if◌then◌else◌, Option, Some, None, Result, Ok, Err, IfOk, is_some, option_map, option_and_then, refl}
-use Rattle.std.specs.FinSet as set
+use Rattle.std.proofs.Common.{◌≡◌, ℕ, List, [], ◌∷◌, ◌++◌, Bool, true, false, if◌then◌else◌, Option, Some, None, Result, Ok, Err, IfOk, is_some, nat_le, ◌&&◌, option_map, option_and_then, refl, sym, ap, ◌∙◌}
+use Rattle.std.proofs.lemmas.Bool.{and_parts, and_from, le-leb, leb-true}
 use Rattle.serde_json.specs.Data.{Data, Members, no_members, member}
 use Rattle.serde_json.specs.Find.{as_object}
 use Rattle.page_tree.specs.Tree.{Tree}
-use Rattle.warp_server.specs.Site.{Addresses, Entry, Site, patched_in, pages_in, has_later_member, HoldPages, IsSiteOf, IsJsonOf}
-use Rattle.warp_server.specs.SiteReading.{entries_in, make_site, site_in, Fails, Gives}
-use Rattle.warp_server.specs.declared.site_fault.SiteFault.{SiteFault}
-use Rattle.warp_server.specs.declared.site_fault.SiteFault.TheVariants.{NotJson, BadMember, NoMemory}
 use Rattle.page_tree.specs.Visit.{page_in}
 use Rattle.page_tree.proofs.Once.{page_found, page_is}
+use Rattle.xpath_child.specs.Path.{Step, IsPath, path_text}
+use Rattle.xpath_child.specs.Fault.{path_in}
+use Rattle.xpath_child.proofs.Sound.{path_in-sound}
+use Rattle.xpath_child.proofs.Complete.{path_complete}
+use Rattle.client_log.specs.Quota.{IsQuota}
+use Rattle.site_hooks.specs.declared.table.Table.{Table}
+use Rattle.visit_replay.specs.Outcome.{is_listed}
+use Rattle.warp_server.specs.Site.{Entry, Site as PlainSite, patched_in, pages_in, watch_in, quota_in, has_later_member, HoldPages, ArePaths, IsSiteOf, IsJsonOf}
+use Rattle.warp_server.specs.SiteReading.{site_patch, site_table, site_quota, Stands, StandsBy, HasPages, Watches, entries_in, paths_in, ok_of, quota_of, make_site, site_by, site_in, Fails}
+use Rattle.warp_server.specs.declared.site.Site.{Site}
+use Rattle.warp_server.specs.declared.site_fault.SiteFault.{SiteFault}
+use Rattle.warp_server.specs.declared.site_fault.SiteFault.TheVariants.{NotJson, BadMember, NoMemory}
+
+-- ---- what is there
+
+chained : {A B : Type 0} (f : A → Option B) (o : Option A) (y : B) → option_and_then f o ≡ Some y → (x : A) × (o ≡ Some x) × (f x ≡ Some y)
+chained f None y is = cc
+chained f (Some x) y is = (x, refl, is)
+
+mapped : {A B : Type 0} (f : A → B) (o : Option A) (y : B) → option_map f o ≡ Some y → (x : A) × (o ≡ Some x) × (f x ≡ y)
+mapped f None y is = cc
+mapped f (Some x) y is = let same : f x ≡ y = cc in (x, refl, same)
+
+pub object_there : {A B : Type 0} (f : A → B) (given : Option A) (object : Option B) → option_map f given ≡ object → is_some given ≡ true → is_some object ≡ true
+object_there f None object is there = cc
+object_there f (Some x) object is there = ap is_some (sym is)
 
 -- ---- the pages
 
@@ -31,54 +53,130 @@ pub entries_hold : (ms : Members) (entries : List Entry) → entries_in ms ≡ S
 entries_hold no_members entries is = let same : [] ≡ entries = cc in rw (← same) tt
 entries_hold (member address d ms) entries is = held_by address d ms entries (page_in d) (entries_in ms) refl refl (λ es found. entries_hold ms es found) is
 
+-- ---- the paths
+
+path_found : (text : List ℕ) (path : List Step) → IsPath path → path_text path ≡ text → ok_of (path_in text) ≡ Some path
+path_found text path is named = ap (λ t. ok_of (path_in t)) (sym named) ∙ ap ok_of (path_complete path is)
+
+paths_found : (texts : List (List ℕ)) (paths : List (List Step)) → ArePaths texts paths → paths_in texts ≡ Some paths
+paths_found [] [] are = refl
+paths_found [] (path ∷ paths) are = absurd are
+paths_found (text ∷ texts) [] are = absurd are
+paths_found (text ∷ texts) (path ∷ paths) are = rw (path_found text path are.0 are.1, paths_found texts paths are.2) refl
+
+was_ok : {A E : Type 0} (r : Result A E) (x : A) → ok_of r ≡ Some x → r ≡ Ok x
+was_ok (Ok y) x is = let same : y ≡ x = cc in ap Ok same
+was_ok (Err e) x is = cc
+
+paths_are : (texts : List (List ℕ)) (paths : List (List Step)) → paths_in texts ≡ Some paths → ArePaths texts paths
+paths_are [] paths is = let same : [] ≡ paths = cc in rw (← same) tt
+paths_are (text ∷ texts) paths is =
+    let first = chained (λ path. option_map (λ rest. path ∷ rest) (paths_in texts)) (ok_of (path_in text)) paths is in
+    let rest = mapped (λ rest. first.0 ∷ rest) (paths_in texts) paths first.2 in
+    let sound = path_in-sound text first.0 (was_ok (path_in text) first.0 first.1) in
+    rw (← rest.2) (sound.0, sound.1, paths_are texts rest.0 rest.1)
+
+-- ---- the quota
+
+quota_found : (n : ℕ) → IsQuota n → quota_of n ≡ Some n
+quota_found n is = ap (λ b. if b then Some n else None) (and_from (nat_le 1 n) (nat_le n 4294967295) (le-leb 1 n is.0) (le-leb n 4294967295 is.1))
+
+within : {A : Type 0} (b : Bool) (x y : A) → (if b then Some x else None) ≡ Some y → (b ≡ true) × (x ≡ y)
+within true x y is = let same : x ≡ y = cc in (refl, same)
+within false x y is = cc
+
+quota_is : (n m : ℕ) → quota_of n ≡ Some m → (n ≡ m) × IsQuota m
+quota_is n m is =
+    let both = within (nat_le 1 n && nat_le n 4294967295) n m is in
+    let parts = and_parts (nat_le 1 n) (nat_le n 4294967295) both.0 in
+    (both.1, rw (← both.1) (leb-true 1 n parts.0, leb-true n 4294967295 parts.1))
+
 -- ---- the site
 
-pub site_found : (d : Data) (site : Site) → IsSiteOf d site → site_in d ≡ Some site
-site_found d site is =
-    rw (is.object, is.known, is.patched, is.pages.1, entries_found is.pages.0 site.pages is.pages.2) refl
+pub site_found : (d : Data) (plain : PlainSite) → IsSiteOf d plain → site_in d ≡ Some plain
+site_found d plain is =
+    rw (
+      is.object,
+      is.known,
+      is.patched,
+      is.pages.1,
+      entries_found is.pages.0 plain.pages is.pages.2,
+      is.watched.1,
+      paths_found is.watched.0 plain.watched is.watched.2,
+      is.quota.0,
+      quota_found plain.quota is.quota.1,
+    ) refl
 
-part_of : (d : Data) (site : Site) (object later : Bool) (patched : Option Addresses) (pages : Option Members) (entries : Option (List Entry)) → is_some (as_object d) ≡ object → has_later_member d ≡ later
-    → option_map set.from_list (patched_in d) ≡ patched → pages_in d ≡ pages → option_and_then entries_in pages ≡ entries
-    → (if object then (if later then None else option_and_then (λ p. option_map (make_site p) entries) patched) else None) ≡ Some site → IsSiteOf d site
-part_of d site false later patched pages entries o l p ms es is = cc
-part_of d site true true patched pages entries o l p ms es is = cc
-part_of d site true false None pages entries o l p ms es is = cc
-part_of d site true false (Some addresses) pages None o l p ms es is = cc
-part_of d site true false (Some addresses) None (Some found) o l p ms es is = cc
-part_of d site true false (Some addresses) (Some members) (Some found) o l p ms es is =
-    let same : make_site addresses found ≡ site = cc in
-    rw (← same) (record { object = o; known = l; patched = p; pages = (members, ms, entries_hold members found es) })
+chosen : {A : Type 0} (b c : Bool) (o : Option A) (x : A) → (if b then (if c then None else o) else None) ≡ Some x → (b ≡ true) × (c ≡ false) × (o ≡ Some x)
+chosen true true o x is = cc
+chosen true false o x is = (refl, refl, is)
+chosen false c o x is = cc
 
-pub site_is : (d : Data) (site : Site) → site_in d ≡ Some site → IsSiteOf d site
-site_is d site is = part_of d site _ _ _ _ _ refl refl refl refl refl is
+pub site_is : (d : Data) (plain : PlainSite) → site_in d ≡ Some plain → IsSiteOf d plain
+site_is d plain is =
+    let form = chosen (is_some (as_object d)) (has_later_member d) (site_by d) plain is in
+    let patched = chained _ (patched_in d) plain form.2 in
+    let pages = chained _ (option_and_then entries_in (pages_in d)) plain patched.2 in
+    let watched = chained _ (option_and_then paths_in (watch_in d)) plain pages.2 in
+    let quota = mapped (make_site patched.0 pages.0 watched.0) (option_and_then quota_of (quota_in d)) plain watched.2 in
+    let members = chained entries_in (pages_in d) pages.0 pages.1 in
+    let texts = chained paths_in (watch_in d) watched.0 watched.1 in
+    let bytes = chained quota_of (quota_in d) quota.0 quota.1 in
+    let range = quota_is bytes.0 quota.0 bytes.2 in
+    rw (← quota.2) (record {
+      object = form.0;
+      known = form.1;
+      patched = patched.1;
+      pages = (members.0, members.1, entries_hold members.0 pages.0 members.2);
+      watched = (texts.0, texts.1, paths_are texts.0 watched.0 texts.2);
+      quota = (bytes.1 ∙ ap Some range.0, range.1);
+    })
 
-pub no_site : (d : Data) → site_in d ≡ None → (site : Site) → IsSiteOf d site → ⊥
-no_site d none site is = let found : site_in d ≡ Some site = site_found d site is in cc
+pub no_site : (d : Data) → site_in d ≡ None → (plain : PlainSite) → IsSiteOf d plain → ⊥
+no_site d none plain is = let found : site_in d ≡ Some plain = site_found d plain is in cc
+
+-- what was read of the members answers as the site does
+pub site_made : (d : Data) (site : Site) (addresses : List (List ℕ)) (table : Table) (entries : List Entry) (paths : List (List Step)) → is_some (as_object d) ≡ true → has_later_member d ≡ false
+    → patched_in d ≡ Some addresses → ((address : List ℕ) → is_listed (site_patch site) address ≡ is_listed addresses address) → option_and_then entries_in (pages_in d) ≡ Some entries → HasPages table entries
+    → option_and_then paths_in (watch_in d) ≡ Some paths → Watches table (site_table site) paths → option_and_then quota_of (quota_in d) ≡ Some (site_quota site)
+    → (plain : PlainSite) × (site_in d ≡ Some plain) × Stands site plain
+site_made d site addresses table entries paths object known patched lists pages has watched watches quota = (
+  make_site addresses entries paths (site_quota site),
+  rw (object, known, patched, pages, watched, quota) refl,
+  record {
+    patched = lists;
+    pages = λ address. watches.pages address ∙ has.pages address;
+    watched = watches.watched ∙ ap (λ before. before ++ paths) has.watched;
+    quota = refl;
+  },
+)
 
 -- ---- the answers of `read`
 
-pub answered_ok : (line : List ℕ) (d : Data) (r : Result Site SiteFault) → Gives (λ site. site) r (site_in d) → IsJsonOf line d → IfOk r (λ site. (e : Data) × IsJsonOf line e × IsSiteOf e site)
-answered_ok line d (Ok site) gives json = (d, json, site_is d site gives)
-answered_ok line d (Err e) gives json = tt
+pub answered_ok : (line : List ℕ) (d : Data) (r : Result Site SiteFault) → StandsBy r d → IsJsonOf line d
+    → IfOk r (λ site. (e : Data) × IsJsonOf line e × ((plain : PlainSite) × IsSiteOf e plain × Stands site plain))
+answered_ok line d (Ok site) stands json = (d, json, (stands.0, site_is d stands.0 stands.1, stands.2))
+answered_ok line d (Err e) stands json = tt
 
-one_site : (line : List ℕ) (d e : Data) (site other : Site) → site_in d ≡ Some site → IsJsonOf line d → IsJsonOf line e → IsSiteOf e other → other ≡ site
-one_site line d e site other gives json also is =
+one_site : (line : List ℕ) (d e : Data) (site : Site) (plain other : PlainSite) → site_in d ≡ Some plain → Stands site plain → IsJsonOf line d → IsJsonOf line e → IsSiteOf e other → Stands site other
+one_site line d e site plain other found stands json also is =
     let same : e ≡ d = cc in
-    let found : site_in e ≡ Some other = site_found e other is in
-    let given : site_in e ≡ Some site = rw same gives in
-    cc
+    let read : site_in e ≡ Some other = site_found e other is in
+    let given : site_in e ≡ Some plain = rw same found in
+    let one : other ≡ plain = cc in
+    rw one stands
 
-pub answered_only : (line : List ℕ) (d : Data) (r : Result Site SiteFault) → Gives (λ site. site) r (site_in d) → IsJsonOf line d
-    → IfOk r (λ site. (e : Data) → IsJsonOf line e → (other : Site) → IsSiteOf e other → other ≡ site)
-answered_only line d (Ok site) gives json = λ e also other is. one_site line d e site other gives json also is
-answered_only line d (Err e) gives json = tt
+pub answered_only : (line : List ℕ) (d : Data) (r : Result Site SiteFault) → StandsBy r d → IsJsonOf line d
+    → IfOk r (λ site. (e : Data) → IsJsonOf line e → (plain : PlainSite) → IsSiteOf e plain → Stands site plain)
+answered_only line d (Ok site) stands json = λ e also plain is. one_site line d e site stands.0 plain stands.1 stands.2 json also is
+answered_only line d (Err e) stands json = tt
 
-bad_member : (line : List ℕ) (d : Data) (e : SiteFault) → Fails e (site_in d) → IsJsonOf line d → e ≡ BadMember → (f : Data) × IsJsonOf line f × ((site : Site) → IsSiteOf f site → ⊥)
+bad_member : (line : List ℕ) (d : Data) (e : SiteFault) → Fails e (site_in d) → IsJsonOf line d → e ≡ BadMember → (f : Data) × IsJsonOf line f × ((plain : PlainSite) → IsSiteOf f plain → ⊥)
 bad_member line d NotJson fails json is = absurd fails
 bad_member line d BadMember fails json is = (d, json, no_site d fails)
 bad_member line d NoMemory fails json is = cc
 
-pub answered_bad : (line : List ℕ) (d : Data) (r : Result Site SiteFault) → Gives (λ site. site) r (site_in d) → IsJsonOf line d → r ≡ Err BadMember
-    → (e : Data) × IsJsonOf line e × ((site : Site) → IsSiteOf e site → ⊥)
-answered_bad line d (Ok site) gives json is = cc
-answered_bad line d (Err e) gives json is = let same : e ≡ BadMember = cc in bad_member line d e gives json same
+pub answered_bad : (line : List ℕ) (d : Data) (r : Result Site SiteFault) → StandsBy r d → IsJsonOf line d → r ≡ Err BadMember
+    → (e : Data) × IsJsonOf line e × ((plain : PlainSite) → IsSiteOf e plain → ⊥)
+answered_bad line d (Ok site) stands json is = cc
+answered_bad line d (Err e) stands json is = let same : e ≡ BadMember = cc in bad_member line d e stands json same

@@ -3,13 +3,23 @@ use Rattle.std.specs.Prelude.{ℕ, List, [], ◌∷◌, ◌++◌, Option, Some, 
 use Rattle.std.specs.List.{flat_map}
 use Rattle.serde_json.specs.Data.{string}
 use Rattle.serde_json.specs.Written.{compact_text}
-use Rattle.warp_server.specs.declared.outcome.ConflictKind.{ConflictKind}
-use Rattle.warp_server.specs.declared.outcome.ConflictKind.TheVariants.{NoPage, NoTarget, ManyTargets, NotAField, BaseChanged, NotALink, NotAForm, LogCut, Signalled}
-use Rattle.warp_server.specs.declared.outcome.Method.{Method}
-use Rattle.warp_server.specs.declared.outcome.Method.TheVariants.{Load, Get, Post}
-use Rattle.warp_server.specs.declared.outcome.Request.{Request}
-use Rattle.warp_server.specs.declared.outcome.Outcome.{Outcome}
-use Rattle.warp_server.specs.declared.outcome.Outcome.TheVariants.{Untouched, Done, Conflict}
+use Rattle.page_tree.specs.declared.fault.PageFault.{PageFault}
+use Rattle.page_tree.specs.declared.fault.PageFault.TheVariants as page
+use Rattle.xpath_child.specs.declared.fault.PathFaultKind.{PathFaultKind}
+use Rattle.xpath_child.specs.declared.fault.PathFaultKind.TheVariants as path
+use Rattle.upload_reader.specs.declared.session_fault.SessionFault.{SessionFault}
+use Rattle.upload_reader.specs.declared.session_fault.SessionFault.TheVariants as session
+use Rattle.upload_reader.specs.declared.lane_fault.LaneFault.{LaneFault}
+use Rattle.upload_reader.specs.declared.lane_fault.LaneFault.TheVariants as lane
+use Rattle.upload_reader.specs.declared.lane_fault.LaneEnd.{LaneEnd}
+use Rattle.upload_reader.specs.declared.lane_fault.LaneEnd.TheVariants.{Bye, Fault}
+use Rattle.visit_replay.specs.declared.outcome.ConflictKind.{ConflictKind}
+use Rattle.visit_replay.specs.declared.outcome.ConflictKind.TheVariants.{NoPage, NoTarget, ManyTargets, NotAField, BaseChanged, NotALink, NotAForm, LogCut, Ui}
+use Rattle.visit_replay.specs.declared.outcome.Method.{Method}
+use Rattle.visit_replay.specs.declared.outcome.Method.TheVariants.{Load, Get, Post}
+use Rattle.visit_replay.specs.declared.outcome.Request.{Request}
+use Rattle.visit_replay.specs.declared.outcome.Outcome.{Outcome}
+use Rattle.visit_replay.specs.declared.outcome.Outcome.TheVariants.{Untouched, Done, Conflict}
 
 -- ---- what is reported
 
@@ -19,19 +29,11 @@ pub data Stop : Type 0 where
   asked : Stop
   memory : Stop
 
--- a fault by its number: of a line (E), or of its page (E7 with P), its path (E8 with X) or its place in the session (E9 with S)
-pub data LaneFault : Type 0 where
-  of_line : ℕ → LaneFault
-  of_page : ℕ → LaneFault
-  of_path : ℕ → LaneFault
-  of_session : ℕ → LaneFault
-
--- how a lane ended; a fault stands at a line
+-- how a lane ended, if it did
 pub data End : Type 0 where
   not_yet : End
-  bye : End
+  over : LaneEnd → End
   gave_up : End
-  faulted : LaneFault → ℕ → End
 
 -- what became of a visit; a conflict stands at an event
 pub data Standing : Type 0 where
@@ -92,17 +94,54 @@ stop_word none = codes "none"
 stop_word asked = codes "asked"
 stop_word memory = codes "memory"
 
+abbrev pub page_number : PageFault → ℕ
+page_number page.NotAnElement = 1
+page_number page.BadName = 2
+page_number page.BadAttribute = 3
+page_number page.BadChildren = 4
+page_number page.TooDeep = 5
+page_number page.TooMany = 6
+page_number page.NoMemory = 7
+
+abbrev pub path_number : PathFaultKind → ℕ
+path_number path.NotAbsolute = 1
+path_number path.EmptyStep = 2
+path_number path.BadName = 3
+path_number path.BadIndex = 4
+path_number path.TooManySteps = 5
+path_number path.NoMemory = 6
+
+abbrev pub session_number : SessionFault → ℕ
+session_number session.VisitOrder = 1
+session_number session.NoParent = 2
+session_number session.NoVisit = 3
+session_number session.AfterEnd = 4
+session_number session.RequestOrder = 5
+session_number session.VisitFull = 6
+session_number session.TooManyOpen = 7
+session_number session.NoMemory = 8
+
 abbrev pub fault_word : LaneFault → List ℕ
-fault_word (of_line kind) = codes "E" ++ decimal kind
-fault_word (of_page inner) = codes "E7.P" ++ decimal inner
-fault_word (of_path inner) = codes "E8.X" ++ decimal inner
-fault_word (of_session inner) = codes "E9.S" ++ decimal inner
+fault_word lane.ReadFailed = codes "E1"
+fault_word lane.TooManyReads = codes "E2"
+fault_word lane.Truncated = codes "E3"
+fault_word lane.LineTooLong = codes "E4"
+fault_word lane.NotJson = codes "E5"
+fault_word lane.BadMessage = codes "E6"
+fault_word (lane.BadPage fault) = codes "E7.P" ++ decimal (page_number fault)
+fault_word (lane.BadTarget fault) = codes "E8.X" ++ decimal (path_number fault.kind)
+fault_word (lane.BadSession fault) = codes "E9.S" ++ decimal (session_number fault)
+fault_word lane.LaneFull = codes "E10"
+
+-- a fault stands at a line
+abbrev pub lane_word : LaneEnd → List ℕ
+lane_word Bye = codes "bye"
+lane_word (Fault line kind) = fault_word kind ++ codes "@" ++ decimal line
 
 abbrev pub end_word : End → List ℕ
 end_word not_yet = codes "none"
-end_word bye = codes "bye"
+end_word (over end) = lane_word end
 end_word gave_up = codes "gaveup"
-end_word (faulted fault at) = fault_word fault ++ codes "@" ++ decimal at
 
 abbrev pub kind_number : ConflictKind → ℕ
 kind_number NoPage = 1
@@ -113,7 +152,7 @@ kind_number BaseChanged = 5
 kind_number NotALink = 6
 kind_number NotAForm = 7
 kind_number LogCut = 8
-kind_number Signalled = 9
+kind_number Ui = 9
 
 abbrev pub conflict_words : ConflictKind → ℕ → List (List ℕ)
 conflict_words kind at = (codes "K" ++ decimal (kind_number kind)) ∷ codes "at" ∷ decimal at ∷ []
@@ -185,8 +224,3 @@ requests_of (Conflict requests at kind) = requests
 
 abbrev pub visit_report : ℕ → Outcome → VisitReport
 visit_report number outcome = record { number = number; standing = standing_of outcome; requests = requests_of outcome }
-
--- of one client with one visit, whose lane was taken to its bye
-abbrev pub whole_lane : List ℕ → ℕ → ℕ → ℕ → ℕ → Outcome → Report
-whole_lane client taken cost lost visit outcome =
-    record { stop = none; clients = record { client = client; taken = taken; end = bye; cost = cost; lost = lost; visits = visit_report visit outcome ∷ [] } ∷ []; decisions = [] }

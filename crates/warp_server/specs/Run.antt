@@ -1,34 +1,39 @@
 -- What a run answers and writes, by what its reads gave: this project's own rules. The input is the bytes that the reads gave, and how it ended.
-use Rattle.std.specs.Prelude.{◌≡◌, ◌≢◌, ℕ, ◌+◌, List, [], ◌++◌, length, drop, if◌then◌else◌, Option, Some, IsSome, Result, Ok, Err, ◌⊎◌}
+use Rattle.std.specs.Prelude.{◌≡◌, ◌≢◌, ℕ, ◌+◌, List, [], ◌∷◌, ◌++◌, length, map, drop, Option, Some, None, Result, Ok, Err, ◌⊎◌}
 use Rattle.serde_json.specs.Data.{Data}
 use Rattle.upload_reader.specs.Answers.{Answer, bytes_of}
 use Rattle.upload_reader.specs.Cutting.{cut, ending_of, StopsAtEnd}
-use Rattle.upload_reader.specs.CompleteLines.{complete_lines}
-use Rattle.warp_server.specs.Site.{Site, IsSiteOf, IsJsonOf, is_affected, page_of}
-use Rattle.warp_server.specs.Upload.{Upload, taken}
-use Rattle.warp_server.specs.Whole.{IsUpload}
-use Rattle.warp_server.specs.Replay.{outcome}
-use Rattle.warp_server.specs.Report.{Report, whole_lane, report_text}
-use Rattle.warp_server.specs.Writing.{Takes, TakesPart}
+use Rattle.upload_reader.specs.Greeting.{Hello, greeting_of}
+use Rattle.upload_reader.specs.Stream.{Costed, Lane, stream_of, BeginsWith}
 use Rattle.upload_reader.specs.declared.fault.LineFault.{LineFault}
 use Rattle.upload_reader.specs.declared.fault.LineFault.TheVariants.{ReadFailed}
-use Rattle.warp_server.specs.declared.outcome.Outcome.{Outcome}
-use Rattle.warp_server.specs.declared.outcome.Outcome.TheVariants.{Untouched}
+use Rattle.upload_reader.specs.declared.hello_fault.HelloFault.{HelloFault}
+use Rattle.upload_reader.specs.declared.lane_fault.LaneEnd.{LaneEnd}
+use Rattle.client_log.specs.Log.{Log, kept, cost_of}
+use Rattle.client_log.specs.declared.visit.Visit.{Visit}
+use Rattle.visit_replay.specs.Outcome.{outcome}
+use Rattle.warp_server.specs.Site.{Site, IsSiteOf, IsJsonOf, page_of, signals_of}
+use Rattle.warp_server.specs.Report.{Report, ClientReport, VisitReport, Stop, none, memory, End, over, not_yet, gave_up, visit_report, report_text}
+use Rattle.warp_server.specs.Writing.{Takes, TakesPart}
 use Rattle.warp_server.specs.declared.status.Status.{Status}
-use Rattle.warp_server.specs.declared.status.Status.TheVariants.{Done, BadSite, BadUpload, OutOfMemory, InputOutput}
+use Rattle.warp_server.specs.declared.status.Status.TheVariants.{Done, BadSite, BadHello, OutOfMemory, InputOutput}
 
--- ---- the report of a site and an upload
+-- ---- the report of a site and of the messages that were taken of a lane
 
--- a visit to an address that wasn't patched is left as it was
-abbrev pub outcome_of : Site → Upload → Outcome
-outcome_of site upload =
-    if is_affected site upload.load.address then outcome (page_of site upload.load.address) upload.load.address upload.clicks else Untouched
+-- what became of a visit that is kept, by the site's law
+abbrev pub visit_of : Site → Visit → VisitReport
+visit_of site visit = visit_report visit.number (outcome (page_of site) (λ address. signals_of site) site.patched visit)
 
-abbrev pub upload_report : Upload → Outcome → Report
-upload_report upload outcome = whole_lane upload.client (taken upload) upload.cost 0 upload.load.visit outcome
+abbrev pub client_of_log : Site → List ℕ → ℕ → End → Log → ClientReport
+client_of_log site client taken end log =
+    record { client = client; taken = taken; end = end; cost = cost_of log.visits; lost = log.lost; visits = map (visit_of site) log.visits }
 
-abbrev pub report_of : Site → Upload → Report
-report_of site upload = upload_report upload (outcome_of site upload)
+-- what is kept of them under the site's quota
+abbrev pub client_of : Site → List ℕ → List Costed → End → ClientReport
+client_of site client messages end = client_of_log site client (length messages) end (kept site.quota messages)
+
+abbrev pub report_of : Site → Stop → List ℕ → List Costed → End → Report
+report_of site stop client messages end = record { stop = stop; clients = client_of site client messages end ∷ []; decisions = [] }
 
 -- ---- the site line
 
@@ -49,33 +54,73 @@ HasBadSite input ending =
     ((fault : LineFault) × (fault ≢ ReadFailed) × (site_line input ending ≡ Some (Err fault)))
     ⊎ ((line : List ℕ) × (site_line input ending ≡ Some (Ok line)) × ((site : Site) → IsSiteLine line site → ⊥))
 
--- ---- the upload
+abbrev pub HasFailedRead : List ℕ → Option LineFault → Type 0
+HasFailedRead input ending = site_line input ending ≡ Some (Err ReadFailed)
 
--- what stands behind the site line
+pub record HasSite (input : List ℕ) (ending : Option LineFault) (line : List ℕ) (site : Site) : Type 0 where
+  pub cut_is : site_line input ending ≡ Some (Ok line)
+  pub site_is : IsSiteLine line site
+
+-- ---- the upload behind it
+
 abbrev pub behind : List ℕ → List ℕ → List ℕ
 behind line input = drop (length line + 1) input
 
--- no upload stands there, however the input goes on that hasn't ended
-abbrev pub NoUpload : List ℕ → List ℕ → Option LineFault → Type 0
-NoUpload line input ending = (more : List ℕ) → (IsSome ending → more ≡ []) → (upload : Upload) → IsUpload (complete_lines (behind line (input ++ more))) upload → ⊥
-
-pub record HasBadUpload (input : List ℕ) (ending : Option LineFault) : Type 0 where
+-- it begins with no hello
+pub record HasBadHello (input : List ℕ) (ending : Option LineFault) : Type 0 where
   pub line : List ℕ
-  pub cut_is : site_line input ending ≡ Some (Ok line)
   pub site : Site
-  pub site_is : IsSiteLine line site
-  pub none : NoUpload line input ending
+  pub site_is : HasSite input ending line site
+  pub fault : HelloFault
+  pub fault_is : (greeting_of None (behind line input) ending).answer ≡ Some (Err fault)
+
+-- it begins with that hello, of so many bytes with the blank lines before it
+abbrev pub BeginsBy : List ℕ → Option LineFault → List ℕ → ℕ → Hello → Type 0
+BeginsBy input ending line bytes hello = greeting_of None (behind line input) ending ≡ record { bytes = bytes; answer = Some (Ok hello) }
+
+-- the lane behind a hello
+abbrev pub lane_behind : Hello → Lane
+lane_behind hello = record { earlier = []; lines = hello.lines; fault = None }
+
+abbrev pub lane_bytes : List ℕ → ℕ → List ℕ → List ℕ
+lane_bytes line bytes input = drop bytes (behind line input)
 
 -- ---- the report of an input
 
+-- of all messages of the stream, with its end
 pub record HasReport (input : List ℕ) (ending : Option LineFault) (text : List ℕ) : Type 0 where
   pub line : List ℕ
-  pub cut_is : site_line input ending ≡ Some (Ok line)
   pub site : Site
-  pub site_is : IsSiteLine line site
-  pub upload : Upload
-  pub upload_is : IsUpload (complete_lines (behind line input)) upload
-  pub text_is : text ≡ report_text (report_of site upload)
+  pub site_is : HasSite input ending line site
+  pub bytes : ℕ
+  pub hello : Hello
+  pub begins : BeginsBy input ending line bytes hello
+  pub messages : List Costed
+  pub end : LaneEnd
+  pub stream_is : stream_of (lane_behind hello) (lane_bytes line bytes input) ending ≡ record { messages = messages; end = Some end }
+  pub text_is : text ≡ report_text (report_of site none hello.client messages (over end))
+
+-- how a run stops for want of memory: the lane gave up, or a message couldn't be recorded
+abbrev pub IsShort : Stop → End → Type 0
+IsShort stop end = ((stop ≡ none) × (end ≡ gave_up)) ⊎ ((stop ≡ memory) × (end ≡ not_yet))
+
+-- of the first messages of the stream, however the input goes on
+pub record HasShortReport (input : List ℕ) (ending : Option LineFault) (text : List ℕ) : Type 0 where
+  pub line : List ℕ
+  pub site : Site
+  pub site_is : HasSite input ending line site
+  pub bytes : ℕ
+  pub hello : Hello
+  pub begins : BeginsBy input ending line bytes hello
+  pub messages : List Costed
+  pub first : (more : List ℕ) (ending' : Option LineFault) → BeginsWith messages (stream_of (lane_behind hello) (lane_bytes line bytes (input ++ more)) ending').messages
+  pub stop : Stop
+  pub end : End
+  pub is_short : IsShort stop end
+  pub text_is : text ≡ report_text (report_of site stop hello.client messages end)
+
+abbrev pub HasAnyReport : List ℕ → Option LineFault → List ℕ → Type 0
+HasAnyReport input ending text = HasReport input ending text ⊎ HasShortReport input ending text
 
 -- ---- what a run does
 
@@ -90,21 +135,19 @@ pub record WritesNothing (puts puts' : List Answer) (contents contents' : Option
   pub puts_are : puts' ≡ puts
   pub contents_are : contents' ≡ contents
 
--- the whole report was written
-abbrev pub WritesReport : List Answer → List Answer → Option (List ℕ) → Option (List ℕ) → List ℕ → Option LineFault → Type 0
-WritesReport puts puts' contents contents' input ending = (text : List ℕ) × HasReport input ending text × Takes puts puts' contents contents' text 0
+-- a text that the input has was written whole
+abbrev pub Writes : List Answer → List Answer → Option (List ℕ) → Option (List ℕ) → (List ℕ → Option LineFault → List ℕ → Type 0) → List ℕ → Option LineFault → Type 0
+Writes puts puts' contents contents' Has input ending = (text : List ℕ) × Has input ending text × Takes puts puts' contents contents' text 0
 
--- a part from the front of the report was written, and then a write failed or took nothing
+-- a part from its front was written, and then a write failed or took nothing
 abbrev pub WritesPart : List Answer → List Answer → Option (List ℕ) → Option (List ℕ) → List ℕ → Option LineFault → Type 0
-WritesPart puts puts' contents contents' input ending = (text : List ℕ) × HasReport input ending text × TakesPart puts puts' contents contents' text
-
-abbrev pub HasFailedRead : List ℕ → Option LineFault → Type 0
-HasFailedRead input ending = site_line input ending ≡ Some (Err ReadFailed)
+WritesPart puts puts' contents contents' input ending = (text : List ℕ) × HasAnyReport input ending text × TakesPart puts puts' contents contents' text
 
 abbrev pub Meets : List Answer → List Answer → List Answer → List Answer → Option (List ℕ) → Option (List ℕ) → Status → Type 0
-Meets reads reads' puts puts' contents contents' Done = Reads reads reads' (WritesReport puts puts' contents contents')
+Meets reads reads' puts puts' contents contents' Done = Reads reads reads' (Writes puts puts' contents contents' HasReport)
 Meets reads reads' puts puts' contents contents' BadSite = WritesNothing puts puts' contents contents' × Reads reads reads' HasBadSite
-Meets reads reads' puts puts' contents contents' BadUpload = WritesNothing puts puts' contents contents' × Reads reads reads' HasBadUpload
-Meets reads reads' puts puts' contents contents' OutOfMemory = WritesNothing puts puts' contents contents'
+Meets reads reads' puts puts' contents contents' BadHello = WritesNothing puts puts' contents contents' × Reads reads reads' HasBadHello
+Meets reads reads' puts puts' contents contents' OutOfMemory =
+    WritesNothing puts puts' contents contents' ⊎ Reads reads reads' (Writes puts puts' contents contents' HasShortReport)
 Meets reads reads' puts puts' contents contents' InputOutput =
     (WritesNothing puts puts' contents contents' × Reads reads reads' HasFailedRead) ⊎ Reads reads reads' (WritesPart puts puts' contents contents')

@@ -1,29 +1,27 @@
 -- What a site line says: this project's own format, in JSON (RFC 8259).
-use Rattle.std.specs.Prelude.{◌≡◌, ℕ, List, [], ◌∷◌, Bool, true, false, ◌||◌, ◌==◌, if◌then◌else◌, Option, Some, None, is_some, option_map, option_and_then, codes, IsUtf8}
-use Rattle.std.specs.Ordering.{nat_cmp}
-use Rattle.std.specs.Cmp.Lexicographic.{slice_cmp}
-use Rattle.std.specs.Coded.{Coded, code_by, coded×, coded_list}
-use Rattle.std.specs.FinSet as set
-use Rattle.std.specs.List.{before_first}
+use Rattle.std.specs.Prelude.{◌≡◌, ℕ, List, [], ◌∷◌, Bool, true, false, ◌||◌, if◌then◌else◌, Option, Some, None, is_some, option_map, option_and_then, codes, IsUtf8}
+use Rattle.std.specs.List.{list_any}
 use Rattle.std.specs.Str.{bytes_eq}
-use Rattle.std.proofs.Common.{refl}
 use Rattle.serde_json.specs.Data.{Data, Items, no_items, item, Members, no_members, member}
-use Rattle.serde_json.specs.Find.{get, as_str, as_array, as_object}
+use Rattle.serde_json.specs.Find.{get, as_str, as_number, as_u64, as_array, as_object}
 use Rattle.serde_json.specs.Read.{read}
-use Rattle.page_tree.specs.Tree.{Tree, tree_code, text_code}
+use Rattle.page_tree.specs.Tree.{Tree}
 use Rattle.page_tree.specs.Value.{IsPageOf}
-
-abbrev pub Addresses : Type 0
-Addresses = set.FinSet (slice_cmp nat_cmp)
+use Rattle.xpath_child.specs.Path.{Step, IsPath, path_text}
+use Rattle.client_log.specs.Quota.{IsQuota}
+use Rattle.site_hooks.specs.Table.{is_changed}
 
 -- a page beside its address
 abbrev pub Entry : Type 0
 Entry = List ℕ × Tree
 
--- the addresses whose visits are replayed, and the pages of the repaired site
+-- The addresses whose visits are replayed, the pages of the repaired site, the paths to texts that must not have changed, and how much is kept of
+-- each client.
 pub record Site : Type 0 where
-  pub patched : Addresses
+  pub patched : List (List ℕ)
   pub pages : List Entry
+  pub watched : List (List Step)
+  pub quota : ℕ
 
 -- ---- the members of the object
 
@@ -43,13 +41,32 @@ members_or_none (Some d) = as_object d
 abbrev pub patched_in : Data → Option (List (List ℕ))
 patched_in d = texts_or_none (get (codes "patched") d)
 
+-- the member `watch`, likewise
+abbrev pub watch_in : Data → Option (List (List ℕ))
+watch_in d = texts_or_none (get (codes "watch") d)
+
 -- the member `pages`, an object; no members where it is absent
 abbrev pub pages_in : Data → Option Members
 pages_in d = members_or_none (get (codes "pages") d)
 
+abbrev pub default_quota : ℕ
+default_quota = 1048576
+
+-- a whole number
+abbrev pub whole_in : Data → Option ℕ
+whole_in d = option_and_then as_u64 (as_number d)
+
+abbrev pub quota_or_default : Option Data → Option ℕ
+quota_or_default None = Some default_quota
+quota_or_default (Some d) = whole_in d
+
+-- the member `quota`
+abbrev pub quota_in : Data → Option ℕ
+quota_in d = quota_or_default (get (codes "quota") d)
+
 -- a member that no site may have yet, whatever its value
 abbrev pub has_later_member : Data → Bool
-has_later_member d = is_some (get (codes "quota") d) || is_some (get (codes "watch") d) || is_some (get (codes "decide") d) || is_some (get (codes "workers") d)
+has_later_member d = is_some (get (codes "decide") d) || is_some (get (codes "workers") d)
 
 -- each member's value stands for the page at its name
 abbrev pub HoldPages : Members → List Entry → Type 0
@@ -58,39 +75,43 @@ HoldPages no_members (entry ∷ entries) = ⊥
 HoldPages (member address d ms) [] = ⊥
 HoldPages (member address d ms) (entry ∷ entries) = (entry.0 ≡ address) × IsPageOf d entry.1 × HoldPages ms entries
 
+-- each text is that of the path
+abbrev pub ArePaths : List (List ℕ) → List (List Step) → Type 0
+ArePaths [] [] = Unit {0}
+ArePaths [] (path ∷ paths) = ⊥
+ArePaths (text ∷ texts) [] = ⊥
+ArePaths (text ∷ texts) (path ∷ paths) = IsPath path × (path_text path ≡ text) × ArePaths texts paths
+
 -- ---- what a value stands for
 
 -- unknown members are ignored, all members are optional
 pub record IsSiteOf (d : Data) (site : Site) : Type 0 where
   pub object : is_some (as_object d) ≡ true
   pub known : has_later_member d ≡ false
-  pub patched : option_map set.from_list (patched_in d) ≡ Some site.patched
+  pub patched : patched_in d ≡ Some site.patched
   pub pages : (ms : Members) × (pages_in d ≡ Some ms) × HoldPages ms site.pages
+  pub watched : (texts : List (List ℕ)) × (watch_in d ≡ Some texts) × ArePaths texts site.watched
+  pub quota : (quota_in d ≡ Some site.quota) × IsQuota site.quota
 
 -- the line is the JSON text of the value, in UTF-8
 abbrev pub IsJsonOf : List ℕ → Data → Type 0
 IsJsonOf line d = IsUtf8 line × (read line ≡ Some d)
 
--- ---- looking into a site
+-- ---- its law
 
--- `?` or `#`
-abbrev pub is_mark : ℕ → Bool
-is_mark c = (c == 63) || (c == 35)
+abbrev pub page_before : Option Tree → Entry → List ℕ → Option Tree
+page_before (Some later) entry address = Some later
+page_before None entry address = if bytes_eq entry.0 address then Some entry.1 else None
 
--- the address up to its first mark is patched
-abbrev pub is_affected : Site → List ℕ → Bool
-is_affected site address = set.contains site.patched (before_first is_mark address)
-
+-- the last one of that address
 abbrev pub page_among : List Entry → List ℕ → Option Tree
 page_among [] address = None
-page_among (entry ∷ entries) address = if bytes_eq address entry.0 then Some entry.1 else page_among entries address
+page_among (entry ∷ entries) address = page_before (page_among entries address) entry address
 
 -- the page at just this address
 abbrev pub page_of : Site → List ℕ → Option Tree
 page_of site address = page_among site.pages address
 
--- ---- the code by which a proof tells sites apart
-
-abbrev pub site_code : Coded Site
-site_code =
-    code_by (Addresses × List Entry) (coded× (set.code text_code) (coded_list (coded× text_code tree_code))) (λ s. (s.patched, s.pages)) (λ p. record { patched = p.0; pages = p.1 }) (λ _. refl)
+-- some watched text is another on the old page than on the new
+abbrev pub signals_of : Site → Tree → Tree → Bool
+signals_of site old new = list_any (is_changed old new) site.watched

@@ -1,67 +1,78 @@
--- What the code keeps of a site and how it reads one, for private contracts; `proofs/SiteLaws` ties it to the sites that values stand for.
-use Rattle.std.specs.Prelude.{◌≡◌, ℕ, List, [], ◌∷◌, ◌++◌, map, if◌then◌else◌, Option, Some, None, is_some, option_map, option_and_then, Result, Ok, Err, string_bytes, String}
-use Rattle.std.specs.BTreeMap.{BTreeMap}
-use Rattle.std.specs.BTreeSet.{BTreeSet}
-use Rattle.std.specs.declared.alloc.Global.{Global}
-use Rattle.std.specs.FinSet as set
-use Rattle.std.specs.List.Sorted.{IsStrictlySortedBy}
-use Rattle.std.specs.Map.{keys_of}
-use Rattle.std.specs.Ordering.{nat_cmp}
-use Rattle.std.specs.Cmp.Lexicographic.{slice_cmp}
+-- What the code keeps of a site and how it reads one; `proofs/SiteLaws` ties it to the sites that values stand for.
+use Rattle.std.specs.Prelude.{◌≡◌, ℕ, List, [], ◌∷◌, ◌++◌, if◌then◌else◌, nat_le, ◌&&◌, Option, Some, None, is_some, option_map, option_and_then, Result, Ok, Err}
 use Rattle.serde_json.specs.Data.{Data, Members, no_members, member}
 use Rattle.serde_json.specs.Find.{as_object}
-use Rattle.page_tree.specs.Tree.{Tree}
 use Rattle.page_tree.specs.Visit.{page_in}
 use Rattle.page_tree.specs.declared.fault.PageFault.{PageFault}
 use Rattle.page_tree.specs.declared.fault.PageFault.TheVariants as page
-use Rattle.warp_server.specs.Site.{Addresses, Entry, Site, patched_in, pages_in, has_later_member, IsJsonOf}
+use Rattle.xpath_child.specs.Path.{Step}
+use Rattle.xpath_child.specs.Fault.{path_in}
+use Rattle.site_hooks.specs.Table.{page_in as page_at, watched_in}
+use Rattle.site_hooks.specs.declared.table.Table.{Table}
+use Rattle.visit_replay.specs.Outcome.{is_listed}
+use Rattle.warp_server.specs.Site.{Entry, Site as PlainSite, patched_in, pages_in, watch_in, quota_in, has_later_member, page_among, IsJsonOf}
+use Rattle.warp_server.specs.declared.site.Site.{Site}
 use Rattle.warp_server.specs.declared.site_fault.SiteFault.{SiteFault}
 use Rattle.warp_server.specs.declared.site_fault.SiteFault.TheVariants.{NotJson, BadMember, NoMemory}
 
--- ---- what is kept
+-- ---- what clauses see of a Site
 
-abbrev pub addresses_kept : BTreeSet (String Global) → Addresses
-addresses_kept kept = set.from_list (map string_bytes kept.keys)
+abbrev pub site_patch : Site → List (List ℕ)
+site_patch site = site.patch
 
-abbrev pub entry_kept : String Global × Tree → Entry
-entry_kept e = (string_bytes e.0, e.1)
+abbrev pub site_table : Site → Table
+site_table site = site.table
 
-abbrev pub pages_kept : BTreeMap (String Global) Tree → List Entry
-pages_kept kept = map entry_kept kept.entries
+abbrev pub site_quota : Site → ℕ
+site_quota site = site.quota
 
--- the addresses of the pages so far, and then those to come, ascend
-abbrev pub AscendWith : BTreeMap (String Global) Tree → List (List ℕ) → Type 0
-AscendWith kept later = IsStrictlySortedBy (slice_cmp nat_cmp) (map string_bytes (keys_of kept.entries) ++ later)
-
--- one more page at an address past those so far
-abbrev pub AddsPage : BTreeMap (String Global) Tree → BTreeMap (String Global) Tree → List ℕ → Tree → Type 0
-AddsPage before after address page =
-    (later : List (List ℕ)) → AscendWith before (address ∷ later) → (pages_kept after ≡ pages_kept before ++ (address, page) ∷ []) × AscendWith after later
+-- it answers as that site does
+pub record Stands (site : Site) (plain : PlainSite) : Type 0 where
+  pub patched : (address : List ℕ) → is_listed (site_patch site) address ≡ is_listed plain.patched address
+  pub pages : (address : List ℕ) → page_at (site_table site) address ≡ page_among plain.pages address
+  pub watched : watched_in (site_table site) ≡ plain.watched
+  pub quota : site_quota site ≡ plain.quota
 
 -- ---- what is read
-
-abbrev pub fault_of_page : PageFault → SiteFault
-fault_of_page page.NoMemory = NoMemory
-fault_of_page e = BadMember
 
 abbrev pub entries_in : Members → Option (List Entry)
 entries_in no_members = Some []
 entries_in (member address d ms) = option_and_then (λ page. option_map (λ rest. (address, page) ∷ rest) (entries_in ms)) (page_in d)
 
-abbrev pub make_site : Addresses → List Entry → Site
-make_site patched pages = record { patched = patched; pages = pages }
+abbrev pub ok_of : {A E : Type 0} → Result A E → Option A
+ok_of (Ok x) = Some x
+ok_of (Err e) = None
+
+abbrev pub paths_in : List (List ℕ) → Option (List (List Step))
+paths_in [] = Some []
+paths_in (text ∷ texts) = option_and_then (λ path. option_map (λ rest. path ∷ rest) (paths_in texts)) (ok_of (path_in text))
+
+-- a number that a quota may be
+abbrev pub quota_of : ℕ → Option ℕ
+quota_of n = if nat_le 1 n && nat_le n 4294967295 then Some n else None
+
+abbrev pub make_site : List (List ℕ) → List Entry → List (List Step) → ℕ → PlainSite
+make_site patched pages watched quota = record { patched = patched; pages = pages; watched = watched; quota = quota }
+
+-- the site that an object stands for
+abbrev pub site_by : Data → Option PlainSite
+site_by d =
+    option_and_then (λ patched. option_and_then (λ pages. option_and_then (λ watched. option_map (make_site patched pages watched)
+    (option_and_then quota_of (quota_in d))) (option_and_then paths_in (watch_in d))) (option_and_then entries_in (pages_in d))) (patched_in d)
 
 -- the site that a value stands for
-abbrev pub site_in : Data → Option Site
-site_in d =
-    if is_some (as_object d) then (if has_later_member d then None else
-    option_and_then (λ patched. option_map (make_site patched) (option_and_then entries_in (pages_in d))) (option_map set.from_list (patched_in d))) else None
+abbrev pub site_in : Data → Option PlainSite
+site_in d = if is_some (as_object d) then (if has_later_member d then None else site_by d) else None
 
 -- why a line has no value
 abbrev pub IsLineFault : List ℕ → SiteFault → Type 0
 IsLineFault line NotJson = (d : Data) → IsJsonOf line d → ⊥
 IsLineFault line BadMember = ⊥
 IsLineFault line NoMemory = Unit {0}
+
+abbrev pub fault_of_page : PageFault → SiteFault
+fault_of_page page.NoMemory = NoMemory
+fault_of_page e = BadMember
 
 -- ---- what the code answers, want of memory left aside
 
@@ -73,3 +84,26 @@ Fails NoMemory found = Unit {0}
 abbrev pub Gives : {X Y : Type 0} → (X → Y) → Result X SiteFault → Option Y → Type 0
 Gives view (Ok x) found = found ≡ Some (view x)
 Gives view (Err e) found = Fails e found
+
+-- the site that was read is the one that the value stands for
+abbrev pub StandsBy : Result Site SiteFault → Data → Type 0
+StandsBy (Ok site) d = (plain : PlainSite) × (site_in d ≡ Some plain) × Stands site plain
+StandsBy (Err e) d = Fails e (site_in d)
+
+-- a table of these pages, and nothing watched
+pub record HasPages (table : Table) (entries : List Entry) : Type 0 where
+  pub pages : (address : List ℕ) → page_at table address ≡ page_among entries address
+  pub watched : watched_in table ≡ []
+
+abbrev pub GivesPages : Result Table SiteFault → Option (List Entry) → Type 0
+GivesPages (Ok table) found = (entries : List Entry) × (found ≡ Some entries) × HasPages table entries
+GivesPages (Err e) found = Fails e found
+
+-- the same table with these paths watched too
+pub record Watches (table table' : Table) (paths : List (List Step)) : Type 0 where
+  pub pages : (address : List ℕ) → page_at table' address ≡ page_at table address
+  pub watched : watched_in table' ≡ watched_in table ++ paths
+
+abbrev pub GivesWatched : Table → Table → Result (Unit {0}) SiteFault → Option (List (List Step)) → Type 0
+GivesWatched table table' (Ok done) found = (paths : List (List Step)) × (found ≡ Some paths) × Watches table table' paths
+GivesWatched table table' (Err e) found = Fails e found

@@ -1,19 +1,17 @@
-//! The site and the upload, read from the lines of a source.
-ghost use Rattle.std.specs.Prelude.{◌≡◌, ◌+◌, ◌*◌, ◌<◌, ◌≤◌, length, [], None, IfOk, IfErr, OnOk};
+//! The site and the lane, read from the lines of a source.
+ghost use Rattle.std.specs.Prelude.{◌≡◌, ◌+◌, length, [], None, Some, Ok, IfOk, IfErr, OnOk};
 ghost use Rattle.upload_reader.specs.Cutting.{ending_of};
 ghost use Rattle.upload_reader.specs.Lines.{lines_answers, lines_place, lines_line, lines_input, lines_fault, lines_reader, lines_uncut};
 ghost use Rattle.upload_reader.specs.Reading.{ReadsOn};
-ghost use Rattle.warp_server.specs.Run.{site_line, IsSiteLine};
-ghost use Rattle.warp_server.specs.Intake.{HasBoth, Refuses, Intakes, RefusesSite, GoesOn, MakesUpload, RefusesUpload, no_site, no_upload, bad_site};
-ghost use Rattle.warp_server.specs.declared.thin.Thin.TheVariants.{Fresh};
+ghost use Rattle.warp_server.specs.Run.{site_line};
+ghost use Rattle.warp_server.specs.Intake.{IsSiteLineOf, Intakes, RefusesSite, ReadsLane, no_site, bad_site, no_hello};
 
-use crate::message::MAX_LINE_BYTES;
+use crate::gathering::{Gathered, gather};
 use crate::site::Site;
 use crate::site_fault::SiteFault;
-use crate::thin::{Next, Thin};
-use crate::upload::Upload;
+use client_log::Quota;
 use std::alloc::Global;
-use upload_reader::{LineFault, Lines, Source};
+use upload_reader::{HelloFault, LineFault, Lines, Source, Upload};
 
 /// The longest site line, in bytes, without its line end.
 const MAX_SITE_BYTES: usize = 1_048_576;
@@ -25,95 +23,86 @@ pub(crate) enum Refused {
     ReadFailed,
     /// The first line is no site.
     NoSite,
-    /// What follows is no upload.
-    NoUpload,
+    /// What follows does not begin with a hello.
+    NoHello,
     /// An allocation was refused.
     NoMemory,
 }
 
-/// The site and the upload that a source gives.
+/// The site that a source gives, and what was taken of the lane behind it.
 pub(crate) fn read_input<R: Source>(
     alloc: Global,
     reader: &mut R,
-) -> Result<(Site, Upload), Refused>
+) -> Result<(Site, Gathered), Refused>
     ensures { Intakes (R.answers reader.old) (R.answers reader.new) result }
 {
-    let Ok(mut lines) = Lines::over(alloc, &mut *reader) else {
+    let Ok(lines) = Lines::over(alloc, &mut *reader) else {
         return Err(Refused::NoMemory);
     };
-    let both = read_both(alloc, &mut lines);
-    let _reader = lines.into_reader();
+    let (back, both) = read_both(alloc, lines);
+    let _reader = back;
     both
 }
 
-fn read_both<R: Source>(alloc: Global, lines: &mut Lines<R>) -> Result<(Site, Upload), Refused>
-    requires unread { lines_answers lines.old ≡ [] }
-    requires uncut { lines_place lines.old ≡ 0 }
-    requires fault { lines_fault lines.old ≡ None }
-    ensures reads { ReadsOn (lines_answers lines.old) (lines_answers lines.new) (R.answers (lines_reader lines.old)) (R.answers (lines_reader lines.new)) }
-    ensures same { R.lender (lines_reader lines.new) ≡ R.lender (lines_reader lines.old) }
-    ensures both { IfOk result (λ both. HasBoth (lines_input lines.new) (ending_of (lines_answers lines.new)) both.0 both.1) }
-    ensures refused { IfErr result (λ refused. Refuses (lines_input lines.new) (ending_of (lines_answers lines.new)) refused) }
+// It gives the reader back.
+fn read_both<R: Source>(alloc: Global, lines: Lines<R>) -> (R, Result<(Site, Gathered), Refused>)
+    requires unread { lines_answers lines ≡ [] }
+    requires uncut { lines_place lines ≡ 0 }
+    requires fault { lines_fault lines ≡ None }
+    ensures same { R.lender result.0 ≡ R.lender (lines_reader lines) }
+    ensures both { Intakes (R.answers (lines_reader lines)) (R.answers result.0) result.1 }
 {
-    let site = read_site(alloc, lines)?;
-    let upload = read_upload(alloc, lines)?;
-    Ok((site, upload))
+    let mut lines = lines;
+    match read_site(alloc, &mut lines) {
+        Err(refused) => (lines.into_reader(), Err(refused)),
+        Ok(site) => {
+            let (reader, gathered) = read_lane(alloc, lines, site.quota());
+            match gathered {
+                Err(refused) => (reader, Err(refused)),
+                Ok(gathered) => (reader, Ok((site, gathered))),
+            }
+        }
+    }
+}
+
+// The lane behind the site line. It gives the reader back.
+fn read_lane<R: Source>(
+    alloc: Global,
+    lines: Lines<R>,
+    quota: Quota,
+) -> (R, Result<Gathered, Refused>)
+    requires { lines_fault lines ≡ None }
+    ensures same { R.lender result.0 ≡ R.lender (lines_reader lines) }
+    ensures lane { ReadsLane (lines_place lines) (lines_answers lines) (R.answers (lines_reader lines)) (R.answers result.0) quota result.1 }
+{
+    let mut upload = match Upload::hello(alloc, lines) {
+        Ok(upload) => upload,
+        Err(refused) => return (refused.lines.into_reader(), Err(no_hello(refused.fault))),
+    };
+    let gathered = gather(alloc, &mut upload, quota);
+    let reader = upload.into_reader();
+    match gathered {
+        Ok(gathered) => (reader, Ok(gathered)),
+        Err(_) => (reader, Err(Refused::NoMemory)),
+    }
 }
 
 /// The site that the next line says.
-pub(crate) fn read_site<R: Source>(alloc: Global, lines: &mut Lines<R>) -> Result<Site, Refused>
+fn read_site<R: Source>(alloc: Global, lines: &mut Lines<R>) -> Result<Site, Refused>
     requires { lines_fault lines.old ≡ None }
     ensures reads { ReadsOn (lines_answers lines.old) (lines_answers lines.new) (R.answers (lines_reader lines.old)) (R.answers (lines_reader lines.new)) }
     ensures same { R.lender (lines_reader lines.new) ≡ R.lender (lines_reader lines.old) }
     ensures cut { OnOk result (site_line (lines_uncut lines.old lines.new) (ending_of (lines_answers lines.new)) ≡ Some (Ok (lines_line lines.new))) }
-    ensures site { IfOk result (λ site. IsSiteLine (lines_line lines.new) site) }
+    ensures site { IfOk result (IsSiteLineOf (lines_line lines.new)) }
     ensures place { OnOk result (lines_place lines.new ≡ lines_place lines.old + length (lines_line lines.new) + 1) }
     ensures fault { OnOk result (lines_fault lines.new ≡ None) }
-    ensures refused { IfErr result (λ refused. RefusesSite (lines_uncut lines.old lines.new) (ending_of (lines_answers lines.new)) refused) }
+    ensures refused { IfErr result (RefusesSite (lines_uncut lines.old lines.new) (ending_of (lines_answers lines.new))) }
 {
     match lines.advance(MAX_SITE_BYTES) {
         Err(fault) => Err(no_site(fault)),
         Ok(()) => match Site::read(alloc, lines.line()) {
             Err(fault) => Err(bad_site(fault)),
             Ok(site) => Ok(site),
-        },
-    }
-}
-
-/// The upload that the next lines are.
-pub(crate) fn read_upload<R: Source>(alloc: Global, lines: &mut Lines<R>) -> Result<Upload, Refused>
-    requires { lines_fault lines.old ≡ None }
-    ensures reads { ReadsOn (lines_answers lines.old) (lines_answers lines.new) (R.answers (lines_reader lines.old)) (R.answers (lines_reader lines.new)) }
-    ensures same { R.lender (lines_reader lines.new) ≡ R.lender (lines_reader lines.old) }
-    ensures upload { IfOk result (λ upload. MakesUpload (lines_place lines.old) (lines_input lines.new) Fresh upload) }
-    ensures refused { IfErr result (λ refused. RefusesUpload (lines_place lines.old) (lines_input lines.new) (ending_of (lines_answers lines.new)) Fresh refused) }
-{
-    let mut thin = Thin::Fresh;
-    loop {
-        match take_line(alloc, lines, thin)? {
-            Next::More(later) => thin = later,
-            Next::Whole(upload) => return Ok(upload),
-            Next::Refused => return Err(Refused::NoUpload),
-        }
-    }
-}
-
-/// One line more.
-fn take_line<R: Source>(alloc: Global, lines: &mut Lines<R>, thin: Thin) -> Result<Next, Refused>
-    requires { lines_fault lines.old ≡ None }
-    ensures reads { ReadsOn (lines_answers lines.old) (lines_answers lines.new) (R.answers (lines_reader lines.old)) (R.answers (lines_reader lines.new)) }
-    ensures same { R.lender (lines_reader lines.new) ≡ R.lender (lines_reader lines.old) }
-    ensures goes { IfOk result (λ next. GoesOn (lines_place lines.old) (lines_place lines.new) (lines_input lines.new) thin next) }
-    ensures further { OnOk result (lines_place lines.old < lines_place lines.new) }
-    ensures bounded { lines_place lines.new ≤ 8192 * 1048576 }
-    ensures fault { OnOk result (lines_fault lines.new ≡ None) }
-    ensures refused { IfErr result (λ refused. RefusesUpload (lines_place lines.old) (lines_input lines.new) (ending_of (lines_answers lines.new)) thin refused) }
-{
-    match lines.advance(MAX_LINE_BYTES) {
-        Err(fault) => Err(no_upload(fault)),
-        Ok(()) => match thin.take(alloc, lines.line()) {
-            Err(_) => Err(Refused::NoMemory),
-            Ok(next) => Ok(next),
         },
     }
 }
@@ -128,20 +117,20 @@ fn no_site(fault: LineFault) -> Refused
     }
 }
 
-fn no_upload(fault: LineFault) -> Refused
-    ensures { result ≡ no_upload fault }
-{
-    match fault {
-        LineFault::NoMemory => Refused::NoMemory,
-        _ => Refused::NoUpload,
-    }
-}
-
 fn bad_site(fault: SiteFault) -> Refused
     ensures { result ≡ bad_site fault }
 {
     match fault {
         SiteFault::NoMemory => Refused::NoMemory,
         _ => Refused::NoSite,
+    }
+}
+
+fn no_hello(fault: HelloFault) -> Refused
+    ensures { result ≡ no_hello fault }
+{
+    match fault {
+        HelloFault::NoMemory => Refused::NoMemory,
+        _ => Refused::NoHello,
     }
 }

@@ -1,27 +1,16 @@
 //! The replay server: a site line and an upload come in, a report goes out.
 //!
-//! `run` is the whole of it, for any reader and any writer. Its contract says which report was written, or which fault the input has. Today an upload is
-//! one visit that is only loaded and clicked on.
+//! `run` is the whole of it, for any reader and any writer. Its contract says which report was written, or which fault the input has.
 #![tactic(auto)]
 
 // The site.
-mod addresses;
 mod site;
 mod site_fault;
 mod site_reading;
 
-// The messages of an upload, and the upload that they make.
-mod clicks;
-mod client;
-mod members;
-mod message;
-mod thin;
-mod unread;
-mod upload;
-
-// Replay, and the report.
-mod outcome;
-mod replaying;
+// One lane: its log, the outcomes of the visits that it keeps, and the report.
+mod gathering;
+mod repairing;
 mod report;
 
 // Bytes out.
@@ -45,5 +34,3 @@ mod report_tests;
 mod run_tests;
 #[cfg(test)]
 mod site_tests;
-#[cfg(test)]
-mod tests;

@@ -1,50 +1,186 @@
-ghost use Rattle.std.specs.Prelude.{◌≡◌, [], ◌++◌, IfOk, OnOk, string_bytes};
+//! The text of a report.
+ghost use Rattle.std.specs.Prelude.{◌≡◌, [], ◌∷◌, ◌++◌, length, map, IfOk, OnOk, string_bytes, decimal};
 ghost use Rattle.std.specs.List.{flat_map};
+ghost use Rattle.client_log.specs.Log.{cost_of};
 ghost use Rattle.warp_server.specs.Report as plain;
-ghost use Rattle.warp_server.specs.Report.{visit_report, whole_lane, report_text};
+ghost use Rattle.warp_server.specs.Report.{visit_report, report_text};
+ghost use Rattle.warp_server.specs.Gathering.{stop_of, end_of};
+ghost use Rattle.warp_server.specs.Repairing.{report_of_visit, report_of_lane};
 
-use crate::outcome::{ConflictKind, Method, Outcome, Request};
-use page_tree::NoMemory;
+use crate::gathering::{Gathered, Stopped};
+use crate::repairing::Replayed;
+use client_log::ClientLog;
+use page_tree::{NoMemory, PageFault};
 use serde_json::Value;
 use std::alloc::Global;
+use upload_reader::{LaneEnd, LaneFault, SessionFault};
+use visit_replay::{ConflictKind, Method, Outcome, Request};
+use xpath_child::PathFaultKind;
 
-/// The report on one client with one visit, where its whole lane was taken.
+/// The report on one client, whose visits were replayed so.
 pub(crate) fn compose(
     alloc: Global,
-    client: &str,
-    taken: u64,
-    cost: u64,
-    lost: u64,
-    visit: u64,
-    outcome: &Outcome,
+    gathered: &Gathered,
+    replayed: &[Replayed],
 ) -> Result<Vec<u8>, NoMemory>
-    ensures { IfOk result (λ text. text.items ≡ report_text (whole_lane client.now taken cost lost visit outcome.now)) }
+    ensures { IfOk result (λ text. text.items ≡ report_text (report_of_lane (stop_of gathered.now.stopped) gathered.now.log.client gathered.now.taken (end_of gathered.now.stopped) gathered.now.log.log replayed.now)) }
 {
     let mut text = String::new(alloc);
-    text.push_str("stop none\n")?;
-    add_client(&mut text, client, taken, cost, lost)?;
-    add_visit(&mut text, visit, outcome)?;
-    add_requests(alloc, &mut text, requests_of(outcome))?;
+    text.push_str(stop_line(gathered.stopped))?;
+    add_client(
+        alloc,
+        &mut text,
+        &gathered.log,
+        gathered.taken,
+        gathered.stopped,
+    )?;
+    add_visits(alloc, &mut text, replayed)?;
     Ok(text.into_bytes())
 }
 
+fn stop_line(stopped: Stopped) -> &'static str
+    ensures { result.now ≡ plain.stop_line (stop_of stopped) }
+{
+    match stopped {
+        Stopped::Over(_) | Stopped::GaveUp => "stop none\n",
+        Stopped::Memory => "stop memory\n",
+    }
+}
+
 fn add_client(
+    alloc: Global,
     text: &mut String,
-    client: &str,
+    log: &ClientLog,
     taken: u64,
-    cost: u64,
-    lost: u64,
+    stopped: Stopped,
 ) -> Result<(), NoMemory>
     ensures { OnOk result (string_bytes text.new
-        ≡ string_bytes text.old ++ plain.client_line (record { client = client.now; taken = taken; end = plain.bye; cost = cost; lost = lost; visits = [] })) }
+        ≡ string_bytes text.old ++ plain.client_line (record { client = log.now.client; taken = taken; end = end_of stopped; cost = cost_of log.now.log.visits; lost = log.now.log.lost; visits = [] })) }
 {
+    let client = log.client().text();
+    let end = end_word(alloc, stopped)?;
+    let cost = log.cost();
+    let lost = log.lost();
     write!(
         text,
-        "client {client} taken {taken} end bye cost {cost} lost {lost}\n"
+        "client {client} taken {taken} end {end} cost {cost} lost {lost}\n"
     )
 }
 
-fn add_visit(text: &mut String, visit: u64, outcome: &Outcome) -> Result<(), NoMemory>
+// ---- how a lane ended
+
+fn end_word(alloc: Global, stopped: Stopped) -> Result<String, NoMemory>
+    ensures { IfOk result (λ word. string_bytes word ≡ plain.end_word (end_of stopped)) }
+{
+    match stopped {
+        Stopped::Over(end) => lane_word(alloc, end),
+        Stopped::GaveUp => String::from_str(alloc, "gaveup"),
+        Stopped::Memory => String::from_str(alloc, "none"),
+    }
+}
+
+fn lane_word(alloc: Global, end: LaneEnd) -> Result<String, NoMemory>
+    ensures { IfOk result (λ word. string_bytes word ≡ plain.lane_word end) }
+{
+    match end {
+        LaneEnd::Bye => String::from_str(alloc, "bye"),
+        LaneEnd::Fault { line, kind } => {
+            let fault = fault_word(alloc, kind)?;
+            format!(in alloc; "{fault}@{line}")
+        }
+    }
+}
+
+// A fault by its number, and by that of the page's, the path's or the session's fault in it.
+fn fault_word(alloc: Global, fault: LaneFault) -> Result<String, NoMemory>
+    ensures { IfOk result (λ word. string_bytes word ≡ plain.fault_word fault) }
+{
+    match fault {
+        LaneFault::ReadFailed => String::from_str(alloc, "E1"),
+        LaneFault::TooManyReads => String::from_str(alloc, "E2"),
+        LaneFault::Truncated => String::from_str(alloc, "E3"),
+        LaneFault::LineTooLong => String::from_str(alloc, "E4"),
+        LaneFault::NotJson => String::from_str(alloc, "E5"),
+        LaneFault::BadMessage => String::from_str(alloc, "E6"),
+        LaneFault::BadPage(fault) => numbered(alloc, "E7.P", page_number(fault)),
+        LaneFault::BadTarget(fault) => numbered(alloc, "E8.X", path_number(fault.kind)),
+        LaneFault::BadSession(fault) => numbered(alloc, "E9.S", session_number(fault)),
+        LaneFault::LaneFull => String::from_str(alloc, "E10"),
+    }
+}
+
+fn numbered(alloc: Global, word: &str, number: u32) -> Result<String, NoMemory>
+    ensures { IfOk result (λ text. string_bytes text ≡ word.now ++ decimal number) }
+{
+    format!(in alloc; "{word}{number}")
+}
+
+fn page_number(fault: PageFault) -> u32
+    ensures { result ≡ plain.page_number fault }
+{
+    match fault {
+        PageFault::NotAnElement => 1,
+        PageFault::BadName => 2,
+        PageFault::BadAttribute => 3,
+        PageFault::BadChildren => 4,
+        PageFault::TooDeep => 5,
+        PageFault::TooMany => 6,
+        PageFault::NoMemory => 7,
+    }
+}
+
+fn path_number(kind: PathFaultKind) -> u32
+    ensures { result ≡ plain.path_number kind }
+{
+    match kind {
+        PathFaultKind::NotAbsolute => 1,
+        PathFaultKind::EmptyStep => 2,
+        PathFaultKind::BadName => 3,
+        PathFaultKind::BadIndex => 4,
+        PathFaultKind::TooManySteps => 5,
+        PathFaultKind::NoMemory => 6,
+    }
+}
+
+fn session_number(fault: SessionFault) -> u32
+    ensures { result ≡ plain.session_number fault }
+{
+    match fault {
+        SessionFault::VisitOrder => 1,
+        SessionFault::NoParent => 2,
+        SessionFault::NoVisit => 3,
+        SessionFault::AfterEnd => 4,
+        SessionFault::RequestOrder => 5,
+        SessionFault::VisitFull => 6,
+        SessionFault::TooManyOpen => 7,
+        SessionFault::NoMemory => 8,
+    }
+}
+
+// ---- visits
+
+fn add_visits(alloc: Global, text: &mut String, replayed: &[Replayed]) -> Result<(), NoMemory>
+    ensures { OnOk result (string_bytes text.new ≡ string_bytes text.old ++ flat_map plain.visit_text (map report_of_visit replayed.now)) }
+{
+    for one in replayed {
+        add_visit(alloc, text, one.visit, &one.outcome)?;
+    }
+    Ok(())
+}
+
+fn add_visit(
+    alloc: Global,
+    text: &mut String,
+    visit: u64,
+    outcome: &Outcome,
+) -> Result<(), NoMemory>
+    ensures { OnOk result (string_bytes text.new ≡ string_bytes text.old ++ plain.visit_text (visit_report visit outcome.now)) }
+{
+    add_standing(text, visit, outcome)?;
+    add_requests(alloc, text, requests_of(outcome))
+}
+
+fn add_standing(text: &mut String, visit: u64, outcome: &Outcome) -> Result<(), NoMemory>
     ensures { OnOk result (string_bytes text.new ≡ string_bytes text.old ++ plain.visit_line (visit_report visit outcome.now)) }
 {
     match outcome {
@@ -69,7 +205,7 @@ fn kind_number(kind: ConflictKind) -> u32
         ConflictKind::NotALink => 6,
         ConflictKind::NotAForm => 7,
         ConflictKind::LogCut => 8,
-        ConflictKind::Signalled => 9,
+        ConflictKind::Ui => 9,
     }
 }
 

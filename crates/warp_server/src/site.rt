@@ -1,72 +1,79 @@
-ghost use Rattle.std.specs.Prelude.{◌≡◌, IfOk, IsErrOf, Some, option_map};
+//! The repaired site.
+ghost use Rattle.std.specs.Prelude.{◌≡◌, IfOk, IsErrOf};
 ghost use Rattle.serde_json.specs.Data.{Data};
 ghost use Rattle.serde_json.specs.View.{view};
-ghost use Rattle.warp_server.specs.Site.{Site as PlainSite, IsSiteOf, IsJsonOf, is_affected, page_of};
-ghost use Rattle.warp_server.specs.SiteReading.{site_in, Gives};
+ghost use Rattle.warp_server.specs.Site.{Site as PlainSite, IsSiteOf, IsJsonOf};
 ghost use Rattle.warp_server.specs.declared.site_fault.SiteFault.TheVariants.{NotJson, BadMember};
 
-use crate::addresses::before_mark;
 use crate::site_fault::SiteFault;
-use crate::site_reading::{has_later_member, read_line, read_pages, read_patched};
-use page_tree::Page;
+use crate::site_reading::{
+    has_later_member, read_line, read_pages, read_patched, read_quota, read_watched,
+};
+use client_log::Quota;
 use serde_json::Value;
+use site_hooks::Table;
 use std::alloc::Global;
-use std::collections::{BTreeMap, BTreeSet};
-use std::marker::Model;
+use visit_replay::Patch;
 
-/// The repaired site: which addresses were patched, and the pages that it shows. Each look-up is logarithmic.
-#[derive(Debug, Drop)]
+/// What was repaired, the pages that the site shows now, which texts of them must not have changed, and how much is kept of each client.
+#[derive(Drop)]
 pub struct Site {
-    patched: BTreeSet<String>,
-    pages: BTreeMap<String, Page>,
-}
-
-impl Model for Site {
-    ghost use Rattle.warp_server.specs.Site.{Site, site_code};
-    ghost use Rattle.warp_server.specs.SiteReading.{addresses_kept, pages_kept};
-
-    ghost Value = { Site };
-
-    ghost coded = { site_code };
-
-    ghost view = { λ s. record { patched = addresses_kept s.patched; pages = pages_kept s.pages } };
+    patch: Patch,
+    table: Table,
+    quota: Quota,
 }
 
 impl Site {
-    /// The site that a line says: a JSON object with `patched` (an array of address texts) and `pages` (an object, from address to page), both
-    /// optional. Unknown members are ignored; `quota`, `watch`, `decide` and `workers` are refused.
+    ghost use Rattle.warp_server.specs.SiteReading.{site_patch, site_table, site_quota, Stands, StandsBy};
+
+    /// The site that a line says: a JSON object with `patched` (an array of address texts), `pages` (an object, from address to page), `watch` (an
+    /// array of path texts) and `quota` (1 to 4,294,967,295 bytes, else 1,048,576), all optional. Unknown members are ignored; `decide` and
+    /// `workers` are refused.
     pub fn read(alloc: Global, line: &[u8]) -> Result<Site, SiteFault>
-        ensures ok { IfOk result (λ site. (d : Data) × IsJsonOf line.now d × IsSiteOf d site) }
-        ensures only { IfOk result (λ site. (d : Data) → IsJsonOf line.now d → (other : PlainSite) → IsSiteOf d other → other ≡ site) }
+        ensures ok { IfOk result (λ site. (d : Data) × IsJsonOf line.now d × ((plain : PlainSite) × IsSiteOf d plain × Stands site plain)) }
+        ensures only { IfOk result (λ site. (d : Data) → IsJsonOf line.now d → (plain : PlainSite) → IsSiteOf d plain → Stands site plain) }
         ensures not_json { IsErrOf result NotJson → (d : Data) → ¬ IsJsonOf line.now d }
-        ensures bad_member { IsErrOf result BadMember → (d : Data) × IsJsonOf line.now d × ((site : PlainSite) → ¬ IsSiteOf d site) }
+        ensures bad_member { IsErrOf result BadMember → (d : Data) × IsJsonOf line.now d × ((plain : PlainSite) → ¬ IsSiteOf d plain) }
     {
         let value = read_line(alloc, line)?;
         Site::from_value(alloc, &value)
     }
 
     fn from_value(alloc: Global, value: &Value) -> Result<Site, SiteFault>
-        ensures { Gives (λ site. site) result (site_in (view value.now)) }
+        ensures { StandsBy result (view value.now) }
     {
         if value.as_object().is_none() || has_later_member(value) {
             return Err(SiteFault::BadMember);
         }
-        let patched = read_patched(alloc, value)?;
-        let pages = read_pages(alloc, value)?;
-        Ok(Site { patched, pages })
+        let patch = Patch::new(read_patched(alloc, value)?);
+        let mut table = read_pages(alloc, value)?;
+        read_watched(alloc, value, &mut table)?;
+        let quota = read_quota(value)?;
+        Ok(Site {
+            patch,
+            table,
+            quota,
+        })
     }
 
-    /// Whether visits to the address are replayed: the address up to its first `?` or `#` is one of those patched.
-    pub fn affects(&self, address: &str) -> bool
-        ensures { result ≡ is_affected self.now address.now }
+    /// Which addresses were repaired.
+    pub fn patch(&self) -> &Patch
+        ensures { result.now ≡ site_patch self.now }
     {
-        self.patched.contains(before_mark(address))
+        &self.patch
     }
 
-    /// The site's page at just this address.
-    pub fn page(&self, address: &str) -> Option<&Page>
-        ensures { option_map (λ page. page.now) result ≡ page_of self.now address.now }
+    /// Its pages, and the paths that are watched.
+    pub fn table(&self) -> &Table
+        ensures { result.now ≡ site_table self.now }
     {
-        self.pages.get(address)
+        &self.table
+    }
+
+    /// How much is kept of each client.
+    pub fn quota(&self) -> Quota
+        ensures { result ≡ site_quota self.now }
+    {
+        self.quota
     }
 }

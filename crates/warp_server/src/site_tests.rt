@@ -1,40 +1,93 @@
 use crate::{Site, SiteFault};
-use page_tree::{Page, Place};
+use client_log::Visit;
+use page_tree::{Page, Place, Text};
 use serde_json::Value;
+use site_hooks::SiteHooks;
 use std::alloc::Global;
 use std::test::Fail;
+use visit_replay::affected;
 
 const PAGE: &str =
     r#"{"n":"html","c":[{"n":"body","c":[{"n":"a","a":{"href":"/b"},"c":["go"]}]}]}"#;
 
 const OTHER: &str = r#"{"n":"p","c":["other"]}"#;
 
+const X_AND_Y: &str = r#"{"n":"html","c":[{"n":"p","c":["x"]},{"n":"b","c":["y"]}]}"#;
+
+const X_AND_Z: &str = r#"{"n":"html","c":[{"n":"p","c":["x"]},{"n":"b","c":["z"]}]}"#;
+
+const Z_AND_Y: &str = r#"{"n":"html","c":[{"n":"p","c":["z"]},{"n":"b","c":["y"]}]}"#;
+
 fn page(alloc: Global, text: &str) -> Result<Page, Fail> {
     let value = Value::from_str(alloc, text)?;
     Ok(Page::from_value(alloc, &value)?)
 }
 
+// Whether the site's page at an address is this one.
+fn shows(alloc: Global, site: &Site, address: &str, text: &str) -> Result<bool, Fail> {
+    match site.table().make(address)? {
+        None => Ok(false),
+        Some(found) => Ok(found.same(&page(alloc, text)?)),
+    }
+}
+
+// Whether a visit to an address is replayed.
+fn affects(alloc: Global, site: &Site, address: &str) -> Result<bool, Fail> {
+    let address = Text::from_str(alloc, address)?;
+    let visit = Visit::loaded(alloc, 1, 0, 0, address, page(alloc, PAGE)?, 1);
+    Ok(affected(site.patch(), &visit))
+}
+
+// Whether a conflict is signalled between two pages.
+fn signals(alloc: Global, site: &Site, old: &str, new: &str) -> Result<bool, Fail> {
+    Ok(
+        site.table()
+            .signals("/p", &page(alloc, old)?, &page(alloc, new)?)?,
+    )
+}
+
 #[test]
 fn reads_a_site(rt: HostRuntime) -> Result<(), Fail> {
     let alloc = rt.alloc();
-    let line = format!(in alloc; "{{\"patched\":[\"/a\"],\"pages\":{{\"/a\":{PAGE}}}}}")?;
+    let line = format!(in alloc;
+        "{{\"patched\":[\"/a\"],\"pages\":{{\"/a\":{PAGE}}},\"watch\":[\"/html/p\"],\"quota\":7}}"
+    )?;
     let site = Site::read(alloc, line.as_bytes())?;
-    let expected = page(alloc, PAGE)?;
-    assert!(rt; site.affects("/a"));
-    let Some(found) = site.page("/a") else {
-        return Err(Fail::new("no page"));
-    };
-    assert!(rt; found.same(&expected));
-    assert!(rt; site.page("/a?x").is_none());
-    assert!(rt; site.page("/").is_none());
-    assert!(rt; site.page("/ab").is_none());
+    assert!(rt; affects(alloc, &site, "/a")?);
+    assert!(rt; shows(alloc, &site, "/a", PAGE)?);
+    assert!(rt; !shows(alloc, &site, "/a", OTHER)?);
+    for address in ["/a?x", "/", "/ab", ""] {
+        assert!(rt; site.table().make(address)?.is_none(), "at {address}");
+    }
+    assert!(rt; signals(alloc, &site, X_AND_Y, Z_AND_Y)?);
+    assert_eq!(rt; site.quota().bytes(), 7);
+    Ok(())
+}
+
+#[test]
+fn needs_no_member(rt: HostRuntime) -> Result<(), Fail> {
+    let alloc = rt.alloc();
+    for line in [
+        &b"{}"[..],
+        b" { } ",
+        br#"{"x":null,"Quota":3}"#,
+        br#"{"patched":[],"pages":{},"watch":[],"quota":1048576}"#,
+    ] {
+        let site = Site::read(alloc, line)?;
+        assert!(rt; !affects(alloc, &site, "/a")?);
+        assert!(rt; !affects(alloc, &site, "")?);
+        assert!(rt; site.table().make("/a")?.is_none());
+        assert!(rt; site.table().make("")?.is_none());
+        assert!(rt; !signals(alloc, &site, X_AND_Y, PAGE)?);
+        assert_eq!(rt; site.quota().bytes(), 1_048_576);
+    }
     Ok(())
 }
 
 #[test]
 fn looks_at_an_address_before_its_mark(rt: HostRuntime) -> Result<(), Fail> {
     let alloc = rt.alloc();
-    let site = Site::read(alloc, br#"{"patched":["/a","","/d?x","/a"]}"#)?;
+    let site = Site::read(alloc, br#"{"patched":["/d?x","/a","","/a"]}"#)?;
     let cases = [
         ("/a", true),
         ("/a?x", true),
@@ -48,13 +101,9 @@ fn looks_at_an_address_before_its_mark(rt: HostRuntime) -> Result<(), Fail> {
         ("#", true),
         ("", true),
     ];
-    for (address, affected) in cases {
-        assert_eq!(rt; site.affects(address), affected, "at {address}");
+    for (address, want) in cases {
+        assert_eq!(rt; affects(alloc, &site, address)?, want, "at {address}");
     }
-    let empty = Site::read(alloc, b"{}")?;
-    assert!(rt; !empty.affects("/a"));
-    assert!(rt; !empty.affects("?z"));
-    assert!(rt; empty.page("/a").is_none());
     Ok(())
 }
 
@@ -62,54 +111,128 @@ fn looks_at_an_address_before_its_mark(rt: HostRuntime) -> Result<(), Fail> {
 fn lets_the_last_of_equal_members_count(rt: HostRuntime) -> Result<(), Fail> {
     let alloc = rt.alloc();
     let line = format!(in alloc;
-        "{{\"x\":null,\"patched\":7,\"pages\":{{\"/a\":3,\"\\u002fa\":{OTHER},\"/\":{PAGE}}},\"patched\":[\"/b\"]}}"
+        "{{\"x\":null,\"patched\":7,\"quota\":0,\"watch\":7,\"pages\":{{\"/a\":3,\"\\u002fa\":{OTHER},\"/\":{PAGE}}},\"patched\":[\"/b\"],\"watch\":[],\"quota\":2}}"
     )?;
     let site = Site::read(alloc, line.as_bytes())?;
-    assert!(rt; site.affects("/b"));
-    let Some(found) = site.page("/a") else {
-        return Err(Fail::new("no page"));
-    };
-    assert_eq!(rt; found.name(&Place::root(alloc)), Some("p"));
-    let Some(other) = site.page("/") else {
-        return Err(Fail::new("no other page"));
-    };
-    assert_eq!(rt; other.name(&Place::root(alloc)), Some("html"));
+    assert!(rt; affects(alloc, &site, "/b")?);
+    assert!(rt; shows(alloc, &site, "/a", OTHER)?);
+    assert!(rt; shows(alloc, &site, "/", PAGE)?);
+    assert_eq!(rt; site.quota().bytes(), 2);
     Ok(())
 }
 
 #[test]
-fn refuses_what_is_no_site(rt: HostRuntime) {
-    let cases: [(&[u8], SiteFault); 23] = [
-        (b"", SiteFault::NotJson),
-        (b"{", SiteFault::NotJson),
-        (b"\xff", SiteFault::NotJson),
-        (b"{\"x\":\"\xff\"}", SiteFault::NotJson),
-        (b"{} {}", SiteFault::NotJson),
-        (b"{\"x\":1e999}", SiteFault::NotJson),
-        (b"[]", SiteFault::BadMember),
-        (b"null", SiteFault::BadMember),
-        (b"{\"patched\":\"/a\"}", SiteFault::BadMember),
-        (b"{\"patched\":null}", SiteFault::BadMember),
-        (b"{\"patched\":[\"/a\",7]}", SiteFault::BadMember),
-        (b"{\"pages\":[]}", SiteFault::BadMember),
-        (b"{\"pages\":null}", SiteFault::BadMember),
-        (b"{\"pages\":{\"/a\":\"text\"}}", SiteFault::BadMember),
-        (
-            b"{\"pages\":{\"/a\":{\"n\":\"p\"},\"/b\":{\"n\":\"1x\"}}}",
-            SiteFault::BadMember,
-        ),
-        (b"{\"quota\":null}", SiteFault::BadMember),
-        (b"{\"quota\":1048576}", SiteFault::BadMember),
-        (b"{\"watch\":null}", SiteFault::BadMember),
-        (b"{\"watch\":[]}", SiteFault::BadMember),
-        (b"{\"decide\":null}", SiteFault::BadMember),
-        (b"{\"decide\":[]}", SiteFault::BadMember),
-        (b"{\"workers\":null}", SiteFault::BadMember),
-        (b"{\"workers\":1}", SiteFault::BadMember),
-    ];
-    for (line, fault) in cases {
-        assert_eq!(rt; Site::read(rt.alloc(), line).err(), Some(fault));
+fn watches_each_path(rt: HostRuntime) -> Result<(), Fail> {
+    let alloc = rt.alloc();
+    // whether each of the two texts is watched
+    for (watch, first, second) in [
+        ("[]", false, false),
+        (r#"["/html/p"]"#, true, false),
+        (r#"["/html/b"]"#, false, true),
+        (r#"["/html/b","/html/p"]"#, true, true),
+        (r#"["/*"]"#, true, true),
+        (r#"["/html/*[2]"]"#, false, true),
+        (r#"["\u002fhtml/p[1]","/html/i"]"#, true, false),
+        (r#"["/html/p","/html/p"]"#, true, false),
+        // it selects two places on both pages
+        (r#"["/html/*"]"#, false, false),
+    ] {
+        let line = format!(in alloc; "{{\"watch\":{watch}}}")?;
+        let site = Site::read(alloc, line.as_bytes())?;
+        assert!(rt; !signals(alloc, &site, X_AND_Y, X_AND_Y)?, "{watch}");
+        assert_eq!(rt; signals(alloc, &site, X_AND_Y, Z_AND_Y)?, first, "{watch}");
+        assert_eq!(rt; signals(alloc, &site, X_AND_Y, X_AND_Z)?, second, "{watch}");
     }
+    Ok(())
+}
+
+#[test]
+fn takes_each_quota_in_range(rt: HostRuntime) -> Result<(), Fail> {
+    let alloc = rt.alloc();
+    for (quota, bytes) in [
+        ("1", 1),
+        ("1048576", 1_048_576),
+        ("4294967295", 4_294_967_295),
+    ] {
+        let line = format!(in alloc; "{{\"quota\":{quota}}}")?;
+        let site = Site::read(alloc, line.as_bytes())?;
+        assert_eq!(rt; site.quota().bytes(), bytes);
+    }
+    Ok(())
+}
+
+#[test]
+fn refuses_what_is_no_json(rt: HostRuntime) {
+    for line in [
+        &b""[..],
+        b"{",
+        b"\xff",
+        b"{\"x\":\"\xff\"}",
+        b"{} {}",
+        b"{\"x\":1e999}",
+    ] {
+        assert_eq!(rt;
+            Site::read(rt.alloc(), line).err(),
+            Some(SiteFault::NotJson)
+        );
+    }
+}
+
+#[test]
+fn refuses_what_is_no_site(rt: HostRuntime) -> Result<(), Fail> {
+    let alloc = rt.alloc();
+    for text in [
+        "[]",
+        "null",
+        r#"{"patched":"/a"}"#,
+        r#"{"patched":null}"#,
+        r#"{"patched":["/a",7]}"#,
+        r#"{"pages":[]}"#,
+        r#"{"pages":null}"#,
+        r#"{"pages":{"/a":"text"}}"#,
+        r#"{"pages":{"/a":{"n":"p"},"/b":{"n":"1x"}}}"#,
+        r#"{"watch":null}"#,
+        r#"{"watch":"/html"}"#,
+        r#"{"watch":{}}"#,
+        r#"{"watch":[7]}"#,
+        r#"{"watch":["/html",null]}"#,
+        r#"{"watch":[""]}"#,
+        r#"{"watch":["html"]}"#,
+        r#"{"watch":["/html/"]}"#,
+        r#"{"watch":["/html","/p[0]"]}"#,
+        r#"{"watch":["/1x"]}"#,
+        r#"{"quota":0}"#,
+        r#"{"quota":4294967296}"#,
+        r#"{"quota":18446744073709551616}"#,
+        r#"{"quota":-1}"#,
+        r#"{"quota":1.0}"#,
+        r#"{"quota":"1"}"#,
+        r#"{"quota":null}"#,
+        r#"{"quota":[1]}"#,
+    ] {
+        assert_eq!(rt;
+            Site::read(alloc, text.as_bytes()).err(),
+            Some(SiteFault::BadMember),
+            "{text}"
+        );
+    }
+    Ok(())
+}
+
+#[test]
+fn refuses_a_later_member_of_any_value(rt: HostRuntime) -> Result<(), Fail> {
+    let alloc = rt.alloc();
+    for name in ["decide", "workers"] {
+        for value in ["null", "false", "1", "\"\"", "[]", "{}"] {
+            let line = format!(in alloc; "{{\"patched\":[],\"{name}\":{value}}}")?;
+            assert_eq!(rt;
+                Site::read(alloc, line.as_bytes()).err(),
+                Some(SiteFault::BadMember),
+                "{name} {value}"
+            );
+        }
+    }
+    Ok(())
 }
 
 #[test]

@@ -8,8 +8,8 @@ pub enum Status {
     Done,
     /// The first line is no site.
     BadSite,
-    /// What follows is no upload.
-    BadUpload,
+    /// What follows does not begin with a hello.
+    BadHello,
     /// An allocation was refused.
     OutOfMemory,
     /// A read of the site line failed, or a write of the report failed or took nothing.
@@ -24,7 +24,7 @@ impl Status {
         match self {
             Status::Done => 0,
             Status::BadSite => 3,
-            Status::BadUpload => 4,
+            Status::BadHello => 4,
             Status::OutOfMemory => 5,
             Status::InputOutput => 6,
         }
@@ -37,7 +37,7 @@ impl Status {
         match self {
             Status::Done => None,
             Status::BadSite => Some("bad site"),
-            Status::BadUpload => Some("bad hello"),
+            Status::BadHello => Some("bad hello"),
             Status::OutOfMemory => Some("no memory"),
             Status::InputOutput => Some("input or output failed"),
         }

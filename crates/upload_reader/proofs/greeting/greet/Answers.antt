@@ -2,7 +2,7 @@ use Rattle.std.proofs.Common.{◌+◌, ◌≤◌, is_some, add-zero, Ok, Err, sy
 use Rattle.std.proofs.lemmas.Result.{err_from_is_err_and}
 use Rattle.upload_reader.specs.Cutting.{ending_of}
 use Rattle.upload_reader.specs.Lines.{lines_answers, lines_place, lines_fault}
-use Rattle.upload_reader.proofs.Searching.{reads_then}
+use Rattle.upload_reader.proofs.Searching.{reads_then, again_then}
 use Rattle.upload_reader.proofs.GreetingLoop.{passes_then, says_then, needed_then}
 use Rattle.upload_reader.proofs.greeting.greet.Goals as goal
 
@@ -38,6 +38,7 @@ loop-client-preserved g c =
     record {
       reads = reads_then _ _ _ _ _ _ c.loop-client.invariant.reads c.greet_line.ensures.reads;
       same = c.greet_line.ensures.same ∙ c.loop-client.invariant.same;
+      again = again_then c.args.lines.now c.loop-client.lines c.greet_line.new.lines c.loop-client.invariant.again c.greet_line.ensures.again;
       place = omega (arith, c.loop-client.invariant.place, c.in_ok-client.ensures.further);
       fault = c.in_ok-client.ensures.fresh ∙ c.loop-client.invariant.fault;
       goes = passes_then (lines_fault c.args.lines.now) (lines_place c.args.lines.now) (lines_place c.loop-client.lines) c.loop-client.passed (lines_answers c.loop-client.lines) (lines_answers c.greet_line.new.lines)

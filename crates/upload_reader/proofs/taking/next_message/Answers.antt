@@ -3,7 +3,7 @@ use Rattle.std.proofs.lemmas.Result.{err_from_is_err_and}
 use Rattle.upload_reader.specs.Cutting.{ending_of}
 use Rattle.upload_reader.specs.Lines.{lines_answers, lines_place, lines_fault}
 use Rattle.upload_reader.specs.Taking.{lane_of, taken_of}
-use Rattle.upload_reader.proofs.Searching.{reads_then}
+use Rattle.upload_reader.proofs.Searching.{reads_then, again_then}
 use Rattle.upload_reader.proofs.LoopLaws.{continues_then, ends_then, needed_then, given_none}
 use Rattle.upload_reader.proofs.taking.next_message.Goals as goal
 
@@ -37,6 +37,7 @@ pub loop-costed-preserved : goal.loop-costed-preserved
 loop-costed-preserved g c = record {
   reads = reads_then _ _ _ _ _ _ c.loop-costed.invariant.reads c.take_next.ensures.reads;
   same = c.take_next.ensures.same ∙ c.loop-costed.invariant.same;
+  again = again_then c.args.lines.now c.loop-costed.lines c.take_next.new.lines c.loop-costed.invariant.again c.take_next.ensures.again;
   lane = c.take_next.ensures.lane ∙ c.loop-costed.invariant.lane;
   numbered = c.take_next.ensures.numbered;
   going = c.in_ok-costed.ensures.going;

@@ -1,4 +1,4 @@
-use Rattle.std.proofs.Common.{◌≡◌, ◌+◌, ◌-◌, ◌*◌, ◌≤◌}
+use Rattle.std.proofs.Common.{◌≡◌, ◌+◌, ◌-◌, ◌*◌, ◌≤◌, IfSome}
 use Rattle.upload_reader.specs.Answers.{failures_of}
 use Rattle.upload_reader.specs.Lines.{lines_answers, lines_place, lines_input, lines_fault, lines_reader}
 use Rattle.upload_reader.specs.Reading.{ReadsOn}
@@ -9,6 +9,7 @@ abbrev pub invariant-loop-costed : goal.invariant-loop-costed
 invariant-loop-costed g l = record {
   reads : ReadsOn (lines_answers l.initial.lines) (lines_answers l.lines) (g.R.Source.answers (lines_reader l.initial.lines)) (g.R.Source.answers (lines_reader l.lines));
   same : g.R.Source.lender (lines_reader l.lines) ≡ g.R.Source.lender (lines_reader l.initial.lines);
+  again : IfSome (lines_fault l.initial.lines) (λ _. l.lines ≡ l.initial.lines);
   lane : lane_of l.progress ≡ lane_of l.initial.progress;
   numbered : (taken_of l.progress).lines ≤ lines_place l.lines;
   going : lines_fault l.lines ≡ (lane_of l.progress).fault;
