@@ -14,3 +14,13 @@ pub trait SiteHooks: SiteLaw + Sync {
     fn signals(&self, address: &str, old: &Page, new: &Page) -> Result<bool, NoMemory>
         ensures { IfOk result (λ signalled. signalled ≡ Self.signals self.now address.now old.now new.now) };
 }
+
+impl<H: SiteHooks> SiteHooks for &H {
+    fn make(&self, address: &str) -> Result<Option<Page>, NoMemory> {
+        (**self).make(address)
+    }
+
+    fn signals(&self, address: &str, old: &Page, new: &Page) -> Result<bool, NoMemory> {
+        (**self).signals(address, old, new)
+    }
+}

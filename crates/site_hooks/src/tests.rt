@@ -79,6 +79,8 @@ fn table_looks_the_whole_address_up(rt: HostRuntime) -> Result<(), Fail> {
             want,
             "at {address}"
         );
+        // A reference to a site is one.
+        assert_eq!(rt; words_at(alloc, &&table, address)?.as_str(), want);
     }
 
     // A later page of the same address replaces.

@@ -35,7 +35,7 @@ pub(crate) struct Progress {
 
 impl Progress {
     ghost use Rattle.upload_reader.specs.Taking.{lane_of, taken_of, costed_in, ended_by, line_ending, failures_in, TakesLine};
-    ghost use Rattle.upload_reader.specs.Stream.{take_line, take_message};
+    ghost use Rattle.upload_reader.specs.Stream.{take_line, take_message, MayFollow};
     ghost use Rattle.upload_reader.specs.Positive.{IsPositive};
 
     /// A lane that begins behind this session and so many lines. The fault is the one that its lines have.
@@ -73,6 +73,7 @@ impl Progress {
         ensures turn { TakesLine result (take_line (lane_of self.old).earlier (taken_of self.old) line.now) (taken_of self.old) (taken_of self.new) }
         ensures given { IfOk result (λ costed. (taken_of self.new).given ≡ (taken_of self.old).given ++ costed_in costed) }
         ensures priced { IfOk result (λ costed. IfSome costed (λ it. IsPositive it.0 it.1)) }
+        ensures lawful { IfOk result (λ costed. IfSome costed (λ it. MayFollow (lane_of self.old) (taken_of self.old).given it.0)) }
         ensures lines { OnOk result ((taken_of self.new).lines ≤ (taken_of self.old).lines + 1) }
         ensures same { OnErr result (taken_of self.new ≡ taken_of self.old) }
         ensures no_read { IfErr result (λ ending. failures_in ending ≡ 0) }
@@ -101,6 +102,7 @@ impl Progress {
         ensures turn { TakesLine result (take_message (lane_of self.old).earlier (taken_of self.old) message cost) (taken_of self.old) (taken_of self.new) }
         ensures given { IfOk result (λ costed. (taken_of self.new).given ≡ (taken_of self.old).given ++ costed_in costed) }
         ensures priced { IfOk result (λ costed. IfSome costed (λ it. IsPositive it.0 it.1)) }
+        ensures lawful { IfOk result (λ costed. IfSome costed (λ it. MayFollow (lane_of self.old) (taken_of self.old).given it.0)) }
         ensures lines { OnOk result ((taken_of self.new).lines ≤ (taken_of self.old).lines + 1) }
         ensures same { OnErr result (taken_of self.new ≡ taken_of self.old) }
     {

@@ -1,5 +1,5 @@
 //! Readers that remember how their last read ended.
-ghost use Rattle.std.specs.Prelude.{◌≡◌, [], ◌∷◌, ◌++◌, List, Option, Some, None};
+ghost use Rattle.std.specs.Prelude.{◌≡◌, ◌<◌, length, [], ◌∷◌, ◌++◌, List, Option, Some, None};
 ghost use Rattle.std.specs.Borrow.{GName};
 ghost use Rattle.std.specs.Io.{ReadsAtMost};
 ghost use Rattle.std.specs.Io.KnownBytes.{ReadConsumes};
@@ -36,8 +36,9 @@ pub trait Source: Read + Send {
     fn last(&self) -> Last
         ensures { result ≡ last_of (answers self.now) };
 
-    /// One read.
+    /// One read, with room for at least one byte. So where it gives none, the input has ended.
     fn draw(&mut self, buf: &mut [u8]) -> io::Result<usize>
+        requires room { 0 < length buf.old }
         ensures bound { ReadsAtMost result buf.new }
         ensures bytes { ReadConsumes (Self.remaining self.old) (Self.remaining self.new) result buf.new }
         ensures told { answers self.new ≡ answers self.old ++ answer_of result buf.new ∷ [] }

@@ -6,6 +6,7 @@ ghost use Rattle.upload_reader.specs.Limits.{max_reads, read_bytes};
 ghost use Rattle.upload_reader.specs.Lines.{lines_answers, lines_place, lines_input, lines_fault, lines_reader};
 ghost use Rattle.upload_reader.specs.Positive.{IsPositive};
 ghost use Rattle.upload_reader.specs.Reading.{ReadsOn};
+ghost use Rattle.upload_reader.specs.Stream.{MayFollow};
 ghost use Rattle.upload_reader.specs.Taking.{lane_of, taken_of, costed_in, Continues, EndsAs, OnlyNeeded, failures_by};
 
 use crate::ending::Ending;
@@ -33,6 +34,7 @@ pub(crate) fn next_message<R: Source>(
     ensures goes { OnOk result (Continues (lane_of progress.old) (lines_place lines.old) (lines_place lines.new) (taken_of progress.old) (taken_of progress.new) (lines_input lines.new)) }
     ensures given { IfOk result (λ costed. (taken_of progress.new).given ≡ (taken_of progress.old).given ++ costed ∷ []) }
     ensures priced { IfOk result (λ costed. IsPositive costed.0 costed.1) }
+    ensures lawful { IfOk result (λ costed. MayFollow (lane_of progress.old) (taken_of progress.old).given costed.0) }
     ensures ends { IfErr result (λ ending. EndsAs (lane_of progress.old) (lines_place lines.old) (taken_of progress.old) (lines_input lines.new) (ending_of (lines_answers lines.new)) ending) }
     ensures none { OnErr result ((taken_of progress.new).given ≡ (taken_of progress.old).given) }
     ensures needed { OnlyNeeded (lane_of progress.old) (lines_place lines.old) (taken_of progress.old) (lines_answers lines.old) (lines_answers lines.new) }
@@ -66,6 +68,7 @@ fn take_next<R: Source>(
     ensures goes { OnOk result (Continues (lane_of progress.old) (lines_place lines.old) (lines_place lines.new) (taken_of progress.old) (taken_of progress.new) (lines_input lines.new)) }
     ensures given { IfOk result (λ costed. (taken_of progress.new).given ≡ (taken_of progress.old).given ++ costed_in costed) }
     ensures priced { IfOk result (λ costed. IfSome costed (λ it. IsPositive it.0 it.1)) }
+    ensures lawful { IfOk result (λ costed. IfSome costed (λ it. MayFollow (lane_of progress.old) (taken_of progress.old).given it.0)) }
     ensures ends { IfErr result (λ ending. EndsAs (lane_of progress.old) (lines_place lines.old) (taken_of progress.old) (lines_input lines.new) (ending_of (lines_answers lines.new)) ending) }
     ensures none { OnErr result (taken_of progress.new ≡ taken_of progress.old) }
     ensures needed { OnlyNeeded (lane_of progress.old) (lines_place lines.old) (taken_of progress.old) (lines_answers lines.old) (lines_answers lines.new) }

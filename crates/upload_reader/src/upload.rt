@@ -8,7 +8,7 @@ ghost use Rattle.upload_reader.specs.Answers.{failures_of};
 ghost use Rattle.upload_reader.specs.Cutting.{ending_of, StopsAtEnd};
 ghost use Rattle.upload_reader.specs.Lines.{lines_answers, lines_input, lines_place, lines_fault, lines_reader};
 ghost use Rattle.upload_reader.specs.Reading.{ReadsOn};
-ghost use Rattle.upload_reader.specs.Stream.{untaken, messages_of};
+ghost use Rattle.upload_reader.specs.Stream.{untaken, messages_of, MayFollow};
 ghost use Rattle.upload_reader.specs.Taking.{lane_of, taken_of, Continues, FirstOf, StreamEnds, ReadsAsNeeded};
 
 use crate::client::Client;
@@ -149,7 +149,8 @@ impl<R: Source> Upload<R> {
         ensures over { IfOver result (StreamEnds (upload_lane self.new) (upload_start self.new) (upload_given self.new) (upload_input self.new) (ending_of (upload_answers self.new))) }
         ensures real { IfOver result (λ end. is_real end ≡ true) }
 
-        // Its cost and the number of its visit are at least 1. No more messages are given than a lane may have.
+        // A message may follow those before it. Its cost and the number of its visit are at least 1. No more are given than a lane may have.
+        ensures lawful { IfGot result (λ message cost. MayFollow (upload_lane self.old) (upload_given self.old) message) }
         ensures priced { IfGot result IsPositive }
         ensures few { length (upload_given self.new) ≤ max_messages }
 
