@@ -33,4 +33,6 @@ mod report_tests;
 #[cfg(test)]
 mod run_tests;
 #[cfg(test)]
+mod sink_tests;
+#[cfg(test)]
 mod site_tests;

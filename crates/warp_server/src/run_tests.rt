@@ -36,6 +36,14 @@ fn joined(alloc: Global, lines: &[&str]) -> Result<String, AllocError> {
     Ok(text)
 }
 
+// How a run on that input ends, and what it writes.
+fn ran(rt: &(impl Abort + AllocGlobal), input: Drip, sip: usize) -> (Status, Vec<u8>) {
+    let mut reader = Fed::new(input);
+    let mut sips = Sips::new(rt.alloc(), sip, None);
+    let status = run(rt, &mut reader, &mut Told::new(&mut sips));
+    (status, sips.taken)
+}
+
 fn runs_to(
     rt: &(impl Abort + AllocGlobal),
     input: &str,
@@ -43,28 +51,46 @@ fn runs_to(
     status: Status,
     report: &str,
 ) -> Result<(), Fail> {
-    let mut reader = Fed::new(Drip::new(rt.alloc(), input.as_bytes(), piece)?);
-    let mut sips = Sips::new(rt.alloc(), 7, None);
-    let answer = run(rt, &mut reader, &mut Told::new(&mut sips));
-    assert_eq!(rt; answer, status, "at {input} in pieces of {piece}");
+    let (ends, text) = ran(rt, Drip::new(rt.alloc(), input.as_bytes(), piece)?, 7);
+    assert_eq!(rt; ends, status, "at {input} in pieces of {piece}");
     assert!(rt;
-        sips.taken.as_slice() == report.as_bytes(),
+        text.as_slice() == report.as_bytes(),
         "at {input} in pieces of {piece}"
     );
     Ok(())
 }
 
-// What a run on the site and these lines writes, and how it ends.
-fn said(rt: &(impl Abort + AllocGlobal), site: &str, lines: &[&str]) -> Result<String, Fail> {
+// What a run on the site and these lines writes behind its status, where the reads give pieces of that length.
+fn said(
+    rt: &(impl Abort + AllocGlobal),
+    site: &str,
+    lines: &[&str],
+    piece: usize,
+) -> Result<String, Fail> {
     let alloc = rt.alloc();
     let mut input = String::from_str(alloc, site)?;
     input.push_str("\n")?;
     input.push_str(joined(alloc, lines)?.as_str())?;
-    let mut reader = Fed::new(Drip::new(alloc, input.as_bytes(), 8192)?);
-    let mut sips = Sips::new(alloc, 4096, None);
-    let status = run(rt, &mut reader, &mut Told::new(&mut sips));
-    let text = String::from_utf8_lossy(alloc, sips.taken.as_slice())?;
+    let (status, text) = ran(rt, Drip::new(alloc, input.as_bytes(), piece)?, 4096);
+    let text = String::from_utf8(text)?;
     Ok(format!(in alloc; "{} {}", status.code(), text.as_str())?)
+}
+
+// A run on the site and these lines ends and writes so, however the reads cut the input.
+fn says(
+    rt: &(impl Abort + AllocGlobal),
+    site: &str,
+    lines: &[&str],
+    want: &str,
+) -> Result<(), Fail> {
+    for piece in [1, 7, 8192] {
+        assert_eq!(rt;
+            said(rt, site, lines, piece)?.as_str(),
+            want,
+            "at {site} in pieces of {piece}"
+        );
+    }
+    Ok(())
 }
 
 #[test]
@@ -87,12 +113,20 @@ fn reports_one_link(rt: HostRuntime) -> Result<(), Fail> {
     Ok(())
 }
 
-// What stands behind the bye is not looked at.
+// What stands behind the bye is not looked at, and not read where it didn't come with the bye.
 #[test]
 fn stops_at_the_bye(rt: HostRuntime) -> Result<(), Fail> {
-    let mut input = joined(rt.alloc(), &[SITE, HELLO, LOAD, CLICK, END, BYE])?;
+    let alloc = rt.alloc();
+    let mut input = joined(alloc, &[SITE, HELLO, LOAD, CLICK, END, BYE])?;
+    let needed = u32::try_from(input.len())?;
     input.push_str("{ no more")?;
-    runs_to(&rt, input.as_str(), 1, Status::Done, REPORT)
+    let mut drip = Drip::new(alloc, input.as_bytes(), 1)?;
+    let mut sips = Sips::new(alloc, 7, None);
+    let status = run(&rt, &mut Fed::new(&mut drip), &mut Told::new(&mut sips));
+    assert_eq!(rt; status, Status::Done);
+    assert!(rt; sips.taken.as_slice() == REPORT.as_bytes());
+    assert_eq!(rt; drip.reads, needed);
+    Ok(())
 }
 
 #[test]
@@ -171,7 +205,7 @@ const LANES: [(&[&str], &str); 9] = [
 #[test]
 fn tells_how_a_lane_ended(rt: HostRuntime) -> Result<(), Fail> {
     for (lines, want) in LANES {
-        assert_eq!(rt; said(&rt, SITE, lines)?.as_str(), want);
+        says(&rt, SITE, lines, want)?;
     }
     Ok(())
 }
@@ -196,12 +230,57 @@ fn keeps_to_the_quota(rt: HostRuntime) -> Result<(), Fail> {
     ];
     for (quota, want) in cases {
         let site = format!(in rt.alloc(); "{start}{quota}")?;
-        let lines = [HELLO, LOAD, CLICK, END, BYE];
-        assert_eq!(rt;
-            said(&rt, site.as_str(), &lines)?.as_str(),
-            want,
-            "at {quota}"
-        );
+        says(&rt, site.as_str(), &[HELLO, LOAD, CLICK, END, BYE], want)?;
+    }
+    Ok(())
+}
+
+// A site whose guestbook was repaired. The page ends with a text area, which may hold something, and may have links behind its form.
+fn guestbook(alloc: Global, held: &str, links: &str) -> Result<String, AllocError> {
+    let form =
+        r#"{"n":"form","a":{"action":"/sign","method":"post"},"c":[{"n":"input","a":{"name":"from"}},{"n":"textarea","a":{"name":"text"},"c":["#;
+    format!(in alloc;
+        "{{\"patched\":[\"/guestbook\"],\"pages\":{{\"/guestbook\":{{\"n\":\"html\",\"c\":[{{\"n\":\"body\",\"c\":[{form}{held}]}}]}}{links}]}}]}}}}}}"
+    )
+}
+
+const VISITS: [&str; 12] = [
+    r#"{"t":"hello","client":"ann"}"#,
+    r#"{"t":"load","visit":1,"at":100,"path":"/guestbook","page":{"n":"html","c":[{"n":"body","c":[{"n":"form","a":{"action":"/sign","method":"post"},"c":[{"n":"input","a":{"name":"from"}},{"n":"textarea","a":{"name":"text"}}]},{"n":"a","a":{"href":"/evil"},"c":["Free gifts"]}]}]}}"#,
+    r#"{"t":"input","visit":1,"at":104,"target":"/html/body/form/input","value":"Ann"}"#,
+    r#"{"t":"input","visit":1,"at":109,"target":"/html/body/form/textarea","value":"Lovely site!"}"#,
+    r#"{"t":"submit","visit":1,"at":111,"target":"/html/body/form","req":1}"#,
+    r#"{"t":"end","visit":1,"at":112}"#,
+    r#"{"t":"load","visit":2,"at":120,"path":"/news","page":{"n":"html","c":[{"n":"body","c":["Nothing new"]}]}}"#,
+    r#"{"t":"end","visit":2,"at":125}"#,
+    r#"{"t":"load","visit":3,"at":130,"path":"/guestbook","page":{"n":"html","c":[{"n":"body","c":[{"n":"form","a":{"action":"/sign","method":"post"},"c":[{"n":"input","a":{"name":"from"}},{"n":"textarea","a":{"name":"text"}}]},{"n":"a","a":{"href":"/evil"},"c":["Free gifts"]}]}]}}"#,
+    r#"{"t":"click","visit":3,"at":131,"target":"/html/body/a","req":1}"#,
+    r#"{"t":"end","visit":3,"at":132}"#,
+    r#"{"t":"bye"}"#,
+];
+
+// Typing, a form that is sent, a visit to a page that wasn't patched, and a click on a link that is gone.
+#[test]
+fn reports_several_visits(rt: HostRuntime) -> Result<(), Fail> {
+    let alloc = rt.alloc();
+    let sent =
+        "visit 1 done\nload 0 \"/guestbook\"\npost 1 \"/sign\" \"from=Ann&text=Lovely+site%21\"\n";
+    let cases = [
+        ("", "", sent, "K2"),
+        ("", r#",{"n":"a"},{"n":"a"}"#, sent, "K3"),
+        (
+            r#""Dear""#,
+            "",
+            "visit 1 waiting K5 at 2\nload 0 \"/guestbook\"\n",
+            "K2",
+        ),
+    ];
+    for (held, links, first, kind) in cases {
+        let site = guestbook(alloc, held, links)?;
+        let want = format!(in alloc;
+            "0 stop none\nclient ann taken 10 end bye cost 957 lost 0\n{first}visit 2 untouched\nvisit 3 waiting {kind} at 1\nload 0 \"/guestbook\"\n"
+        )?;
+        says(&rt, site.as_str(), &VISITS, want.as_str())?;
     }
     Ok(())
 }
@@ -213,55 +292,49 @@ fn asks_the_site_for_watched_texts(rt: HostRuntime) -> Result<(), Fail> {
         r#"{"patched":["/a"],"pages":{"/a":{"n":"html","c":[{"n":"body","c":[{"n":"a","a":{"href":"/b"},"c":["went"]}]}]}},"watch":["/html/body/a"]}"#;
     let want =
         "0 stop none\nclient c1 taken 3 end bye cost 187 lost 0\nvisit 1 waiting K9 at 2\nload 0 \"/a\"\nget 1 \"/b\"\n";
-    let lines = [HELLO, LOAD, CLICK, END, BYE];
-    assert_eq!(rt; said(&rt, watched, &lines)?.as_str(), want);
-    Ok(())
+    says(&rt, watched, &[HELLO, LOAD, CLICK, END, BYE], want)
+}
+
+// How a run ends where only the first bytes of the upload come and then that fault, and what it writes.
+fn front(alloc: Global, bytes: usize, fault: &str) -> Result<(Status, String), Fail> {
+    let loaded = "visit 1 done\nload 0 \"/a\"\n";
+    let clicked = "visit 1 done\nload 0 \"/a\"\nget 1 \"/b\"\n";
+    let (taken, line, cost, visits) = match bytes {
+        0..=27 => return Ok((Status::BadHello, String::new(alloc))),
+        28..=153 => (0, 2, 0, ""),
+        154..=216 => (1, 3, 125, loaded),
+        217..=245 => (2, 4, 187, clicked),
+        246..=257 => (3, 5, 187, clicked),
+        _ => return Ok((Status::Done, String::from_str(alloc, REPORT)?)),
+    };
+    let text = format!(in alloc;
+        "stop none\nclient c1 taken {taken} end {fault}@{line} cost {cost} lost 0\n{visits}"
+    )?;
+    Ok((Status::Done, text))
 }
 
 // Each front of the upload, by itself and before a read that fails.
 #[test]
 fn reports_each_front_of_an_upload(rt: HostRuntime) -> Result<(), Fail> {
     let alloc = rt.alloc();
-    let site = joined(alloc, &[SITE])?;
-    let upload = joined(alloc, &[HELLO, LOAD, CLICK, END, BYE])?;
-    assert_eq!(rt; upload.len(), 258);
-    let loaded = "visit 1 done\nload 0 \"/a\"\n";
-    let clicked = "visit 1 done\nload 0 \"/a\"\nget 1 \"/b\"\n";
-    for k in 0..upload.len() + 1 {
-        let (taken, line, cost, visits) = match k {
-            0..=153 => (0, 2, 0, ""),
-            154..=216 => (1, 3, 125, loaded),
-            217..=245 => (2, 4, 187, clicked),
-            _ => (3, 5, 187, clicked),
-        };
-        for (fault, fails) in [("E3", false), ("E1", true)] {
-            let mut input = Vec::new(alloc);
-            input.extend_from_slice(site.as_bytes())?;
-            input.extend_from_slice(&upload.as_bytes()[..k])?;
-            let drip = if fails {
-                Drip::failing(alloc, input.as_slice(), 8192, input.len())?
-            } else {
-                Drip::new(alloc, input.as_slice(), 8192)?
-            };
-            let mut reader = Fed::new(drip);
-            let mut sips = Sips::new(alloc, 4096, None);
-            let status = run(&rt, &mut reader, &mut Told::new(&mut sips));
-            let want = if k < 28 {
-                String::new(alloc)
-            } else if k == 258 {
-                String::from_str(alloc, REPORT)?
-            } else {
-                format!(in alloc;
-                    "stop none\nclient c1 taken {taken} end {fault}@{line} cost {cost} lost 0\n{visits}"
-                )?
-            };
-            let ends = if k < 28 {
-                Status::BadHello
-            } else {
-                Status::Done
-            };
-            assert_eq!(rt; status, ends, "at {k}");
-            assert!(rt; sips.taken.as_slice() == want.as_bytes(), "at {k}");
+    let input = joined(alloc, &[SITE, HELLO, LOAD, CLICK, END, BYE])?;
+    let site = SITE.len() + 1;
+    assert_eq!(rt; input.len(), site + 258);
+    for bytes in 0..259 {
+        let part = &input.as_bytes()[..site + bytes];
+        let (status, truncated) = front(alloc, bytes, "E3")?;
+        let (_, failed) = front(alloc, bytes, "E1")?;
+        for piece in [1, 8192] {
+            let (ends, text) = ran(&rt, Drip::new(alloc, part, piece)?, 4096);
+            assert_eq!(rt; ends, status, "at {bytes}");
+            assert!(rt; text.as_slice() == truncated.as_bytes(), "at {bytes}");
+            let gap = Drip::failing(alloc, input.as_bytes(), piece, part.len())?;
+            let (ends, text) = ran(&rt, gap, 4096);
+            assert_eq!(rt; ends, status, "before a failed read at {bytes}");
+            assert!(rt;
+                text.as_slice() == failed.as_bytes(),
+                "before a failed read at {bytes}"
+            );
         }
     }
     Ok(())
@@ -277,14 +350,14 @@ fn takes_any_byte_in_an_upload(rt: HostRuntime) -> Result<(), Fail> {
             let mut bytes = Vec::new(alloc);
             bytes.extend_from_slice(input.as_bytes())?;
             bytes[at] = byte;
-            let mut reader = Fed::new(Drip::new(alloc, bytes.as_slice(), 8192)?);
-            let mut sips = Sips::new(alloc, 4096, None);
-            let status = run(&rt, &mut reader, &mut Told::new(&mut sips));
-            assert!(rt;
-                status == Status::Done || status == Status::BadHello,
-                "at {at}"
-            );
-            assert_eq!(rt; status == Status::Done, !sips.taken.is_empty(), "at {at}");
+            for piece in [1, 8192] {
+                let (status, text) = ran(&rt, Drip::new(alloc, bytes.as_slice(), piece)?, 4096);
+                assert!(rt;
+                    status == Status::Done || status == Status::BadHello,
+                    "at {at}"
+                );
+                assert_eq!(rt; status == Status::Done, !text.is_empty(), "at {at}");
+            }
         }
     }
     Ok(())

@@ -1,5 +1,5 @@
 //! Writers that remember whether their last write moved bytes.
-ghost use Rattle.std.specs.Prelude.{◌≡◌, [], ◌∷◌, ◌++◌, List};
+ghost use Rattle.std.specs.Prelude.{◌≡◌, ◌<◌, length, [], ◌∷◌, ◌++◌, List};
 ghost use Rattle.std.specs.Io.{WritesAtMost};
 ghost use Rattle.std.specs.Io.KnownBytes.{WriteAppends, Keeps};
 ghost use Rattle.upload_reader.specs.Answers.{Answer, answer_of, last_moved_nothing};
@@ -19,8 +19,9 @@ pub trait Sink: Write {
     fn failed(&self) -> bool
         ensures { result ≡ last_moved_nothing (puts self.now) };
 
-    /// One write.
+    /// One write, of at least one byte. So where it takes none, the writer takes no more.
     fn put(&mut self, buf: &[u8]) -> io::Result<usize>
+        requires some { 0 < length buf.now }
         ensures bound { WritesAtMost result buf.now }
         ensures bytes { WriteAppends (Self.contents self.old) (Self.contents self.new) result buf.now }
         ensures told { puts self.new ≡ puts self.old ++ answer_of result buf.now ∷ [] };
