@@ -1,17 +1,19 @@
 -- What reading the site line and the lane behind it gives, by how lines are cut.
-use Rattle.std.proofs.Common.{◌≡◌, ◌≢◌, ℕ, ◌+◌, List, [], ◌∷◌, ◌++◌, length, drop, Option, Some, None, Result, Ok, Err, refl, sym, ◌∙◌, ap, arith, inl, inr, append_assoc}
+use Rattle.std.proofs.Common.{◌≡◌, ◌≢◌, ℕ, ◌+◌, List, [], ◌++◌, length, drop, Option, Some, Result, Ok, Err, refl, sym, ◌∙◌, ap, arith, inl, inr, append_assoc}
 use Rattle.std.specs.Option.{unwrap_or}
 use Rattle.std.proofs.lemmas.Grind.{flat_map-append}
 use Rattle.serde_json.specs.Data.{Data}
 use Rattle.upload_reader.specs.Answers.{Answer, bytes_of}
-use Rattle.upload_reader.specs.Cutting.{ending_of}
+use Rattle.upload_reader.specs.Cutting.{ending_of, StopsAtEnd}
+use Rattle.upload_reader.specs.Reading.{EachNeeded as EachNeededToCut}
 use Rattle.upload_reader.specs.declared.fault.LineFault.{LineFault}
 use Rattle.upload_reader.specs.declared.fault.LineFault.TheVariants.{ReadFailed, TooManyReads, Truncated, LineTooLong, NoMemory}
 use Rattle.upload_reader.proofs.CutLaws.{cut_longer}
 use Rattle.warp_server.specs.Site.{Site as PlainSite, IsJsonOf, IsSiteOf}
 use Rattle.warp_server.specs.SiteReading.{site_quota}
-use Rattle.warp_server.specs.Run.{site_line, HasSite, HasBadHello, Reads}
-use Rattle.warp_server.specs.Intake.{RefusesSite, RefusesLane, ReadsBehind, ReadsLane, HasLane, HasGathered, Intakes, IsSiteLineOf, no_site, bad_site}
+use Rattle.warp_server.specs.Run.{site_line, max_site_bytes, Reads}
+use Rattle.warp_server.specs.Intake.{RefusesSite, Refuses, RefusesLane, ReadsBehind, ReadsLane, HasLane, HasGathered, Intakes, IsSiteLineOf, no_site, bad_site}
+use Rattle.warp_server.proofs.NeededLaws.{both_needed, line_needed}
 use Rattle.warp_server.specs.declared.gathering.Gathered.{Gathered}
 use Rattle.warp_server.specs.declared.intake.Refused.{Refused}
 use Rattle.warp_server.specs.declared.intake.Refused.TheVariants as refused
@@ -38,6 +40,20 @@ bad_refused bytes line ending site_fault.BadMember is not_json bad_member =
     let (d, json, none) = bad_member refl in
     inr (line, is, λ site (e, json', of). none site (rw (same_value line e d json' json) at of))
 bad_refused bytes line ending site_fault.NoMemory is not_json bad_member = tt
+
+-- what was read where there is no site
+module _ (start : ℕ) (none answers m reads reads' : List Answer) (empty : none ≡ []) (first : start ≡ 0) (here : answers ≡ none ++ m) (there : reads' ≡ reads ++ m) (stops : StopsAtEnd answers)
+    (needed : EachNeededToCut max_site_bytes start none answers) where
+  line_read : (P : List ℕ → Option LineFault → Type 0) → P (drop start (bytes_of answers)) (ending_of answers) → Reads reads reads' P
+  line_read P holds =
+      let same : answers ≡ m = rw empty at here in
+      record { more = m; reads_are = there; needed = line_needed start none answers m empty first here needed; ends = rw same at stops; holds = rw (first, same) at holds }
+
+  pub no_site_read : (refused : Refused) → RefusesSite (drop start (bytes_of answers)) (ending_of answers) refused → Intakes reads reads' (Err refused)
+  no_site_read refused.ReadFailed refuses = line_read (λ input ending. Refuses input ending refused.ReadFailed) refuses
+  no_site_read refused.NoSite refuses = line_read (λ input ending. Refuses input ending refused.NoSite) refuses
+  no_site_read refused.NoHello refuses = absurd refuses
+  no_site_read refused.NoMemory refuses = tt
 
 -- ---- the site line in what was read since
 
@@ -72,36 +88,38 @@ lane_held place line site gathered input ending from cut_is (plain, site_is, sta
 }
 
 pub both_held : (start place : ℕ) (line : List ℕ) (none answers m reads reads1 reads' : List Answer) (site : Site) (quota : ℕ) (gathered : Gathered) → none ≡ [] → start ≡ 0 → answers ≡ none ++ m → reads1 ≡ reads ++ m
-    → site_line (drop start (bytes_of answers)) (ending_of answers) ≡ Some (Ok line) → IsSiteLineOf line site → place ≡ start + length line + 1 → quota ≡ site_quota site
+    → EachNeededToCut max_site_bytes start none answers → site_line (drop start (bytes_of answers)) (ending_of answers) ≡ Some (Ok line) → IsSiteLineOf line site → place ≡ start + length line + 1 → quota ≡ site_quota site
     → (r : Result Gathered Refused) → r ≡ Ok gathered → ReadsLane place answers reads1 reads' quota r → Reads reads reads' (λ input ending. HasGathered input ending site gathered)
-both_held start place line none answers m reads reads1 reads' site quota gathered empty first here there cut_is site_is behind_is quota_is r is lane =
+both_held start place line none answers m reads reads1 reads' site quota gathered empty first here there needed cut_is (plain, site_is, stands) behind_is quota_is r is lane =
     let from : place ≡ length line + 1 = omega arith in
-    let behind : ReadsBehind answers reads1 reads' (HasLane place (site_quota site) gathered) = rw (is, quota_is) at lane in
+    let behind : ReadsBehind place answers reads1 reads' (HasLane place (site_quota site) gathered) = rw (is, quota_is) at lane in
     record {
       more = answers ++ behind.more;
       reads_are = reads_join none answers m reads reads1 reads' behind.more empty here there behind.reads_are;
+      needed = both_needed start place line plain none answers behind.more empty first from cut_is site_is needed behind.needed;
       ends = behind.ends;
-      holds = lane_held place line site gathered _ _ from (site_line_later start answers behind.more line first cut_is) site_is behind.holds;
+      holds = lane_held place line site gathered _ _ from (site_line_later start answers behind.more line first cut_is) (plain, site_is, stands) behind.holds;
     }
 
 hello_refused : (start place : ℕ) (line : List ℕ) (none answers m reads reads1 reads' : List Answer) (site : Site) (refused : Refused) → none ≡ [] → start ≡ 0 → answers ≡ none ++ m → reads1 ≡ reads ++ m
-    → site_line (drop start (bytes_of answers)) (ending_of answers) ≡ Some (Ok line) → IsSiteLineOf line site → place ≡ start + length line + 1 → ReadsBehind answers reads1 reads' (RefusesLane place refused)
+    → EachNeededToCut max_site_bytes start none answers → site_line (drop start (bytes_of answers)) (ending_of answers) ≡ Some (Ok line) → IsSiteLineOf line site → place ≡ start + length line + 1 → ReadsBehind place answers reads1 reads' (RefusesLane place refused)
     → Intakes reads reads' (Err refused)
-hello_refused start place line none answers m reads reads1 reads' site refused.ReadFailed empty first here there cut_is site_is behind_is behind = absurd behind.holds
-hello_refused start place line none answers m reads reads1 reads' site refused.NoSite empty first here there cut_is site_is behind_is behind = absurd behind.holds
-hello_refused start place line none answers m reads reads1 reads' site refused.NoHello empty first here there cut_is (plain, site_is, stands) behind_is behind =
+hello_refused start place line none answers m reads reads1 reads' site refused.ReadFailed empty first here there needed cut_is site_is behind_is behind = absurd behind.holds
+hello_refused start place line none answers m reads reads1 reads' site refused.NoSite empty first here there needed cut_is site_is behind_is behind = absurd behind.holds
+hello_refused start place line none answers m reads reads1 reads' site refused.NoHello empty first here there needed cut_is (plain, site_is, stands) behind_is behind =
     let from : place ≡ length line + 1 = omega arith in
     let (fault, fault_is) = behind.holds in
     record {
       more = answers ++ behind.more;
       reads_are = reads_join none answers m reads reads1 reads' behind.more empty here there behind.reads_are;
+      needed = both_needed start place line plain none answers behind.more empty first from cut_is site_is needed behind.needed;
       ends = behind.ends;
       holds = record { line = line; site = plain; site_is = record { cut_is = site_line_later start answers behind.more line first cut_is; site_is = site_is }; fault = fault; fault_is = rw from at fault_is };
     }
-hello_refused start place line none answers m reads reads1 reads' site refused.NoMemory empty first here there cut_is site_is behind_is behind = tt
+hello_refused start place line none answers m reads reads1 reads' site refused.NoMemory empty first here there needed cut_is site_is behind_is behind = tt
 
 pub lane_refused : (start place : ℕ) (line : List ℕ) (none answers m reads reads1 reads' : List Answer) (site : Site) (quota : ℕ) (refused : Refused) → none ≡ [] → start ≡ 0 → answers ≡ none ++ m → reads1 ≡ reads ++ m
-    → site_line (drop start (bytes_of answers)) (ending_of answers) ≡ Some (Ok line) → IsSiteLineOf line site → place ≡ start + length line + 1
+    → EachNeededToCut max_site_bytes start none answers → site_line (drop start (bytes_of answers)) (ending_of answers) ≡ Some (Ok line) → IsSiteLineOf line site → place ≡ start + length line + 1
     → (r : Result Gathered Refused) → r ≡ Err refused → ReadsLane place answers reads1 reads' quota r → Intakes reads reads' (Err refused)
-lane_refused start place line none answers m reads reads1 reads' site quota refused empty first here there cut_is site_is behind_is r is lane =
-    hello_refused start place line none answers m reads reads1 reads' site refused empty first here there cut_is site_is behind_is (rw is at lane)
+lane_refused start place line none answers m reads reads1 reads' site quota refused empty first here there needed cut_is site_is behind_is r is lane =
+    hello_refused start place line none answers m reads reads1 reads' site refused empty first here there needed cut_is site_is behind_is (rw is at lane)

@@ -5,7 +5,7 @@ use Rattle.std.proofs.Math.Seq.{take-append_seam}
 use Rattle.upload_reader.specs.Answers.{Answer, bytes_of}
 use Rattle.upload_reader.specs.Cutting.{ending_of, StopsAtEnd}
 use Rattle.upload_reader.specs.GoesOn.{GoesOn}
-use Rattle.upload_reader.specs.Greeted.{Begins, hello_greeting, fault_greeting}
+use Rattle.upload_reader.specs.Greeted.{Begins, ReadsForHello, hello_greeting, fault_greeting}
 use Rattle.upload_reader.specs.Greeting.{greeting_of}
 use Rattle.upload_reader.specs.Reading.{ReadsOn}
 use Rattle.upload_reader.specs.Stream.{Lane}
@@ -14,9 +14,10 @@ use Rattle.upload_reader.specs.declared.hello_fault.HelloFault.{HelloFault}
 use Rattle.upload_reader.specs.declared.hello_fault.HelloFault.TheVariants.{BadClient, NoHello, Line, NoMemory}
 use Rattle.upload_reader.proofs.LoopLaws.{bytes_of-append}
 use Rattle.upload_reader.proofs.Searching.{reads_then}
-use Rattle.warp_server.specs.Gathering.{Gathers}
+use Rattle.warp_server.specs.Gathering.{Gathers, ReadsBeforeEnd}
 use Rattle.warp_server.specs.Intake.{HasLane, RefusesLane, ReadsBehind, no_hello}
 use Rattle.warp_server.specs.Run.{lane_behind}
+use Rattle.warp_server.proofs.NeededLaws.{LaneHeld, hello_needed, lane_needed}
 use Rattle.warp_server.specs.declared.gathering.Gathered.{Gathered}
 use Rattle.warp_server.specs.declared.intake.Refused.TheVariants as refused
 
@@ -37,8 +38,10 @@ goes_on earlier (answer ∷ more) stops = record {
 stays : (answers : List Answer) → GoesOn (bytes_of answers) (bytes_of answers) (ending_of answers) (ending_of answers)
 stays answers = record { more = []; bytes_are = sym (append-nil (bytes_of answers)); ended = λ some. (refl, refl) }
 
-behind : (earlier now there there' : List Answer) (P : List ℕ → Option LineFault → Type 0) → ReadsOn earlier now there there' → StopsAtEnd now → P (bytes_of now) (ending_of now) → ReadsBehind earlier there there' P
-behind earlier now there there' P on stops holds = record { more = on.more; reads_are = on.there_is; ends = rw on.here_is at stops; holds = rw on.here_is at holds }
+behind : (place : ℕ) (earlier now there there' : List Answer) (P : List ℕ → Option LineFault → Type 0) → ReadsOn earlier now there there' → StopsAtEnd now → LaneHeld place (length earlier) now → P (bytes_of now) (ending_of now)
+    → ReadsBehind place earlier there there' P
+behind place earlier now there there' P on stops needed holds =
+    record { more = on.more; reads_are = on.there_is; needed = rw on.here_is at needed; ends = rw on.here_is at stops; holds = rw on.here_is at holds }
 
 -- ---- a hello, and the lane behind it
 
@@ -46,12 +49,17 @@ is_behind : (lane : Lane) (client : List ℕ) → lane.earlier ≡ [] → lane.f
 is_behind lane client new sound =
     ap (λ earlier. record lane { earlier = earlier }) new ∙ ap (λ fault. record lane { earlier = []; fault = fault }) sound
 
-module _ (earlier greeted now there there' there'' : List Answer) (first : ReadsOn earlier greeted there there') (then : ReadsOn greeted now there' there'') (stops : StopsAtEnd now) where
-  pub lane_read : (had : Option LineFault) (place start quota : ℕ) (client : List ℕ) (lane : Lane) (gathered : Gathered) → had ≡ None → Begins had place (bytes_of greeted) (ending_of greeted) (hello_greeting (start - place) client lane.lines)
-      → place ≤ start → lane.earlier ≡ [] → lane.fault ≡ None → gathered.log.client ≡ client → Gathers lane start (bytes_of now) (ending_of now) quota gathered → ReadsBehind earlier there there'' (HasLane place quota gathered)
-  lane_read had place start quota client lane gathered none begins high new sound whose gathers =
+module _ (earlier greeted now there there' there'' : List Answer) (first : ReadsOn earlier greeted there there') (then : ReadsOn greeted now there' there'') (stops : StopsAtEnd now)
+    (had : Option LineFault) (place start : ℕ) (client : List ℕ) (lane : Lane) (none : had ≡ None) (begins : Begins had place (bytes_of greeted) (ending_of greeted) (hello_greeting (start - place) client lane.lines))
+    (high : place ≤ start) (new : lane.earlier ≡ []) (sound : lane.fault ≡ None) (greets : ReadsForHello had place earlier greeted) (goes : ReadsBeforeEnd lane start greeted now) where
+  held : LaneHeld place (length earlier) now
+  held =
+      lane_needed place start (record { client = client; lines = lane.lines }) earlier greeted now then.more then.here_is stops high (rw none at begins) (rw none at greets) (rw (is_behind lane client new sound) at goes)
+
+  pub lane_read : (quota : ℕ) (gathered : Gathered) → gathered.log.client ≡ client → Gathers lane start (bytes_of now) (ending_of now) quota gathered → ReadsBehind place earlier there there'' (HasLane place quota gathered)
+  lane_read quota gathered whose gathers =
       let at : place + (start - place) ≡ start = omega (arith, high) in
-      behind earlier now there there'' (HasLane place quota gathered) (reads_then earlier greeted now there there' there'' first then) stops (record {
+      behind place earlier now there there'' (HasLane place quota gathered) (reads_then earlier greeted now there there' there'' first then) stops held (record {
         bytes = start - place;
         hello = record { client = client; lines = lane.lines };
         begins = ap (λ had. greeting_of had (drop place (bytes_of now)) (ending_of now)) (sym none) ∙ begins (bytes_of now) (ending_of now) (rw (sym then.here_is) at (goes_on greeted then.more (rw then.here_is at stops)));
@@ -60,8 +68,8 @@ module _ (earlier greeted now there there' there'' : List Answer) (first : Reads
       })
 
   -- no memory for it
-  pub lane_short : (place : ℕ) → ReadsBehind earlier there there'' (RefusesLane place refused.NoMemory)
-  lane_short place = behind earlier now there there'' (RefusesLane place refused.NoMemory) (reads_then earlier greeted now there there' there'' first then) stops tt
+  pub lane_short : ReadsBehind place earlier there there'' (RefusesLane place refused.NoMemory)
+  lane_short = behind place earlier now there there'' (RefusesLane place refused.NoMemory) (reads_then earlier greeted now there there' there'' first then) stops held tt
 
 -- ---- no hello
 
@@ -77,6 +85,7 @@ refuses had place bytes answers NoHello none begins = (NoHello, fault_is had pla
 refuses had place bytes answers (Line line kind) none begins = (Line line kind, fault_is had place bytes answers (Line line kind) none (begins (λ same. cc)))
 refuses had place bytes answers NoMemory none begins = tt
 
-pub hello_refused : (earlier now there there' : List Answer) → ReadsOn earlier now there there' → StopsAtEnd now → (had : Option LineFault) (place bytes : ℕ) (fault : HelloFault) → had ≡ None
-    → (fault ≢ NoMemory → Begins had place (bytes_of now) (ending_of now) (fault_greeting bytes fault)) → ReadsBehind earlier there there' (RefusesLane place (no_hello fault))
-hello_refused earlier now there there' on stops had place bytes fault none begins = behind earlier now there there' (RefusesLane place (no_hello fault)) on stops (refuses had place bytes now fault none begins)
+pub hello_refused : (earlier now there there' : List Answer) → ReadsOn earlier now there there' → StopsAtEnd now → (had : Option LineFault) (place bytes : ℕ) (fault : HelloFault) → had ≡ None → ReadsForHello had place earlier now
+    → (fault ≢ NoMemory → Begins had place (bytes_of now) (ending_of now) (fault_greeting bytes fault)) → ReadsBehind place earlier there there' (RefusesLane place (no_hello fault))
+hello_refused earlier now there there' on stops had place bytes fault none greets begins =
+    behind place earlier now there there' (RefusesLane place (no_hello fault)) on stops (hello_needed place earlier now (rw none at greets)) (refuses had place bytes now fault none begins)

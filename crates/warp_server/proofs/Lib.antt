@@ -1,6 +1,7 @@
 pub mod TextWriting
 pub mod SiteSteps
 pub mod SiteLaws
+pub mod NeededLaws
 pub mod GatherLaws
 pub mod LaneLaws
 pub mod IntakeLaws

@@ -1,28 +1,28 @@
 -- What a run does, by what was read and written.
-use Rattle.std.proofs.Common.{◌≡◌, ℕ, ◌+◌, List, [], ◌∷◌, ◌++◌, length, map, drop, Bool, if◌then◌else◌, Option, Some, None, refl, sym, ◌∙◌, ap, inl, inr, append-nil}
+use Rattle.std.proofs.Common.{◌≡◌, ℕ, ◌+◌, List, [], ◌∷◌, ◌++◌, length, map, drop, Bool, if◌then◌else◌, Option, refl, sym, ◌∙◌, ap, inl, inr, append-nil}
 use Rattle.std.specs.List.{list_any}
 use Rattle.std.proofs.lemmas.List.{drop-drop}
 use Rattle.upload_reader.specs.Answers.{Answer}
 use Rattle.upload_reader.specs.GoesOn.{GoesOn}
-use Rattle.upload_reader.specs.Stream.{Costed, stream_of, BeginsWith}
+use Rattle.upload_reader.specs.Stream.{Costed}
 use Rattle.upload_reader.specs.declared.fault.LineFault.{LineFault}
 use Rattle.upload_reader.specs.declared.lane_fault.LaneEnd.{LaneEnd}
 use Rattle.page_tree.specs.Tree.{Tree}
 use Rattle.xpath_child.specs.Path.{Step}
 use Rattle.client_log.specs.Log.{kept}
 use Rattle.client_log.specs.declared.visit.Visit.{Visit}
-use Rattle.site_hooks.specs.Table.{page_in, signals_in, watched_in, is_changed}
+use Rattle.site_hooks.specs.Table.{page_in, signals_in, is_changed}
 use Rattle.visit_replay.specs.Form.{bare}
-use Rattle.visit_replay.specs.Outcome.{outcome, on_page, is_listed}
+use Rattle.visit_replay.specs.Outcome.{outcome, on_page}
 use Rattle.visit_replay.specs.declared.outcome.Outcome.{Outcome}
 use Rattle.visit_replay.specs.declared.outcome.Outcome.TheVariants.{Untouched}
 use Rattle.warp_server.specs.Site.{Site as PlainSite, page_of, signals_of}
 use Rattle.warp_server.specs.SiteReading.{Stands, site_patch, site_table, site_quota}
-use Rattle.warp_server.specs.Report.{Stop, none, memory, End, over, gave_up, not_yet, VisitReport, visit_report, report_text}
+use Rattle.warp_server.specs.Report.{visit_report, report_text}
 use Rattle.warp_server.specs.Repairing.{replayed_by, report_of_visit}
 use Rattle.warp_server.specs.Gathering.{stop_of, end_of}
 use Rattle.warp_server.specs.Intake.{HasGathered}
-use Rattle.warp_server.specs.Run.{report_of, visit_of, HasReport, HasShortReport, HasAnyReport, IsShort, Reads, Writes, WritesPart, Meets, lane_behind, lane_bytes, behind}
+use Rattle.warp_server.specs.Run.{report_of, visit_of, HasReport, HasShortReport, HasAnyReport, IsShort, Reads, WritesPart, Meets}
 use Rattle.warp_server.specs.Running.{lane_report, status_of}
 use Rattle.warp_server.specs.Writing.{Takes, TakesPart}
 use Rattle.warp_server.specs.declared.gathering.Gathered.{Gathered}
@@ -116,16 +116,16 @@ any_held input ending site gathered text stopped.Memory is held text_is = inr (s
 pub part_written : (reads reads' puts puts' : List Answer) (contents contents' : Option (List ℕ)) (site : Site) (gathered : Gathered) (text : List ℕ) → Reads reads reads' (λ input ending. HasGathered input ending site gathered)
     → text ≡ report_text (lane_report site gathered) → TakesPart puts puts' contents contents' text → Reads reads reads' (WritesPart puts puts' contents contents')
 part_written reads reads' puts puts' contents contents' site gathered text read is takes =
-    record { more = read.more; reads_are = read.reads_are; ends = read.ends; holds = (text, any_held _ _ site gathered text gathered.stopped refl read.holds is, takes) }
+    record { more = read.more; reads_are = read.reads_are; needed = read.needed; ends = read.ends; holds = (text, any_held _ _ site gathered text gathered.stopped refl read.holds is, takes) }
 
 whole_by : (reads reads' puts puts' : List Answer) (contents contents' : Option (List ℕ)) (site : Site) (gathered : Gathered) (text : List ℕ) (why : Stopped) → gathered.stopped ≡ why → Reads reads reads' (λ input ending. HasGathered input ending site gathered)
     → text ≡ report_text (lane_report site gathered) → Takes puts puts' contents contents' text 0 → Meets reads reads' puts puts' contents contents' (status_of why)
 whole_by reads reads' puts puts' contents contents' site gathered text (stopped.Over end) why read is takes =
-    record { more = read.more; reads_are = read.reads_are; ends = read.ends; holds = (text, whole_held _ _ site gathered end text read.holds why is, takes) }
+    record { more = read.more; reads_are = read.reads_are; needed = read.needed; ends = read.ends; holds = (text, whole_held _ _ site gathered end text read.holds why is, takes) }
 whole_by reads reads' puts puts' contents contents' site gathered text stopped.GaveUp why read is takes =
-    inr (record { more = read.more; reads_are = read.reads_are; ends = read.ends; holds = (text, short_held _ _ site gathered text read.holds (rw why (inl (refl, refl))) is, takes) })
+    inr (record { more = read.more; reads_are = read.reads_are; needed = read.needed; ends = read.ends; holds = (text, short_held _ _ site gathered text read.holds (rw why (inl (refl, refl))) is, takes) })
 whole_by reads reads' puts puts' contents contents' site gathered text stopped.Memory why read is takes =
-    inr (record { more = read.more; reads_are = read.reads_are; ends = read.ends; holds = (text, short_held _ _ site gathered text read.holds (rw why (inr (refl, refl))) is, takes) })
+    inr (record { more = read.more; reads_are = read.reads_are; needed = read.needed; ends = read.ends; holds = (text, short_held _ _ site gathered text read.holds (rw why (inr (refl, refl))) is, takes) })
 
 pub whole_written : (reads reads' puts puts' : List Answer) (contents contents' : Option (List ℕ)) (site : Site) (gathered : Gathered) (text : List ℕ) → Reads reads reads' (λ input ending. HasGathered input ending site gathered)
     → text ≡ report_text (lane_report site gathered) → Takes puts puts' contents contents' text 0 → Meets reads reads' puts puts' contents contents' (status_of gathered.stopped)

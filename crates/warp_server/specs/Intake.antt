@@ -1,8 +1,9 @@
 -- What reading the site line and the lane gives, for private contracts.
-use Rattle.std.specs.Prelude.{◌≡◌, ℕ, ◌+◌, List, ◌++◌, length, drop, Option, Some, None, Result, Ok, Err}
+use Rattle.std.specs.Prelude.{◌≡◌, ℕ, ◌+◌, ◌<◌, ◌≤◌, List, ◌++◌, length, take, drop, Option, Some, None, Result, Ok, Err}
 use Rattle.upload_reader.specs.Answers.{Answer, bytes_of}
 use Rattle.upload_reader.specs.Cutting.{ending_of, StopsAtEnd}
 use Rattle.upload_reader.specs.Greeting.{Hello, greeting_of}
+use Rattle.upload_reader.specs.Stream.{stream_of}
 use Rattle.upload_reader.specs.declared.fault.LineFault.{LineFault}
 use Rattle.upload_reader.specs.declared.fault.LineFault.TheVariants as line_fault
 use Rattle.upload_reader.specs.declared.hello_fault.HelloFault.{HelloFault}
@@ -92,13 +93,20 @@ RefusesLane place NoSite input ending = ⊥
 RefusesLane place NoHello input ending = HasNoHello place input ending
 RefusesLane place NoMemory input ending = Unit {0}
 
--- from these reads to those, behind earlier ones of the same lines
-pub record ReadsBehind (earlier reads reads' : List Answer) (P : List ℕ → Option LineFault → Type 0) : Type 0 where
+-- of these bytes, of which more may come, the lane tells nothing yet: no end and no refusal
+pub record IsLaneUndecided (place : ℕ) (input : List ℕ) : Type 0 where
+  pub no_end : (bytes : ℕ) (hello : Hello) → greeting_of None (drop place input) None ≡ record { bytes = bytes; answer = Some (Ok hello) }
+      → (stream_of (lane_behind hello) (drop bytes (drop place input)) None).end ≡ None
+  pub no_refusal : HasNoHello place input None → ⊥
+
+-- from these reads to those, behind earlier ones of the same lines, each needed for the lane
+pub record ReadsBehind (place : ℕ) (earlier reads reads' : List Answer) (P : List ℕ → Option LineFault → Type 0) : Type 0 where
   pub more : List Answer
   pub reads_are : reads' ≡ reads ++ more
+  pub needed : (n : ℕ) → length earlier ≤ n → n < length (earlier ++ more) → IsLaneUndecided place (bytes_of (take n (earlier ++ more)))
   pub ends : StopsAtEnd (earlier ++ more)
   pub holds : P (bytes_of (earlier ++ more)) (ending_of (earlier ++ more))
 
 abbrev pub ReadsLane : ℕ → List Answer → List Answer → List Answer → ℕ → Result Gathered Refused → Type 0
-ReadsLane place earlier reads reads' quota (Ok gathered) = ReadsBehind earlier reads reads' (HasLane place quota gathered)
-ReadsLane place earlier reads reads' quota (Err refused) = ReadsBehind earlier reads reads' (RefusesLane place refused)
+ReadsLane place earlier reads reads' quota (Ok gathered) = ReadsBehind place earlier reads reads' (HasLane place quota gathered)
+ReadsLane place earlier reads reads' quota (Err refused) = ReadsBehind place earlier reads reads' (RefusesLane place refused)

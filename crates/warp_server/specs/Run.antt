@@ -1,5 +1,5 @@
 -- What a run answers and writes, by what its reads gave: this project's own rules. The input is the bytes that the reads gave, and how it ended.
-use Rattle.std.specs.Prelude.{◌≡◌, ◌≢◌, ℕ, ◌+◌, List, [], ◌∷◌, ◌++◌, length, map, drop, Option, Some, None, Result, Ok, Err, ◌⊎◌}
+use Rattle.std.specs.Prelude.{◌≡◌, ◌≢◌, ℕ, ◌+◌, List, [], ◌∷◌, ◌++◌, length, map, take, drop, ◌<◌, Option, Some, None, Result, Ok, Err, ◌⊎◌}
 use Rattle.serde_json.specs.Data.{Data}
 use Rattle.upload_reader.specs.Answers.{Answer, bytes_of}
 use Rattle.upload_reader.specs.Cutting.{cut, ending_of, StopsAtEnd}
@@ -124,10 +124,21 @@ HasAnyReport input ending text = HasReport input ending text ⊎ HasShortReport 
 
 -- ---- what a run does
 
--- from these reads to those, the answers of its own, none after the input's end
+-- of these bytes, of which more may come, there is nothing to answer yet: no report and no refusal
+pub record IsUndecided (input : List ℕ) : Type 0 where
+  pub no_report : (text : List ℕ) → HasReport input None text → ⊥
+  pub no_bad_site : HasBadSite input None → ⊥
+  pub no_bad_hello : HasBadHello input None → ⊥
+
+-- each was made where the bytes of those before it decided nothing
+abbrev pub ReadWhileUndecided : List Answer → Type 0
+ReadWhileUndecided reads = (n : ℕ) → n < length reads → IsUndecided (bytes_of (take n reads))
+
+-- from these reads to those, the answers of its own, each needed, and none after the input's end
 pub record Reads (reads reads' : List Answer) (P : List ℕ → Option LineFault → Type 0) : Type 0 where
   pub more : List Answer
   pub reads_are : reads' ≡ reads ++ more
+  pub needed : ReadWhileUndecided more
   pub ends : StopsAtEnd more
   pub holds : P (bytes_of more) (ending_of more)
 

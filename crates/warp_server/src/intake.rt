@@ -2,8 +2,8 @@
 ghost use Rattle.std.specs.Prelude.{◌≡◌, ◌+◌, length, [], None, Some, Ok, IfOk, IfErr, OnOk};
 ghost use Rattle.upload_reader.specs.Cutting.{ending_of};
 ghost use Rattle.upload_reader.specs.Lines.{lines_answers, lines_place, lines_line, lines_input, lines_fault, lines_reader, lines_uncut};
-ghost use Rattle.upload_reader.specs.Reading.{ReadsOn};
-ghost use Rattle.warp_server.specs.Run.{site_line};
+ghost use Rattle.upload_reader.specs.Reading.{ReadsOn, EachNeeded};
+ghost use Rattle.warp_server.specs.Run.{site_line, max_site_bytes};
 ghost use Rattle.warp_server.specs.Intake.{IsSiteLineOf, Intakes, RefusesSite, ReadsLane, no_site, bad_site, no_hello};
 
 use crate::gathering::{Gathered, gather};
@@ -92,6 +92,7 @@ fn read_site<R: Source>(alloc: Global, lines: &mut Lines<R>) -> Result<Site, Ref
     requires { lines_fault lines.old ≡ None }
     ensures reads { ReadsOn (lines_answers lines.old) (lines_answers lines.new) (R.answers (lines_reader lines.old)) (R.answers (lines_reader lines.new)) }
     ensures same { R.lender (lines_reader lines.new) ≡ R.lender (lines_reader lines.old) }
+    ensures needed { EachNeeded max_site_bytes (lines_place lines.old) (lines_answers lines.old) (lines_answers lines.new) }
     ensures cut { OnOk result (site_line (lines_uncut lines.old lines.new) (ending_of (lines_answers lines.new)) ≡ Some (Ok (lines_line lines.new))) }
     ensures site { IfOk result (IsSiteLineOf (lines_line lines.new)) }
     ensures place { OnOk result (lines_place lines.new ≡ lines_place lines.old + length (lines_line lines.new) + 1) }
