@@ -13,13 +13,13 @@ use Rattle.warp_server.specs.Site.{Site as PlainSite, IsJsonOf, IsSiteOf}
 use Rattle.warp_server.specs.SiteReading.{site_quota}
 use Rattle.warp_server.specs.Run.{site_line, max_site_bytes, Reads}
 use Rattle.warp_server.specs.Intake.{RefusesSite, Refuses, RefusesLane, ReadsBehind, ReadsLane, HasLane, HasGathered, Intakes, IsSiteLineOf, no_site, bad_site}
-use Rattle.warp_server.proofs.NeededLaws.{both_needed, line_needed}
 use Rattle.warp_server.specs.declared.gathering.Gathered.{Gathered}
 use Rattle.warp_server.specs.declared.intake.Refused.{Refused}
 use Rattle.warp_server.specs.declared.intake.Refused.TheVariants as refused
 use Rattle.warp_server.specs.declared.site.Site.{Site}
 use Rattle.warp_server.specs.declared.site_fault.SiteFault.{SiteFault}
 use Rattle.warp_server.specs.declared.site_fault.SiteFault.TheVariants as site_fault
+use Rattle.warp_server.proofs.NeededLaws.{both_needed, line_needed}
 
 -- ---- no site
 

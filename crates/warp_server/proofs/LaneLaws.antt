@@ -17,9 +17,9 @@ use Rattle.upload_reader.proofs.Searching.{reads_then}
 use Rattle.warp_server.specs.Gathering.{Gathers, ReadsBeforeEnd}
 use Rattle.warp_server.specs.Intake.{HasLane, RefusesLane, ReadsBehind, no_hello}
 use Rattle.warp_server.specs.Run.{lane_behind}
-use Rattle.warp_server.proofs.NeededLaws.{LaneHeld, hello_needed, lane_needed}
 use Rattle.warp_server.specs.declared.gathering.Gathered.{Gathered}
 use Rattle.warp_server.specs.declared.intake.Refused.TheVariants as refused
+use Rattle.warp_server.proofs.NeededLaws.{LaneHeld, hello_needed, lane_needed}
 
 -- No read was made after the input's end, so the reads that follow go on with it.
 not_ended : (earlier : List Answer) (answer : Answer) (more : List Answer) → StopsAtEnd (earlier ++ answer ∷ more) → ending_of earlier ≡ None
