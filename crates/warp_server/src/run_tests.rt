@@ -285,6 +285,51 @@ fn reports_several_visits(rt: HostRuntime) -> Result<(), Fail> {
     Ok(())
 }
 
+// So many of the same letter.
+fn letters(alloc: Global, letter: char, count: usize) -> Result<String, AllocError> {
+    let mut text = String::new(alloc);
+    for _ in 0..count {
+        text.push(letter)?;
+    }
+    Ok(text)
+}
+
+// A long site line, a long name, long addresses and many visits: the report is one write where the writer takes it all.
+#[test]
+fn reports_a_large_upload(rt: HostRuntime) -> Result<(), Fail> {
+    let alloc = rt.alloc();
+    let words = letters(alloc, 'w', 100_000)?;
+    let address = letters(alloc, 'a', 2_000)?;
+    let client = letters(alloc, 'c', 64)?;
+    let mut input = format!(in alloc;
+        "{{\"patched\":[\"{address}\"],\"pages\":{{\"{address}\":{{\"n\":\"p\",\"c\":[\"{words}\"]}}}}}}\n{{\"t\":\"hello\",\"client\":\"{client}\"}}\n"
+    )?;
+    let mut visits = String::new(alloc);
+    let mut cost = 0;
+    for visit in 1..301 {
+        let load = format!(in alloc;
+            "{{\"t\":\"load\",\"visit\":{visit},\"at\":0,\"path\":\"{address}\",\"page\":{{\"n\":\"p\"}}}}"
+        )?;
+        cost = load.len().saturating_add(cost);
+        input.push_str(load.as_str())?;
+        let end = format!(in alloc; "\n{{\"t\":\"end\",\"visit\":{visit},\"at\":0}}\n")?;
+        input.push_str(end.as_str())?;
+        let report = format!(in alloc; "visit {visit} done\nload 0 \"{address}\"\n")?;
+        visits.push_str(report.as_str())?;
+    }
+    input.push_str("{\"t\":\"bye\"}\n")?;
+    let want = format!(in alloc;
+        "stop none\nclient {client} taken 600 end bye cost {cost} lost 0\n{visits}"
+    )?;
+    let mut sips = Sips::new(alloc, 1_000_000, None);
+    let mut reader = Fed::new(Drip::new(alloc, input.as_bytes(), 8192)?);
+    let status = run(&rt, &mut reader, &mut Told::new(&mut sips));
+    assert_eq!(rt; status, Status::Done);
+    assert!(rt; sips.taken.as_slice() == want.as_bytes());
+    assert_eq!(rt; sips.writes, 1);
+    Ok(())
+}
+
 // A watched text that is another one now is a conflict behind the events.
 #[test]
 fn asks_the_site_for_watched_texts(rt: HostRuntime) -> Result<(), Fail> {
