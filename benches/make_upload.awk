@@ -1,19 +1,22 @@
 # Makes a site line and an upload of at least `size` bytes: visits of a form with typed texts, a checkbox and a submit, a third of them to a page that
-# was patched. The same size gives the same upload.
+# was patched. The same size gives the same upload. With `siblings` so many other elements stand beside the form, and with `inputs` each visit has so
+# many typed texts.
 #   awk -v size=600000 -f make_upload.awk > upload.jsonl
+#   awk -v size=6000000 -v siblings=4000 -v inputs=1000 -f make_upload.awk > upload.jsonl
 function chance(n) { seed = (seed * 16807) % 2147483647; return seed % n }
 function say(line) { print line; bytes += length(line) + 1 }
 function word(n,   text) { text = ""; while (n-- > 0) text = text substr("abcdefghijklmnopqrstuvwxyz    ", chance(30) + 1, 1); return text }
 BEGIN {
     seed = 20111023
-    page = "{\"n\":\"html\",\"c\":[{\"n\":\"body\",\"c\":[{\"n\":\"p\",\"c\":[\"Write to us\"]},{\"n\":\"form\",\"a\":{\"action\":\"/send\",\"method\":\"post\"},\"c\":[{\"n\":\"input\",\"a\":{\"name\":\"subject\"}},{\"n\":\"textarea\",\"a\":{\"name\":\"text\"}},{\"n\":\"input\",\"a\":{\"name\":\"copy\",\"type\":\"checkbox\"}},{\"n\":\"button\",\"a\":{\"name\":\"go\",\"value\":\"1\"},\"c\":[\"Send\"]}]}]}]}"
+    for (i = 0; i < siblings; i++) others = others "{\"n\":\"i\"},"
+    page = "{\"n\":\"html\",\"c\":[{\"n\":\"body\",\"c\":[{\"n\":\"p\",\"c\":[\"Write to us\"]}," others "{\"n\":\"form\",\"a\":{\"action\":\"/send\",\"method\":\"post\"},\"c\":[{\"n\":\"input\",\"a\":{\"name\":\"subject\"}},{\"n\":\"textarea\",\"a\":{\"name\":\"text\"}},{\"n\":\"input\",\"a\":{\"name\":\"copy\",\"type\":\"checkbox\"}},{\"n\":\"button\",\"a\":{\"name\":\"go\",\"value\":\"1\"},\"c\":[\"Send\"]}]}]}]}"
     split("/a /b /c", address, " ")
     print "{\"patched\":[\"/a\"],\"quota\":4294967295,\"watch\":[\"/html/body/p\"],\"pages\":{\"/a\":" page "}}"
     say("{\"t\":\"hello\",\"client\":\"bench\"}")
     for (visit = 1; bytes < size; visit++) {
         at = visit * 1000
         say("{\"t\":\"load\",\"visit\":" visit ",\"at\":" at ",\"path\":\"" address[visit % 3 + 1] "\",\"page\":" page "}")
-        for (i = chance(12) + 4; i > 0; i--) {
+        for (i = inputs ? inputs : chance(12) + 4; i > 0; i--) {
             target = chance(2) ? "/html/body/form/input[1]" : "/html/body/form/textarea"
             say("{\"t\":\"input\",\"visit\":" visit ",\"at\":" at + 20 - i ",\"target\":\"" target "\",\"value\":\"" word(chance(60)) "\"}")
         }

@@ -1,32 +1,25 @@
 -- The first fault of several lists of nodes, and of one node.
-use Rattle.std.proofs.Common.{◌≡◌, ℕ, suc, ◌+◌, List, [], ◌∷◌, ◌++◌, length, Bool, true, false, nat_lt, Option, Some, None, Result, Ok, Err, refl, sym, ◌∙◌, add-zero, add_assoc, length-append, arith}
+use Rattle.std.proofs.Common.{◌≡◌, ℕ, suc, ◌+◌, List, [], ◌∷◌, ◌++◌, length, Bool, nat_lt, Option, Some, None, Result, Ok, Err, refl, sym, ◌∙◌, add-zero, add_assoc, length-append, arith}
+use Rattle.std.specs.Option.{option_or}
 use Rattle.page_tree.specs.Limits.{max_nodes}
-use Rattle.page_tree.specs.Fault.{unless, or_later, first_fault}
-use Rattle.page_tree.specs.Visit.{◌>>=◌}
+use Rattle.page_tree.specs.FirstFault.{unless, ◌>>=◌}
+use Rattle.page_tree.specs.Fault.{first_fault}
 use Rattle.page_tree.specs.declared.fault.PageFault.{PageFault}
 use Rattle.page_tree.specs.declared.fault.PageFault.TheVariants.{TooMany}
 
 -- a node's fault, and then what comes after it
 abbrev pub first_at : Bool → Option PageFault → Option PageFault → Option PageFault
-first_at few own rest = or_later (unless few TooMany own) rest
+first_at few own rest = option_or (unless few TooMany own) rest
 
-or_later-assoc : (a b c : Option PageFault) → or_later (or_later a b) c ≡ or_later a (or_later b c)
-or_later-assoc None b c = refl
-or_later-assoc (Some e) b c = refl
+option_or-assoc : (a b c : Option PageFault) → option_or (option_or a b) c ≡ option_or a (option_or b c)
+option_or-assoc None b c = refl
+option_or-assoc (Some e) b c = refl
 
-pub first_fault-append : (xs ys : List (Option PageFault)) (n : ℕ) → first_fault n (xs ++ ys) ≡ or_later (first_fault n xs) (first_fault (n + length xs) ys)
+pub first_fault-append : (xs ys : List (Option PageFault)) (n : ℕ) → first_fault n (xs ++ ys) ≡ option_or (first_fault n xs) (first_fault (n + length xs) ys)
 first_fault-append [] ys n = rw add-zero refl
 first_fault-append (x ∷ xs) ys n =
     let shifted : suc n + length xs ≡ n + suc (length xs) = omega arith in
-    rw (first_fault-append xs ys (suc n), shifted) (sym (or_later-assoc (unless (nat_lt n max_nodes) TooMany x) (first_fault (suc n) xs) (first_fault (n + suc (length xs)) ys)))
-
-pub or_later-none : (a b : Option PageFault) → or_later a b ≡ None → (a ≡ None) × (b ≡ None)
-or_later-none None b none = (refl, none)
-or_later-none (Some e) b none = cc
-
-pub unless-none : (test : Bool) (e : PageFault) (later : Option PageFault) → unless test e later ≡ None → (test ≡ true) × (later ≡ None)
-unless-none true e later none = (refl, none)
-unless-none false e later none = cc
+    rw (first_fault-append xs ys (suc n), shifted) (sym (option_or-assoc (unless (nat_lt n max_nodes) TooMany x) (first_fault (suc n) xs) (first_fault (n + suc (length xs)) ys)))
 
 -- ---- what a walk answers that goes over nodes, of which n stand before
 

@@ -4,6 +4,7 @@ pub mod Below
 pub mod Levels
 pub mod Found
 pub mod Ascending
+pub mod FirstFault
 pub mod Faults
 pub mod TreeLaws
 pub mod ValueLaws

@@ -1,12 +1,12 @@
 -- A value stands for one page at the most, so that a function finds it.
 use Rattle.std.proofs.Common.{◌≡◌, Some, None, Result, Ok, Err, refl, ap}
+use Rattle.std.specs.Result.{result_ok}
 use Rattle.serde_json.specs.Data.{Data, string, object, Items, no_items, item}
 use Rattle.page_tree.specs.Tree.{Tree, element, words, Trees, no_trees, tree}
 use Rattle.page_tree.specs.Value.{StandsFor, AllStandFor, IsPageOf}
-use Rattle.page_tree.specs.Fault.{fault_of_value}
-use Rattle.page_tree.specs.Visit.{visit_page, ok_of, page_in}
+use Rattle.page_tree.specs.Fault.{fault_of_value, page_or_fault, page_in}
 use Rattle.page_tree.specs.declared.fault.PageFault.{PageFault}
-use Rattle.page_tree.proofs.ValueLaws.{Answers, visit_page-answers, complete}
+use Rattle.page_tree.proofs.ValueLaws.{Answers, page_or_fault-answers, complete}
 
 mutual
   stands_once : (t u : Tree) (d : Data) → StandsFor d t → StandsFor d u → t ≡ u
@@ -36,26 +36,26 @@ page_once d t u is also = stands_once u t d also.stands is.stands
 
 -- ---- the function finds just the page that the value stands for
 
-answered : (d : Data) (t : Tree) (r : Result Tree PageFault) → Answers d r → IsPageOf d t → ok_of r ≡ Some t
+answered : (d : Data) (t : Tree) (r : Result Tree PageFault) → Answers d r → IsPageOf d t → result_ok r ≡ Some t
 answered d t (Ok u) answers page = ap Some (page_once d t u page answers.0)
 answered d t (Err e) answers page = let none : fault_of_value d ≡ None = complete d t page in cc
 
 pub page_found : (d : Data) (t : Tree) → IsPageOf d t → page_in d ≡ Some t
 unfolding page_in
-page_found d t page = answered d t (visit_page d) (visit_page-answers d) page
+page_found d t page = answered d t (page_or_fault d) (page_or_fault-answers d) page
 
-is_answer : (d : Data) (t : Tree) (r : Result Tree PageFault) → Answers d r → ok_of r ≡ Some t → IsPageOf d t
+is_answer : (d : Data) (t : Tree) (r : Result Tree PageFault) → Answers d r → result_ok r ≡ Some t → IsPageOf d t
 is_answer d t (Ok u) answers is = let same : u ≡ t = cc in rw same at answers.0
 is_answer d t (Err e) answers is = cc
 
 pub page_is : (d : Data) (t : Tree) → page_in d ≡ Some t → IsPageOf d t
 unfolding page_in
-page_is d t is = is_answer d t (visit_page d) (visit_page-answers d) is
+page_is d t is = is_answer d t (page_or_fault d) (page_or_fault-answers d) is
 
-missed : (d : Data) (r : Result Tree PageFault) → Answers d r → ((t : Tree) → IsPageOf d t → ⊥) → ok_of r ≡ None
+missed : (d : Data) (r : Result Tree PageFault) → Answers d r → ((t : Tree) → IsPageOf d t → ⊥) → result_ok r ≡ None
 missed d (Ok u) answers no_page = absurd (no_page u answers.0)
 missed d (Err e) answers no_page = refl
 
 pub page_missed : (d : Data) → ((t : Tree) → IsPageOf d t → ⊥) → page_in d ≡ None
 unfolding page_in
-page_missed d no_page = missed d (visit_page d) (visit_page-answers d) no_page
+page_missed d no_page = missed d (page_or_fault d) (page_or_fault-answers d) no_page

@@ -4,12 +4,12 @@ use Rattle.serde_json.specs.Data.{Data}
 use Rattle.page_tree.specs.Tree.{Tree}
 use Rattle.page_tree.specs.Limits.{IsPage}
 use Rattle.page_tree.specs.Value.{IsPageOf}
-use Rattle.page_tree.specs.Fault.{fault_of_value, fault_of_tree}
-use Rattle.page_tree.specs.Visit.{inspect_page, visit_page, Fails}
+use Rattle.page_tree.specs.Fault.{fault_of_value, fault_of_tree, PageFails}
+use Rattle.page_tree.specs.inside.Walk.{inspect_page, walk_page}
 use Rattle.page_tree.specs.declared.fault.PageFault.{PageFault}
 use Rattle.page_tree.specs.declared.fault.PageFault.TheVariants.{NotAnElement, BadName, BadAttribute, BadChildren, TooDeep, TooMany, NoMemory}
 use Rattle.page_tree.proofs.TreeLaws.{inspected, page_without_fault, no_fault_of_page}
-use Rattle.page_tree.proofs.ValueLaws.{visit_page-answers, complete}
+use Rattle.page_tree.proofs.ValueLaws.{walk_page-answers, complete}
 
 pub inspected_ok : (t : Tree) (n : ℕ) → inspect_page t ≡ Ok n → IsPage t × (fault_of_tree t ≡ None)
 inspected_ok t n is =
@@ -21,19 +21,19 @@ inspected_err t e is =
     let some : fault_of_tree t ≡ Some e = rw is at (inspected t) in
     (λ page. let none = no_fault_of_page t page in cc, some)
 
-pub visited_ok : (d : Data) (t : Tree) → visit_page d ≡ Ok t → IsPageOf d t × (fault_of_value d ≡ None)
-visited_ok d t is = rw is at (visit_page-answers d)
+pub walked_ok : (d : Data) (t : Tree) → walk_page d ≡ Ok t → IsPageOf d t × (fault_of_value d ≡ None)
+walked_ok d t is = rw is at (walk_page-answers d)
 
-answered : (d : Data) (e : PageFault) → visit_page d ≡ Err e → ((t : Tree) → IsPageOf d t → ⊥) × (fault_of_value d ≡ Some e)
+answered : (d : Data) (e : PageFault) → walk_page d ≡ Err e → ((t : Tree) → IsPageOf d t → ⊥) × (fault_of_value d ≡ Some e)
 answered d e is =
-    let some : fault_of_value d ≡ Some e = rw is at (visit_page-answers d) in
+    let some : fault_of_value d ≡ Some e = rw is at (walk_page-answers d) in
     (λ t page. let none = complete d t page in cc, some)
 
-pub visited_err : (d : Data) (e : PageFault) → Fails e (visit_page d) → e ≢ NoMemory → ((t : Tree) → IsPageOf d t → ⊥) × (fault_of_value d ≡ Some e)
-visited_err d NotAnElement fails real = answered d NotAnElement fails
-visited_err d BadName fails real = answered d BadName fails
-visited_err d BadAttribute fails real = answered d BadAttribute fails
-visited_err d BadChildren fails real = answered d BadChildren fails
-visited_err d TooDeep fails real = answered d TooDeep fails
-visited_err d TooMany fails real = answered d TooMany fails
-visited_err d NoMemory fails real = absurd (real refl)
+pub walked_err : (d : Data) (e : PageFault) → PageFails e (walk_page d) → e ≢ NoMemory → ((t : Tree) → IsPageOf d t → ⊥) × (fault_of_value d ≡ Some e)
+walked_err d NotAnElement fails real = answered d NotAnElement fails
+walked_err d BadName fails real = answered d BadName fails
+walked_err d BadAttribute fails real = answered d BadAttribute fails
+walked_err d BadChildren fails real = answered d BadChildren fails
+walked_err d TooDeep fails real = answered d TooDeep fails
+walked_err d TooMany fails real = answered d TooMany fails
+walked_err d NoMemory fails real = absurd (real refl)

@@ -5,11 +5,13 @@ use Rattle.std.proofs.lemmas.Bool.{ltb-true, lt-ltb}
 use Rattle.page_tree.specs.Name.{is_name}
 use Rattle.page_tree.specs.Tree.{Attribute, Tree, element, words, Trees, no_trees, tree}
 use Rattle.page_tree.specs.Limits.{max_depth, max_nodes, names_of, is_ascending, depth, depth_of_all, nodes, nodes_of_all, IsNamed, AreNamed, IsPage}
-use Rattle.page_tree.specs.Fault.{unless, first_fault, tree_nodes, tree_nodes_of_all, own_tree_fault, tree_faults, fault_of_tree}
-use Rattle.page_tree.specs.Visit.{◌>>=◌, inspect, inspect_all, inspect_page}
+use Rattle.page_tree.specs.FirstFault.{unless, ◌>>=◌}
+use Rattle.page_tree.specs.Fault.{first_fault, tree_nodes, tree_nodes_of_all, own_tree_fault, tree_faults, fault_of_tree}
+use Rattle.page_tree.specs.inside.Walk.{inspect, inspect_all, inspect_page}
 use Rattle.page_tree.specs.declared.fault.PageFault.{PageFault}
 use Rattle.page_tree.specs.declared.fault.PageFault.TheVariants.{BadName, BadAttribute, TooDeep, TooMany}
-use Rattle.page_tree.proofs.Faults.{first_at, first_fault-append, or_later-none, unless-none, first_none, AgreesAs, Agrees}
+use Rattle.page_tree.proofs.FirstFault.{option_or-none, unless-none}
+use Rattle.page_tree.proofs.Faults.{first_at, first_fault-append, first_none, AgreesAs, Agrees}
 
 abbrev pub faults_of : List (ℕ × Tree) → List (Option PageFault)
 faults_of zs = map (λ node. own_tree_fault node.0 node.1) zs
@@ -44,7 +46,7 @@ record Sound (levels n : ℕ) (name : List ℕ) (attributes : List Attribute) : 
 own_none : (levels n : ℕ) (name : List ℕ) (attributes : List Attribute) (children : Trees) (rest : Option PageFault)
     → first_at (nat_lt n max_nodes) (own_tree_fault levels (element name attributes children)) rest ≡ None → Sound levels n name attributes × (rest ≡ None)
 own_none levels n name attributes children rest none =
-    let here = or_later-none (unless (nat_lt n max_nodes) TooMany (own_tree_fault levels (element name attributes children))) rest none in
+    let here = option_or-none (unless (nat_lt n max_nodes) TooMany (own_tree_fault levels (element name attributes children))) rest none in
     let few = unless-none (nat_lt n max_nodes) TooMany (own_tree_fault levels (element name attributes children)) here.0 in
     let deep = unless-none (nat_lt 0 levels) TooDeep _ few.1 in
     let named = unless-none (is_name name) BadName _ deep.1 in
@@ -59,7 +61,7 @@ mutual
   -- no fault: within the limits
   within : (t : Tree) (levels n : ℕ) → n ≤ max_nodes → first_fault n (tree_faults levels t) ≡ None → Within levels n t
   within (words text) levels n room none =
-      let here = or_later-none (unless (nat_lt n max_nodes) TooMany None) None none in
+      let here = option_or-none (unless (nat_lt n max_nodes) TooMany None) None none in
       let few = unless-none (nat_lt n max_nodes) TooMany None here.0 in
       let less = ltb-true n max_nodes few.0 in
       record { deep = omega arith; many = omega arith; named = tt; count = refl }
@@ -77,7 +79,7 @@ mutual
   all_within : (ts : Trees) (levels n : ℕ) → n ≤ max_nodes → first_fault n (all_faults levels ts) ≡ None → AllWithin levels n ts
   all_within no_trees levels n room none = record { deep = omega arith; many = omega arith; named = tt; count = refl }
   all_within (tree t ts) levels n room none =
-      let parts = or_later-none (first_fault n (tree_faults levels t)) _ (sym (ap (first_fault n) (all_faults-tree levels t ts) ∙ first_fault-append (tree_faults levels t) (all_faults levels ts) n) ∙ none) in
+      let parts = option_or-none (first_fault n (tree_faults levels t)) _ (sym (ap (first_fault n) (all_faults-tree levels t ts) ∙ first_fault-append (tree_faults levels t) (all_faults levels ts) n) ∙ none) in
       let here = within t levels n room parts.0 in
       let there = all_within ts levels (n + length (tree_faults levels t)) (omega (arith, here.many, here.count)) parts.1 in
       record {
@@ -123,10 +125,10 @@ pub page_without_fault : (t : Tree) → fault_of_tree t ≡ None → IsPage t
 page_without_fault (words text) none = cc
 page_without_fault (element name attributes children) none =
     let w = within (element name attributes children) max_depth 0 (omega arith) none in
-    record { element = tt; deep = w.deep; many = omega (arith, w.many); named = w.named }
+    record { element = refl; deep = w.deep; many = omega (arith, w.many); named = w.named }
 
 pub no_fault_of_page : (t : Tree) → IsPage t → fault_of_tree t ≡ None
-no_fault_of_page (words text) page = absurd page.element
+no_fault_of_page (words text) page = let is : false ≡ true = page.element in cc
 no_fault_of_page (element name attributes children) page = (faultless (element name attributes children) max_depth 0 page.deep (omega (arith, page.many)) page.named).none
 
 -- ---- the walk over a tree

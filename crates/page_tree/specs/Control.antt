@@ -16,24 +16,20 @@ input_control (Some kind) =
     if str_eq_ignore_ascii_case kind (codes "checkbox") then Check else
     (if str_eq_ignore_ascii_case kind (codes "radio") then Radio else
     (if str_eq_ignore_ascii_case kind (codes "submit") then Submit else
-    (if str_eq_ignore_ascii_case kind (codes "image") || str_eq_ignore_ascii_case kind (codes "file") || str_eq_ignore_ascii_case kind (codes "reset") || str_eq_ignore_ascii_case kind (codes "button") then Other else Text)))
+    (if str_eq_ignore_ascii_case kind (codes "image") || str_eq_ignore_ascii_case kind (codes "file")
+    || str_eq_ignore_ascii_case kind (codes "reset") || str_eq_ignore_ascii_case kind (codes "button") then Other else Text)))
 
 -- a `button`, by its `type`
 unfoldable pub button_control : Option (List ℕ) → Control
 button_control None = Submit
 button_control (Some kind) = if str_eq_ignore_ascii_case kind (codes "reset") || str_eq_ignore_ascii_case kind (codes "button") then Other else Submit
 
--- an `a` or an `area`, by its `href`
-unfoldable pub link_control : Option (List ℕ) → Control
-link_control None = Other
-link_control (Some address) = Link
-
 unfoldable pub element_control : List ℕ → List Attribute → Control
 element_control name attributes =
     if bytes_eq name (codes "input") then input_control (value_of (codes "type") attributes) else
     (if bytes_eq name (codes "textarea") || bytes_eq name (codes "select") then Text else
     (if bytes_eq name (codes "button") then button_control (value_of (codes "type") attributes) else
-    (if bytes_eq name (codes "a") || bytes_eq name (codes "area") then link_control (value_of (codes "href") attributes) else
+    (if bytes_eq name (codes "a") || bytes_eq name (codes "area") then (if is_some (value_of (codes "href") attributes) then Link else Other) else
     (if bytes_eq name (codes "form") then Form else Other))))
 
 abbrev pub control_of : Tree → Control
@@ -48,12 +44,7 @@ control_at place t = option_map_or control_of (node_at place t) Other
 
 abbrev pub is_text : Control → Bool
 is_text Text = true
-is_text Check = false
-is_text Radio = false
-is_text Submit = false
-is_text Link = false
-is_text Form = false
-is_text Other = false
+is_text _ = false
 
 -- the texts among the children, joined
 abbrev pub child_texts : Trees → List ℕ
@@ -63,10 +54,12 @@ child_texts (tree (element name attributes children) ts) = child_texts ts
 
 -- a `textarea` starts with its child texts, an `input` and a `select` with their `value`, empty if absent
 abbrev pub start_text : List ℕ → List Attribute → Trees → List ℕ
-start_text name attributes children = if bytes_eq name (codes "textarea") then child_texts children else unwrap_or (value_of (codes "value") attributes) []
+start_text name attributes children =
+    if bytes_eq name (codes "textarea") then child_texts children else unwrap_or (value_of (codes "value") attributes) []
 
 abbrev pub start_text_of : Tree → Option (List ℕ)
-start_text_of (element name attributes children) = if is_text (element_control name attributes) then Some (start_text name attributes children) else None
+start_text_of (element name attributes children) =
+    if is_text (element_control name attributes) then Some (start_text name attributes children) else None
 start_text_of (words text) = None
 
 -- some text exactly at a Text control
@@ -77,13 +70,9 @@ start_text_at place t = option_and_then start_text_of (node_at place t)
 
 -- a control that is on or off
 abbrev pub is_switch : Control → Bool
-is_switch Text = false
 is_switch Check = true
 is_switch Radio = true
-is_switch Submit = false
-is_switch Link = false
-is_switch Form = false
-is_switch Other = false
+is_switch _ = false
 
 abbrev pub start_checked_of : Tree → Bool
 start_checked_of (element name attributes children) = is_switch (element_control name attributes) && is_some (value_of (codes "checked") attributes)

@@ -6,5 +6,6 @@ pub mod Look
 pub mod Under
 pub mod Control
 pub mod Value
+pub mod FirstFault
 pub mod Fault
-pub mod Visit
+pub mod inside

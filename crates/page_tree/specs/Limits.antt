@@ -1,5 +1,5 @@
 -- Which trees are pages: this project's own limits.
-use Rattle.std.specs.Prelude.{ℕ, suc, max, ◌+◌, ◌≤◌, List, [], ◌∷◌, map, Bool, true, ◌&&◌, IsTrue}
+use Rattle.std.specs.Prelude.{ℕ, suc, max, ◌+◌, ◌≤◌, List, [], ◌∷◌, map, Bool, true, false, ◌&&◌, IsTrue}
 use Rattle.std.specs.Ordering.{nat_cmp, is_lt}
 use Rattle.std.specs.Cmp.Lexicographic.{slice_cmp}
 use Rattle.page_tree.specs.Name.{is_name}
@@ -55,12 +55,12 @@ abbrev mutual
   AreNamed no_trees = Unit {0}
   AreNamed (tree t ts) = IsNamed t × AreNamed ts
 
-abbrev pub IsElement : Tree → Type 0
-IsElement (element name attributes children) = Unit {0}
-IsElement (words text) = ⊥
+abbrev pub is_element : Tree → Bool
+is_element (element name attributes children) = true
+is_element (words text) = false
 
 pub record IsPage (t : Tree) : Type 0 where
-  pub element : IsElement t
+  pub element : IsTrue (is_element t)
   pub deep : depth t ≤ max_depth
   pub many : nodes t ≤ max_nodes
   pub named : IsNamed t

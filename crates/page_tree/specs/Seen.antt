@@ -1,6 +1,5 @@
 -- The plain tree that a `Tree` of the code stands for.
-use Rattle.std.specs.Prelude.{ℕ, List, [], ◌∷◌, map, Vec}
-use Rattle.std.specs.declared.alloc.Global.{Global}
+use Rattle.std.specs.Prelude.{List, [], ◌∷◌, map}
 use Rattle.page_tree.specs.Tree as plain
 use Rattle.page_tree.specs.declared.tree.Tree.{Tree, fold-Tree}
 use Rattle.page_tree.specs.declared.tree.Tree.TheOpen.{Tree-F}
@@ -19,10 +18,3 @@ seen = fold-Tree plain.Tree seen_step
 
 abbrev pub all_seen : List Tree → plain.Trees
 all_seen ts = trees_of (map seen ts)
-
--- a tree, or trees, beside the number of nodes up to there
-abbrev pub seen_and_count : Tree × ℕ → plain.Tree × ℕ
-seen_and_count r = (seen r.0, r.1)
-
-abbrev pub all_seen_and_count : Vec Tree Global × ℕ → List plain.Tree × ℕ
-all_seen_and_count r = (map seen r.0.items, r.1)

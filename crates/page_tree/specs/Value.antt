@@ -1,5 +1,6 @@
 -- Which page a JSON value (RFC 8259) stands for: this project's own format.
-use Rattle.std.specs.Prelude.{◌≡◌, ℕ, List, [], ◌∷◌, Option, Some, None, option_map, option_and_then, codes}
+use Rattle.std.specs.Prelude.{◌≡◌, ℕ, zero, suc, List, [], ◌∷◌, Option, Some, unwrap_or, option_map, option_and_then, codes}
+use Rattle.std.specs.Option.{option_map_or}
 use Rattle.serde_json.specs.Data.{Data, string, object, Items, no_items, item, Members, no_members, member}
 use Rattle.serde_json.specs.Find.{get, as_str, as_array, as_object}
 use Rattle.page_tree.specs.Tree.{Attribute, Tree, element, words, Trees, no_trees, tree}
@@ -12,25 +13,17 @@ abbrev pub texts_of : Members → Option (List Attribute)
 texts_of no_members = Some []
 texts_of (member name d ms) = option_and_then (λ text. option_map (λ rest. (name, text) ∷ rest) (texts_of ms)) (as_str d)
 
-abbrev pub attributes_or_none : Option Data → Option (List Attribute)
-attributes_or_none None = Some []
-attributes_or_none (Some d) = option_and_then texts_of (as_object d)
-
-abbrev pub items_or_none : Option Data → Option Items
-items_or_none None = Some no_items
-items_or_none (Some d) = as_array d
-
 -- the member `n`, a text
 abbrev pub name_in : Data → Option (List ℕ)
 name_in d = option_and_then as_str (get (codes "n") d)
 
 -- the member `a`, an object of texts; no attributes where it is absent
 abbrev pub attributes_in : Data → Option (List Attribute)
-attributes_in d = attributes_or_none (get (codes "a") d)
+attributes_in d = option_map_or (λ given. option_and_then texts_of (as_object given)) (get (codes "a") d) (Some [])
 
 -- the member `c`, an array; no children where it is absent
 abbrev pub children_in : Data → Option Items
-children_in d = items_or_none (get (codes "c") d)
+children_in d = option_map_or as_array (get (codes "c") d) (Some no_items)
 
 -- ---- what a value stands for
 
@@ -52,3 +45,16 @@ abbrev mutual
 pub record IsPageOf (d : Data) (t : Tree) : Type 0 where
   pub stands : StandsFor d t
   pub page : IsPage t
+
+-- ---- the same as a function
+
+abbrev pub trees_in : (Data → Tree) → Items → Trees
+trees_in one no_items = no_trees
+trees_in one (item d ds) = tree (one d) (trees_in one ds)
+
+-- the tree, where the value stands for one that has at most so many levels of elements
+unfoldable pub tree_in : ℕ → Data → Tree
+tree_in zero d = words (unwrap_or (as_str d) [])
+tree_in (suc levels) d =
+    option_map_or words (as_str d)
+    (element (unwrap_or (name_in d) []) (unwrap_or (attributes_in d) []) (option_map_or (trees_in (tree_in levels)) (children_in d) no_trees))

@@ -1,6 +1,6 @@
 ghost use Rattle.std.specs.Prelude.{◌≡◌, option_map};
 ghost use Rattle.page_tree.specs.Seen.{seen};
-ghost use Rattle.page_tree.specs.Control.{control_of, element_control, input_control, button_control, link_control, is_text, is_switch};
+ghost use Rattle.page_tree.specs.Control.{control_of, element_control, input_control, button_control, is_text, is_switch};
 
 use crate::attributes::Attributes;
 use crate::tree::Tree;
@@ -61,7 +61,7 @@ pub(crate) fn element_control(name: &str, attributes: &Attributes) -> Control
         "input" => input_control(attributes.get("type")),
         "textarea" | "select" => Control::Text,
         "button" => button_control(attributes.get("type")),
-        "a" | "area" => link_control(attributes.get("href")),
+        "a" | "area" if attributes.get("href").is_some() => Control::Link,
         "form" => Control::Form,
         _ => Control::Other,
     }
@@ -102,15 +102,5 @@ fn button_control(kind: Option<&str>) -> Control
         Control::Other
     } else {
         Control::Submit
-    }
-}
-
-#[tactic(auto, unfolding(crate::specs::Control::link_control))]
-fn link_control(address: Option<&str>) -> Control
-    ensures { result ≡ link_control (option_map (λ address. address.now) address.entry) }
-{
-    match address {
-        None => Control::Other,
-        Some(_) => Control::Link,
     }
 }

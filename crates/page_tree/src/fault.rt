@@ -1,34 +1,47 @@
-ghost use Rattle.std.specs.Prelude.{◌≡◌};
+ghost use Rattle.std.specs.Prelude.{◌≡◌, Some};
+ghost use Rattle.page_tree.specs.Fault.{page_fault_code};
 ghost use Rattle.page_tree.specs.declared.fault.PageFault.TheVariants.{NoMemory};
 
 use std::alloc::{AllocError, AllocFailed};
-use thiserror::Error;
+use std::error::Error;
+use std::fmt;
 
-/// Why something is no page. Its text is its number, as `P1`.
-#[derive(Clone, Copy, Debug, PartialEq, Eq, Error)]
+/// Why something is no page. Its text is its code, as `P1`.
+#[derive(Clone, Copy, Debug, PartialEq, Eq)]
 pub enum PageFault {
     /// The root is no element.
-    #[error("P1")]
     NotAnElement,
     /// An element's name is absent, no text, or no name of an element.
-    #[error("P2")]
     BadName,
     /// An element's attributes are no object of texts, or don't ascend by name.
-    #[error("P3")]
     BadAttribute,
     /// A child is neither an object nor a string, or children are no array.
-    #[error("P4")]
     BadChildren,
     /// An element stands below the last level.
-    #[error("P5")]
     TooDeep,
     /// There is one node too many.
-    #[error("P6")]
     TooMany,
     /// An allocation was refused.
-    #[error("P7")]
     NoMemory,
 }
+
+impl fmt::Display for PageFault {
+    ghost output = { λ fault. Some (page_fault_code fault) };
+
+    fn fmt<W: fmt::Write>(&self, f: &mut fmt::Formatter<W>) -> fmt::Result {
+        match self {
+            PageFault::NotAnElement => f.write_str("P1"),
+            PageFault::BadName => f.write_str("P2"),
+            PageFault::BadAttribute => f.write_str("P3"),
+            PageFault::BadChildren => f.write_str("P4"),
+            PageFault::TooDeep => f.write_str("P5"),
+            PageFault::TooMany => f.write_str("P6"),
+            PageFault::NoMemory => f.write_str("P7"),
+        }
+    }
+}
+
+impl Error for PageFault {}
 
 impl From<AllocError> for PageFault {
     ghost from_gives = { λ _ e. e ≡ NoMemory };

@@ -1,6 +1,6 @@
 ghost use Rattle.std.specs.Prelude.{◌≡◌};
 ghost use Rattle.page_tree.specs.Seen.{seen, all_seen};
-ghost use Rattle.page_tree.specs.Visit.{inspect, inspect_all, inspect_page};
+ghost use Rattle.page_tree.specs.inside.Walk.{inspect, inspect_all, inspect_page};
 
 use crate::fault::PageFault;
 use crate::limits::{MAX_DEPTH, MAX_NODES};

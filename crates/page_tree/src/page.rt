@@ -7,8 +7,7 @@ ghost use Rattle.serde_json.specs.View.{view};
 ghost use Rattle.page_tree.specs.Tree.{Tree as PlainTree};
 ghost use Rattle.page_tree.specs.Limits.{IsPage};
 ghost use Rattle.page_tree.specs.Value.{IsPageOf};
-ghost use Rattle.page_tree.specs.Fault.{fault_of_tree, fault_of_value};
-ghost use Rattle.page_tree.specs.Visit.{page_in, page_or_fault, Gives};
+ghost use Rattle.page_tree.specs.Fault.{fault_of_tree, fault_of_value, page_in, page_or_fault, GivesPage};
 ghost use Rattle.page_tree.specs.declared.fault.PageFault.TheVariants.{NoMemory};
 ghost use Rattle.page_tree.specs.Look.{node_at, name_at, child_count_at, attribute_at, text_at};
 ghost use Rattle.page_tree.specs.Under.{is_under, places_under};
@@ -37,9 +36,10 @@ pub struct Page {
 }
 
 impl Model for Page {
-    ghost use Rattle.page_tree.specs.Tree.{Tree, tree_code};
+    ghost use Rattle.page_tree.specs.Tree.{Tree};
     ghost use Rattle.page_tree.specs.Limits.{IsPage};
     ghost use Rattle.page_tree.specs.Seen.{seen};
+    ghost use Rattle.page_tree.specs.inside.TreeCode.{tree_code};
 
     ghost Value = { Tree };
 
@@ -72,7 +72,7 @@ impl Page {
     ///
     /// The fault is the first in document order, and at one node the first of `TooMany`, `NotAnElement` (the root is no object) or `BadChildren`
     /// (a child is neither object nor string), `TooDeep`, `BadName`, `BadAttribute`, `BadChildren` (`c` is no array).
-    #[tactic(auto, unfolding(crate::specs::Visit::page_or_fault))]
+    #[tactic(auto, using(crate::proofs::ValueLaws::page_is_walked))]
     pub fn from_value(alloc: Global, value: &Value) -> Result<Page, PageFault>
         ensures ok { IfOk result (λ page. IsPageOf (view value.now) page × (fault_of_value (view value.now) ≡ None)) }
         ensures only { IfOk result (λ page. (other : PlainTree) → IsPageOf (view value.now) other → other ≡ page) }
@@ -80,7 +80,7 @@ impl Page {
         ensures fault { IfErr result (λ e. e ≢ NoMemory → fault_of_value (view value.now) ≡ Some e) }
 
         // The same as functions.
-        ensures exact { Gives (λ page. page) result (page_or_fault (view value.now)) }
+        ensures exact { GivesPage (λ page. page) result (page_or_fault (view value.now)) }
         ensures found { MatchResult result (λ page. page_in (view value.now) ≡ Some page) (λ e. e ≢ NoMemory → page_in (view value.now) ≡ None) }
     {
         let root = read_root(alloc, value)?;

@@ -1,9 +1,10 @@
-ghost use Rattle.std.specs.Prelude.{◌≡◌, ◌<◌, ◌≤◌, option_map, option_and_then};
+ghost use Rattle.std.specs.Prelude.{◌≡◌, ◌<◌, ◌≤◌, ok_or, option_map, option_and_then};
 ghost use Rattle.serde_json.specs.View.{view, items_view};
 ghost use Rattle.serde_json.specs.Find.{as_str};
-ghost use Rattle.page_tree.specs.Seen.{seen, seen_and_count, all_seen_and_count};
+ghost use Rattle.page_tree.specs.Seen.{seen};
 ghost use Rattle.page_tree.specs.Value.{name_in, attributes_in};
-ghost use Rattle.page_tree.specs.Visit.{or_fault, if_name, if_ascending, visit, visit_all, visit_children, visit_element, inside, visit_page, Gives};
+ghost use Rattle.page_tree.specs.Fault.{GivesPage};
+ghost use Rattle.page_tree.specs.inside.Walk.{if_name, if_ascending, walk, walk_all, walk_children, walk_element, walk_object, walk_page, seen_and_count, all_seen_and_count};
 ghost use Rattle.page_tree.specs.declared.fault.PageFault.TheVariants.{BadName, BadAttribute};
 
 use crate::attributes::Attributes;
@@ -17,7 +18,7 @@ use std::alloc::Global;
 
 /// The tree that a value stands for, or its first fault in document order.
 pub(crate) fn read_root(alloc: Global, value: &Value) -> Result<Tree, PageFault>
-    ensures { Gives seen result (visit_page (view value.now)) }
+    ensures { GivesPage seen result (walk_page (view value.now)) }
 {
     if value.as_object().is_none() {
         return Err(PageFault::NotAnElement);
@@ -34,7 +35,7 @@ fn read_node(
     levels: u32,
     before: u32,
 ) -> Result<(Tree, u32), PageFault>
-    ensures { Gives seen_and_count result (visit levels before (view value.now)) }
+    ensures { GivesPage seen_and_count result (walk levels before (view value.now)) }
 {
     if before >= MAX_NODES {
         return Err(PageFault::TooMany);
@@ -50,7 +51,7 @@ fn read_node(
 }
 
 #[cycle(reading)]
-#[tactic(auto, using(crate::proofs::Levels::inside_none, crate::proofs::Levels::inside_some))]
+#[tactic(auto, using(crate::proofs::Levels::walk_object_none, crate::proofs::Levels::walk_object_some))]
 fn read_object(
     alloc: Global,
     value: &Value,
@@ -58,7 +59,7 @@ fn read_object(
     before: u32,
 ) -> Result<(Tree, u32), PageFault>
     requires { before < 4096 }
-    ensures { Gives seen_and_count result (inside levels before (view value.now)) }
+    ensures { GivesPage seen_and_count result (walk_object levels before (view value.now)) }
 {
     if levels == 0 {
         return Err(PageFault::TooDeep);
@@ -75,7 +76,7 @@ fn read_element(
     before: u32,
 ) -> Result<(Tree, u32), PageFault>
     requires { before < 4096 }
-    ensures { Gives seen_and_count result (visit_element (visit levels) before (view value.now)) }
+    ensures { GivesPage seen_and_count result (walk_element (walk levels) before (view value.now)) }
 {
     let name = read_name(alloc, value)?;
     let attributes = read_attributes(alloc, value)?;
@@ -91,7 +92,7 @@ fn read_element(
 }
 
 fn read_name(alloc: Global, value: &Value) -> Result<Text, PageFault>
-    ensures { Gives (λ name. name) result (or_fault BadName (option_and_then if_name (name_in (view value.now)))) }
+    ensures { GivesPage (λ name. name) result (ok_or (option_and_then if_name (name_in (view value.now))) BadName) }
 {
     let Some(name) = value.get("n").and_then(Value::as_str) else {
         return Err(PageFault::BadName);
@@ -103,7 +104,7 @@ fn read_name(alloc: Global, value: &Value) -> Result<Text, PageFault>
 }
 
 fn read_attributes(alloc: Global, value: &Value) -> Result<Attributes, PageFault>
-    ensures { Gives (λ attributes. attributes) result (or_fault BadAttribute (option_and_then if_ascending (attributes_in (view value.now)))) }
+    ensures { GivesPage (λ attributes. attributes) result (ok_or (option_and_then if_ascending (attributes_in (view value.now))) BadAttribute) }
 {
     let Some(given) = value.get("a") else {
         return Ok(Attributes::from(Vec::new(alloc)));
@@ -119,7 +120,7 @@ fn read_attributes(alloc: Global, value: &Value) -> Result<Attributes, PageFault
 }
 
 fn read_attribute(alloc: Global, name: &str, text: &Value) -> Result<(Text, Text), PageFault>
-    ensures { Gives (λ pair. pair) result (or_fault BadAttribute (option_map (λ text. (name.now, text)) (as_str (view text.now)))) }
+    ensures { GivesPage (λ pair. pair) result (ok_or (option_map (λ text. (name.now, text)) (as_str (view text.now))) BadAttribute) }
 {
     let Some(text) = text.as_str() else {
         return Err(PageFault::BadAttribute);
@@ -134,7 +135,7 @@ fn read_children(
     levels: u32,
     before: u32,
 ) -> Result<(Vec<Tree>, u32), PageFault>
-    ensures { Gives all_seen_and_count result (visit_children (visit levels) before (view value.now)) }
+    ensures { GivesPage all_seen_and_count result (walk_children (walk levels) before (view value.now)) }
 {
     let Some(given) = value.get("c") else {
         return Ok((Vec::new(alloc), before));
@@ -152,7 +153,7 @@ fn read_items(
     levels: u32,
     before: u32,
 ) -> Result<(Vec<Tree>, u32), PageFault>
-    ensures { Gives all_seen_and_count result (visit_all (visit levels) before (items_view items.now)) }
+    ensures { GivesPage all_seen_and_count result (walk_all (walk levels) before (items_view items.now)) }
 {
     let mut found = Vec::new(alloc);
     let mut count = before;

@@ -1,39 +1,31 @@
 -- What clauses see of a Table, and its law: this project's own rule.
-use Rattle.std.specs.Prelude.{ℕ, List, Bool, true, false, not, Option, Some, None}
+use Rattle.std.specs.Prelude.{ℕ, List, Bool, true, false, not, Option, Some, None, option_map}
 use Rattle.std.specs.List.{list_any}
 use Rattle.std.specs.BTreeMap.{get_by_text}
 use Rattle.std.specs.Str.{bytes_eq}
 use Rattle.page_tree.specs.Tree.{Tree}
 use Rattle.page_tree.specs.Look.{text_at}
 use Rattle.xpath_child.specs.Path.{Step}
-use Rattle.xpath_child.specs.Targets.{target_in}
-use Rattle.xpath_child.specs.declared.target.Target.{Target}
-use Rattle.xpath_child.specs.declared.target.Target.TheVariants.{Missing, One, Several}
+use Rattle.xpath_child.specs.Targets.{target_in, only_place}
 use Rattle.site_hooks.specs.declared.table.Table.{Table}
 
 -- the page that stands at the whole address
-abbrev pub page_in : Table → List ℕ → Option Tree
-page_in table address = get_by_text table.pages address
+abbrev pub table_page : Table → List ℕ → Option Tree
+table_page table address = get_by_text table.pages address
 
 -- the paths that are watched, in the order in which they came
 abbrev pub watched_in : Table → List (List Step)
 watched_in table = table.watched.items
 
 -- the texts under the only place; none where a path selects no place, or several
-abbrev pub text_of_target : Tree → Target → Option (List ℕ)
-text_of_target page Missing = None
-text_of_target page (One place) = Some (text_at place page)
-text_of_target page Several = None
-
 abbrev pub watched_text : Tree → List Step → Option (List ℕ)
-watched_text page path = text_of_target page (target_in path page)
+watched_text page path = option_map (λ place. text_at place page) (only_place (target_in path page))
 
 -- equal texts, or none twice; none differs from every text, the empty one too
 abbrev pub is_same_text : Option (List ℕ) → Option (List ℕ) → Bool
 is_same_text None None = true
 is_same_text (Some a) (Some b) = bytes_eq a b
-is_same_text None (Some b) = false
-is_same_text (Some a) None = false
+is_same_text one other = false
 
 abbrev pub is_changed : Tree → Tree → List Step → Bool
 is_changed old new path = not (is_same_text (watched_text old path) (watched_text new path))

@@ -1,14 +1,14 @@
 //! A site of pages by address, with watched paths.
 ghost use Rattle.std.specs.Prelude.{◌≡◌, [], ◌∷◌, ◌++◌, ℕ, List, Some, None, if◌then◌else◌, IfOk, OnOk, OnErr};
 ghost use Rattle.std.specs.Str.{bytes_eq};
-ghost use Rattle.site_hooks.specs.Table.{page_in, watched_in, watched_text, is_changed, signals_in};
+ghost use Rattle.site_hooks.specs.Table.{table_page, watched_in, watched_text, is_changed, signals_in};
 
 use crate::hooks::SiteHooks;
 use crate::law::SiteLaw;
 use page_tree::{NoMemory, Page, Text};
 use std::alloc::Global;
 use std::collections::BTreeMap;
-use xpath_child::{Path, Target};
+use xpath_child::Path;
 
 /// A site that was set up page by page. The page at an address is the one that was added for the whole address; a conflict is signalled where a
 /// watched path has another text on the old page than on the new, at whatever address.
@@ -21,7 +21,7 @@ pub struct Table {
 impl Table {
     /// A site without pages that watches nothing. It takes no memory.
     pub fn new(alloc: Global) -> Table
-        ensures pages { (address : List ℕ) → page_in result address ≡ None }
+        ensures pages { (address : List ℕ) → table_page result address ≡ None }
         ensures watched { watched_in result ≡ [] }
     {
         Table {
@@ -32,8 +32,8 @@ impl Table {
 
     /// Adds the page at an address, in place of an earlier one; after an error all is as before.
     pub fn add_page(&mut self, address: Text, page: Page) -> Result<(), NoMemory>
-        ensures ok { OnOk result ((other : List ℕ) → page_in self.new other ≡ (if bytes_eq address other then Some page else page_in self.old other)) }
-        ensures err { OnErr result ((other : List ℕ) → page_in self.new other ≡ page_in self.old other) }
+        ensures ok { OnOk result ((other : List ℕ) → table_page self.new other ≡ (if bytes_eq address other then Some page else table_page self.old other)) }
+        ensures err { OnErr result ((other : List ℕ) → table_page self.new other ≡ table_page self.old other) }
         ensures watched { watched_in self.new ≡ watched_in self.old }
     {
         self.pages.insert(address.into_string(), page)?;
@@ -44,7 +44,7 @@ impl Table {
     pub fn watch(&mut self, path: Path) -> Result<(), NoMemory>
         ensures ok { OnOk result (watched_in self.new ≡ watched_in self.old ++ path ∷ []) }
         ensures err { OnErr result (watched_in self.new ≡ watched_in self.old) }
-        ensures pages { (address : List ℕ) → page_in self.new address ≡ page_in self.old address }
+        ensures pages { (address : List ℕ) → table_page self.new address ≡ table_page self.old address }
     {
         self.watched.push(path)?;
         Ok(())
@@ -52,7 +52,7 @@ impl Table {
 }
 
 impl SiteLaw for Table {
-    ghost page_of = { page_in };
+    ghost page_of = { table_page };
 
     ghost signals = { λ table address old new. signals_in table old new };
 }
@@ -90,8 +90,8 @@ fn changed(path: &Path, old: &Page, new: &Page) -> Result<bool, NoMemory>
 fn text_on(page: &Page, path: &Path) -> Result<Option<Text>, NoMemory>
     ensures { IfOk result (λ text. text ≡ watched_text page.now path.now) }
 {
-    match path.select(page)? {
-        Target::One(place) => Ok(Some(page.text_under(&place)?)),
-        Target::Missing | Target::Several => Ok(None),
+    match path.select(page)?.only() {
+        Some(place) => Ok(Some(page.text_under(place)?)),
+        None => Ok(None),
     }
 }

@@ -54,6 +54,39 @@ impl Read for Drip {
     }
 }
 
+/// Gives an empty line a read. It counts its reads, and keeps the least and the greatest room that they were offered.
+#[derive(Drop)]
+pub struct Rooms {
+    pub reads: u32,
+    pub least: usize,
+    pub greatest: usize,
+}
+
+impl Rooms {
+    pub fn new() -> Rooms {
+        Rooms {
+            reads: 0,
+            least: usize::MAX,
+            greatest: 0,
+        }
+    }
+}
+
+impl Read for Rooms {
+    fn read(&mut self, buf: &mut [u8]) -> io::Result<usize> {
+        self.reads = self.reads.saturating_add(1);
+        self.least = self.least.min(buf.len());
+        self.greatest = self.greatest.max(buf.len());
+        match buf.first_mut() {
+            Some(first) => {
+                *first = b'\n';
+                Ok(1)
+            }
+            None => Ok(0),
+        }
+    }
+}
+
 /// Gives one byte a read, the same one without end.
 #[derive(Drop)]
 pub struct Endless {

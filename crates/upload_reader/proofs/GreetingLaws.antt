@@ -1,124 +1,156 @@
--- How an upload begins, as one line after another is cut from its input.
-use Rattle.std.proofs.Common.{◌≡◌, ℕ, ◌+◌, ◌-◌, ◌≤◌, ◌≢◌, List, ◌++◌, length, take, drop, Bool, true, false, if◌then◌else◌, Option, Some, None, Result, Ok, Err, IsNone, IsSome, IfSome, refl, sym, ◌∙◌, ap, arith}
-use Rattle.upload_reader.specs.Answers.{Answer, bytes_of}
-use Rattle.upload_reader.specs.Cutting.{cut}
-use Rattle.upload_reader.specs.GoesOn.{GoesOn}
-use Rattle.upload_reader.specs.Greeted.{passed_by, PassesOn, Says, SaysAs, LineGreets, LineSays, NeededForLine, hello_fault_of}
-use Rattle.upload_reader.specs.Greeting.{Passed, Hello, Greeting, greet, pass_line, greeted, hello_by_line, without_hello, greeting_by, greeting_from}
+-- How an upload begins, by the first line that isn't blank.
+use Rattle.std.proofs.Common.{◌≡◌, ◌≢◌, ℕ, ◌+◌, List, [], ◌∷◌, ◌++◌, length, drop, true, false, Option, Some, None, Result, Ok, Err, IfSome, IsErrOf, inr, refl, ap, ◌∙◌, arith, length-append}
+use Rattle.byte_streams.specs.Answers.{Answer, bytes_of}
+use Rattle.byte_streams.specs.Cutting.{cut, ending_of}
+use Rattle.byte_streams.specs.Reading.{Reading, ReadsWhile, input}
+use Rattle.byte_streams.specs.declared.fault.LineFault.{LineFault}
+use Rattle.byte_streams.specs.declared.fault.LineFault.TheVariants as line
+use Rattle.byte_streams.proofs.ReadingLaws.{reads_where}
+use Rattle.upload_reader.specs.Front.{Passes, LinesBetween}
+use Rattle.upload_reader.specs.Greeting.{Greeting, greeting_by, no_greeting, lines_length, hello_fault_of}
 use Rattle.upload_reader.specs.Hello.{hello_said}
-use Rattle.upload_reader.specs.InTurn.{Turn, on, over, in_turn, after_turn}
+use Rattle.upload_reader.specs.Limits.{max_line_bytes}
 use Rattle.upload_reader.specs.Message.{is_blank}
-use Rattle.upload_reader.specs.Reading.{EachNeeded}
-use Rattle.upload_reader.specs.declared.fault.LineFault.{LineFault}
-use Rattle.upload_reader.specs.declared.fault.LineFault.TheVariants.{ReadFailed, TooManyReads, Truncated, LineTooLong, NoMemory as want_of_memory}
+use Rattle.upload_reader.specs.Stream.{kind_of}
+use Rattle.upload_reader.specs.Upload.{Greets, NotGreeted, LeavesFault, Refuses}
+use Rattle.upload_reader.specs.inside.Greeted.{BeginsLines, SaysHello}
+use Rattle.upload_reader.specs.inside.Text.{BlanksBetween, OnlyBlanks, NextText}
 use Rattle.upload_reader.specs.declared.hello_fault.HelloFault.{HelloFault}
 use Rattle.upload_reader.specs.declared.hello_fault.HelloFault.TheVariants.{BadClient, NoHello, Line, NoMemory}
-use Rattle.upload_reader.proofs.TurnLaws.{turn_line, turn_fault, turn_none}
+use Rattle.upload_reader.specs.declared.lane_fault.LaneFault.{LaneFault}
+use Rattle.upload_reader.proofs.BlankLaws.{passes_blanks, between_length, joined_long}
+use Rattle.upload_reader.proofs.FrontLaws.{passes_none}
+use Rattle.upload_reader.proofs.FrontSteps.{ends_by_line, ends_by_fault, none_yet}
+use Rattle.upload_reader.proofs.HelloFaults.{leaves_none}
+use Rattle.upload_reader.proofs.LinesBetween.{between_then, between_line}
 
-abbrev greeting_at : ℕ → Result Hello HelloFault → Greeting
-greeting_at bytes answer = record { bytes = bytes; answer = Some answer }
+skips : (before : List (List ℕ)) (line : List ℕ) → is_blank line ≡ true → greeting_by before line ≡ None
+unfolding greeting_by
+skips before line blank = rw blank refl
 
-abbrev pub greeting_after : Turn Passed Greeting → List ℕ → Option LineFault → Greeting
-greeting_after (on passed) bytes ending = greeting_from None passed bytes ending
-greeting_after (over greeting) bytes ending = greeting
+greets_by : (before : List (List ℕ)) (line : List ℕ) → is_blank line ≡ false → greeting_by before line ≡ Some (record { lines = length before + 1; answer = hello_said (length before + 1) line })
+unfolding greeting_by
+greets_by before line text = rw text refl
 
-fresh : (passed : Passed) (bytes : List ℕ) (ending : Option LineFault) → greeting_from None passed bytes ending ≡ greeting_by (in_turn greet without_hello passed bytes ending)
-unfolding greeting_from
-fresh passed bytes ending = refl
+blanks_pass : (blanks : List (List ℕ)) (bytes : List ℕ) (from to : ℕ) → BlanksBetween bytes from to blanks → Passes max_line_bytes greeting_by no_greeting blanks
+blanks_pass blanks bytes from to passed = passes_blanks greeting_by no_greeting skips [] blanks (passes_none max_line_bytes greeting_by no_greeting) passed.blank
 
-after : (turn : Turn Passed Greeting) (bytes : List ℕ) (ending : Option LineFault) → greeting_by (after_turn greet without_hello turn bytes ending) ≡ greeting_after turn bytes ending
-after (on passed) bytes ending = sym (fresh passed bytes ending)
-after (over greeting) bytes ending = refl
+-- blank lines alone tell nothing yet
+not_greeted : (place : ℕ) (answers : List Answer) → OnlyBlanks place answers → NotGreeted place answers
+not_greeted place answers (to, blanks, passed, none) =
+    (blanks, none_yet max_line_bytes greeting_by no_greeting place to (bytes_of answers) blanks passed.between (blanks_pass blanks (bytes_of answers) place to passed) none)
 
--- A line that was cut is passed, or is the hello, however the input goes on.
-pub greeting_line : (passed : Passed) (place : ℕ) (input line more : List ℕ) (ending ending' : Option LineFault) → cut 65536 (drop place input) ending ≡ Some (Ok line)
-    → greeting_from None passed (drop place (input ++ more)) ending' ≡ greeting_after (greet passed line) (drop (place + length line + 1) (input ++ more)) ending'
-greeting_line passed place input line more ending ending' is =
-    fresh passed (drop place (input ++ more)) ending'
-    ∙ (ap greeting_by (turn_line greet without_hello place input line more ending ending' passed is)
-    ∙ after (greet passed line) (drop (place + length line + 1) (input ++ more)) ending')
+abbrev cut_one : Result (Unit {0}) LineFault
+cut_one = Ok tt
 
--- A fault in place of a line is the answer, however the input goes on.
-pub greeting_fault : (passed : Passed) (place : ℕ) (input input' : List ℕ) (ending ending' : Option LineFault) (fault : LineFault) → cut 65536 (drop place input) ending ≡ Some (Err fault)
-    → GoesOn input input' ending ending' → greeting_from None passed (drop place input') ending' ≡ without_hello passed fault
-greeting_fault passed place input input' ending ending' fault is goes =
-    fresh passed (drop place input') ending' ∙ ap greeting_by (turn_fault greet without_hello place input input' ending ending' fault passed is goes)
+abbrev no_line : LineFault → Result (Unit {0}) LineFault
+no_line fault = Err fault
 
--- So is one that the lines had before.
-pub greeting_had : (passed : Passed) (bytes : List ℕ) (ending : Option LineFault) (fault : LineFault) → greeting_from (Some fault) passed bytes ending ≡ without_hello passed fault
-unfolding greeting_from
-greeting_had passed bytes ending fault = refl
+module _ {R : Type 0} (old new : Reading R) (number : ℕ) where
+  pub reads_for_hello : (result : Result (Unit {0}) LineFault) → NextText 0 old new number result → ReadsWhile (NotGreeted old.place) old new
+  reads_for_hello result next = reads_where (OnlyBlanks old.place) (NotGreeted old.place) old new (not_greeted old.place) next.reads
 
--- Where nothing can be cut yet, there is no answer.
-pub greeting_none : (passed : Passed) (place : ℕ) (input : List ℕ) → cut 65536 (drop place input) None ≡ None → greeting_from None passed (drop place input) None ≡ record { bytes = passed.bytes; answer = None }
-greeting_none passed place input is = fresh passed (drop place input) None ∙ ap greeting_by (turn_none greet without_hello place input passed is)
+  -- ---- a line that isn't blank
 
--- ---- by what the code knows
+  module _ (next : NextText 0 old new number cut_one) where
+    had_none : (had : Option LineFault) → IfSome had (λ fault. IsErrOf cut_one fault × (number ≡ 0 + 1) × (new ≡ old)) → had ≡ None
+    had_none None again = refl
+    had_none (Some fault) again = let never = again.0 in cc
 
--- where a line came, what it says
-module _ (start place place' lines : ℕ) (input line : List ℕ) (ending : Option LineFault) (from : start ≤ place) (is : cut 65536 (drop place input) ending ≡ Some (Ok line)) (next : place' ≡ place + length line + 1) where
-  farther : place - start + length line + 1 ≡ place' - start
-  farther = omega (arith, next, from)
+    going : old.fault ≡ None
+    going = had_none old.fault next.again
 
-  abbrev here : Passed
-  here = passed_by lines (place - start)
+    greets_line : (answer : Result (List ℕ) HelloFault) → hello_said number new.line ≡ answer → Greets old.place new (record { lines = number; answer = answer })
+    greets_line answer is input' ending' goes =
+        let number_is : length next.blanks + 1 ≡ number = omega (arith, next.number_is) in
+        let judged : greeting_by next.blanks new.line ≡ Some (record { lines = number; answer = answer }) =
+        greets_by next.blanks new.line next.text ∙ ap (λ n. greeting n (hello_said n new.line)) number_is ∙ ap (greeting number) is in (
+          next.blanks,
+          ends_by_line max_line_bytes greeting_by no_greeting old.place next.at (input new) next.blanks next.passed.between (blanks_pass next.blanks (input new) old.place next.at next.passed) new.line (ending_of new.answers)
+              (record { lines = number; answer = answer }) (next.tells (rw going refl)) judged input' ending' goes,
+        )
+      where
+        greeting : ℕ → Result (List ℕ) HelloFault → Option Greeting
+        greeting n answer = Some (record { lines = n; answer = answer })
 
-  turned : (blank : Bool) → is_blank line ≡ blank → greet here line ≡ (if blank then on (pass_line here line) else over (greeted here line))
-  unfolding greet
-  turned blank said = rw said refl
+    between : LinesBetween (input new) old.place new.place (next.blanks ++ new.line ∷ [])
+    between = rw next.place (between_then (input new) old.place next.at (next.at + length new.line + 1) next.blanks (new.line ∷ []) next.passed.between (between_line max_line_bytes next.at (input new) new.line (ending_of new.answers) (next.tells (rw going refl))))
 
-  blank_passes : is_blank line ≡ true → PassesOn None start place place' lines (lines + 1) input
-  blank_passes blank more ending' =
-      greeting_line here place input line more ending ending' is
-      ∙ ap (λ turn. greeting_after turn (drop (place + length line + 1) (input ++ more)) ending') (turned true blank)
-      ∙ ap (λ bytes. greeting_from None (passed_by (lines + 1) bytes) (drop (place + length line + 1) (input ++ more)) ending') farther
-      ∙ ap (λ k. greeting_from None (passed_by (lines + 1) (place' - start)) (drop k (input ++ more)) ending') (sym next)
+    counted : length (next.blanks ++ new.line ∷ []) ≡ number
+    counted = omega (arith, length-append next.blanks (new.line ∷ []), next.number_is)
 
-  says_hello : (answer : Result Hello HelloFault) → is_blank line ≡ false → hello_by_line (lines + 1) (hello_said (lines + 1) line) ≡ answer → Says None start place place' lines input ending answer
-  says_hello answer said by input' ending' goes =
-      ap (λ bytes. greeting_from None here (drop place bytes) ending') goes.bytes_are
-      ∙ greeting_line here place input line goes.more ending ending' is
-      ∙ ap (λ turn. greeting_after turn (drop (place + length line + 1) (input ++ goes.more)) ending') (turned false said)
-      ∙ ap (λ bytes. greeting_at bytes (hello_by_line (lines + 1) (hello_said (lines + 1) line))) farther
-      ∙ ap (greeting_at (place' - start)) by
+    behind : new.place ≡ old.place + lines_length number (drop old.place (input new))
+    behind = rw (← counted) (between_length (input new) old.place new.place (next.blanks ++ new.line ∷ []) between)
 
-  pub line_says : (result : Result (Option (List ℕ)) HelloFault) → LineGreets (lines + 1) line result → LineSays None start place place' lines input ending result
-  line_says (Ok None) greets = blank_passes greets
-  line_says (Ok (Some client)) greets = says_hello (Ok (record { client = client; lines = lines + 1 })) greets.0 (ap (hello_by_line (lines + 1)) greets.1)
-  line_says (Err NoMemory) greets = tt
-  line_says (Err BadClient) greets = says_hello (Err BadClient) greets.0 (ap (hello_by_line (lines + 1)) greets.1)
-  line_says (Err NoHello) greets = says_hello (Err NoHello) greets.0 (ap (hello_by_line (lines + 1)) greets.1)
-  line_says (Err (Line number fault)) greets = says_hello (Err (Line number fault)) greets.0 (ap (hello_by_line (lines + 1)) greets.1)
+    pub begins_by : (client : List ℕ) → hello_said number new.line ≡ Ok client → BeginsLines old new client number
+    begins_by client is = record {
+      going = going;
+      reads = reads_for_hello cut_one next;
+      greets = greets_line (Ok client) is;
+      behind = behind;
+      fault = next.fault;
+      few = omega (arith, joined_long (next.blanks ++ new.line ∷ []), between.bytes, counted);
+    }
 
--- where none came, why
-module _ (start place lines : ℕ) (input : List ℕ) (ending : Option LineFault) where
-  says_refused : (had : Option LineFault) (fault : LineFault)
-      → ((input' : List ℕ) (ending' : Option LineFault) → GoesOn input input' ending ending' → greeting_from had (passed_by lines (place - start)) (drop place input') ending' ≡ without_hello (passed_by lines (place - start)) fault)
-      → SaysAs had start place place lines input ending (Err (hello_fault_of (lines + 1) fault))
-  says_refused had ReadFailed is = is
-  says_refused had TooManyReads is = is
-  says_refused had Truncated is = is
-  says_refused had LineTooLong is = is
-  says_refused had want_of_memory is = tt
+    greets_unless : (fault : HelloFault) → SaysHello (Err fault) (hello_said number new.line) → fault ≢ NoMemory → Greets old.place new (record { lines = number; answer = Err fault })
+    greets_unless BadClient says some = greets_line (Err BadClient) says
+    greets_unless NoHello says some = greets_line (Err NoHello) says
+    greets_unless (Line at kind) says some = greets_line (Err (Line at kind)) says
+    greets_unless NoMemory says some = absurd (some refl)
 
-  is_cut : (fault : LineFault) → (fault ≢ want_of_memory → cut 65536 (drop place input) ending ≡ Some (Err fault)) → SaysAs None start place place lines input ending (Err (hello_fault_of (lines + 1) fault))
-  is_cut ReadFailed stops = says_refused None ReadFailed (λ input' ending' goes. greeting_fault (passed_by lines (place - start)) place input input' ending ending' ReadFailed (stops (λ same. cc)) goes)
-  is_cut TooManyReads stops = says_refused None TooManyReads (λ input' ending' goes. greeting_fault (passed_by lines (place - start)) place input input' ending ending' TooManyReads (stops (λ same. cc)) goes)
-  is_cut Truncated stops = says_refused None Truncated (λ input' ending' goes. greeting_fault (passed_by lines (place - start)) place input input' ending ending' Truncated (stops (λ same. cc)) goes)
-  is_cut LineTooLong stops = says_refused None LineTooLong (λ input' ending' goes. greeting_fault (passed_by lines (place - start)) place input input' ending ending' LineTooLong (stops (λ same. cc)) goes)
-  is_cut want_of_memory stops = tt
+    pub refused_by : (fault : HelloFault) → SaysHello (Err fault) (hello_said number new.line) → Refuses old new fault
+    refused_by fault says = record {
+      reads = reads_for_hello cut_one next;
+      lines = number;
+      greets = λ none some. greets_unless fault says some;
+      place = λ none some. behind;
+      leaves = rw next.fault (leaves_none number new.line fault says);
+      again = never old.fault going;
+    }
+      where
+        never : (had : Option LineFault) → had ≡ None → IfSome had (λ had. (fault ≡ hello_fault_of 1 had) × (new ≡ old))
+        never None none = tt
+        never (Some had) none = cc
 
-  abbrev no_line : LineFault → Result (Unit {0}) LineFault
-  no_line fault = Err fault
+  -- ---- no line
 
-  pub refused_says : (had : Option LineFault) (fault : LineFault) (same : Type 0) → (IsNone had → fault ≢ want_of_memory → cut 65536 (drop place input) ending ≡ Some (Err fault))
-      → IfSome had (λ before. (no_line fault ≡ no_line before) × same) → (place' : ℕ) → place' ≡ place → SaysAs had start place place' lines input ending (Err (hello_fault_of (lines + 1) fault))
-  refused_says None fault same stops again place' at = rw at (is_cut fault (stops refl))
-  refused_says (Some before) fault same stops again place' at =
-      let one : fault ≡ before = cc in
-      rw (one, at) (says_refused (Some before) before (λ input' ending' goes. greeting_had (passed_by lines (place - start)) (drop place input') ending' before))
+  module _ (fault : LineFault) (next : NextText 0 old new number (no_line fault)) where
+    greets_fault : (kind : LaneFault) → old.fault ≡ None → kind_of fault ≡ Some kind → cut max_line_bytes (drop next.at (input new)) (ending_of new.answers) ≡ Some (Err fault)
+        → Greets old.place new (record { lines = length next.blanks; answer = Err (Line number kind) })
+    greets_fault kind none is stops input' ending' goes =
+        let number_is : length next.blanks + 1 ≡ number = omega (arith, next.number_is) in
+        let stopped : no_greeting next.blanks fault ≡ Some (record { lines = length next.blanks; answer = Err (Line number kind) }) = rw (is, number_is) refl in (
+          next.blanks,
+          ends_by_fault max_line_bytes greeting_by no_greeting old.place next.at (input new) next.blanks next.passed.between (blanks_pass next.blanks (input new) old.place next.at next.passed) (ending_of new.answers) fault
+              (record { lines = length next.blanks; answer = Err (Line number kind) }) stops stopped input' ending' goes,
+        )
 
--- the reads for one line
-pub needed_for : (had : Option LineFault) (start place lines : ℕ) (earlier later : List Answer) → EachNeeded 65536 place earlier later → (IsSome had → later ≡ earlier) → NeededForLine had start place lines earlier later
-needed_for None start place lines earlier later needed same n low high = ap (λ g. g.answer) (greeting_none (passed_by lines (place - start)) place (bytes_of (take n later)) (needed n low high))
-needed_for (Some fault) start place lines earlier later needed same n low high = let all = ap length (same refl) in absurd (omega arith)
+-- the same, for each fault of a line
+greets_cut : {R : Type 0} (old new : Reading R) (number : ℕ) (fault : LineFault) (next : NextText 0 old new number (no_line fault)) → old.fault ≡ None → hello_fault_of number fault ≢ NoMemory
+    → Greets old.place new (record { lines = length next.blanks; answer = Err (hello_fault_of number fault) })
+greets_cut old new number line.ReadFailed next none some = greets_fault old new number line.ReadFailed next _ none refl (next.tells (rw none refl))
+greets_cut old new number line.TooManyReads next none some = greets_fault old new number line.TooManyReads next _ none refl (next.tells (rw none refl))
+greets_cut old new number line.Truncated next none some = greets_fault old new number line.Truncated next _ none refl (next.tells (rw none refl))
+greets_cut old new number line.LineTooLong next none some = greets_fault old new number line.LineTooLong next _ none refl (next.tells (rw none refl))
+greets_cut old new number line.NoMemory next none some = absurd (some refl)
+
+leaves_cut : (number : ℕ) (fault : LineFault) (left : Option LineFault) → left ≡ Some fault → LeavesFault (hello_fault_of number fault) left
+leaves_cut number line.ReadFailed left is = is
+leaves_cut number line.TooManyReads left is = is
+leaves_cut number line.Truncated left is = is
+leaves_cut number line.LineTooLong left is = is
+leaves_cut number line.NoMemory left is = inr is
+
+pub refused_cut : {R : Type 0} (old new : Reading R) (number : ℕ) (fault : LineFault) → NextText 0 old new number (no_line fault) → Refuses old new (hello_fault_of number fault)
+refused_cut old new number fault next = record {
+  reads = reads_for_hello old new number (no_line fault) next;
+  lines = length next.blanks;
+  greets = greets_cut old new number fault next;
+  place = λ none some. next.place ∙ between_length (input new) old.place next.at next.blanks next.passed.between;
+  leaves = leaves_cut number fault new.fault next.fault;
+  again = by old.fault next.again;
+}
+  where
+    by : (had : Option LineFault) → IfSome had (λ had. IsErrOf (no_line fault) had × (number ≡ 0 + 1) × (new ≡ old)) → IfSome had (λ had. (hello_fault_of number fault ≡ hello_fault_of 1 had) × (new ≡ old))
+    by None again = tt
+    by (Some had) again = let same : fault ≡ had = cc again.0 in (rw (same, again.1) refl, again.2)

@@ -1,18 +1,20 @@
--- What a hello's line has wrong tells of no failed read.
-use Rattle.std.proofs.Common.{◌≡◌, ℕ, List, Bool, true, false, if◌then◌else◌, Option, Some, None, Result, Ok, Err, refl, codes}
+-- What a hello's line has wrong leaves its lines with no fault.
+use Rattle.std.proofs.Common.{ℕ, List, Bool, true, false, if◌then◌else◌, Option, Some, None, Result, Ok, Err, inl, refl, codes}
+use Rattle.std.specs.Result.{IfErr}
 use Rattle.serde_json.specs.Data.{Data}
 use Rattle.upload_reader.specs.Client.{is_client}
-use Rattle.upload_reader.specs.Greeted.{hello_failures, failures_of_hello}
-use Rattle.upload_reader.specs.Hello.{Greets, is_hello, client_said, greeting_said, hello_by, hello_said}
+use Rattle.upload_reader.specs.Hello.{is_hello, client_said, greeting_said, hello_by, hello_said}
 use Rattle.upload_reader.specs.Member.{text_in, or_not_json, value_in}
+use Rattle.upload_reader.specs.Upload.{LeavesFault}
+use Rattle.upload_reader.specs.inside.Greeted.{SaysHello}
 use Rattle.upload_reader.specs.declared.hello_fault.HelloFault.{HelloFault}
 use Rattle.upload_reader.specs.declared.hello_fault.HelloFault.TheVariants.{BadClient, NoHello, Line, NoMemory}
 
 abbrev Calm : Result (List ℕ) HelloFault → Type 0
-Calm result = failures_of_hello result ≡ 0
+Calm result = IfErr result (λ fault. LeavesFault fault None)
 
 named : (test : Bool) (text : List ℕ) → Calm (if test then Ok text else Err BadClient)
-named true text = refl
+named true text = tt
 named false text = refl
 
 said : (o : Option (List ℕ)) → Calm (client_said o)
@@ -34,8 +36,8 @@ by_json number (Some d) = greeting_calm d
 hello_calm : (number : ℕ) (line : List ℕ) → Calm (hello_said number line)
 hello_calm number line = by_json number (value_in line)
 
-pub no_read_told : (number : ℕ) (line : List ℕ) (fault : HelloFault) → Greets (Err fault) (hello_said number line) → hello_failures fault ≡ 0
-no_read_told number line BadClient greets = refl
-no_read_told number line NoHello greets = refl
-no_read_told number line NoMemory greets = refl
-no_read_told number line (Line at kind) greets = rw greets at (hello_calm number line)
+pub leaves_none : (number : ℕ) (line : List ℕ) (fault : HelloFault) → SaysHello (Err fault) (hello_said number line) → LeavesFault fault None
+leaves_none number line BadClient says = refl
+leaves_none number line NoHello says = refl
+leaves_none number line NoMemory says = inl refl
+leaves_none number line (Line at kind) says = rw says at (hello_calm number line)

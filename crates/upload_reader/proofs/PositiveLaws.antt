@@ -7,12 +7,13 @@ use Rattle.std.proofs.lemmas.Result.{IfOk-at_ok}
 use Rattle.serde_json.specs.Data.{Data}
 use Rattle.serde_json.specs.Find.{get, as_number, as_u64}
 use Rattle.upload_reader.specs.Limits.{max_number}
-use Rattle.upload_reader.specs.Member.{◌>>=◌, or_bad, if_within, number_in, json_said}
+use Rattle.page_tree.specs.FirstFault.{◌>>=◌}
+use Rattle.upload_reader.specs.Member.{or_bad, if_within, number_in, json_said}
 use Rattle.upload_reader.specs.Message.{visit_in, load_in, input_in, click_in, submit_in, ended_in, says, kind_said, value_said, is_blank, line_said}
 use Rattle.upload_reader.specs.Positive.{IsPositive}
 use Rattle.upload_reader.specs.declared.lane_fault.LaneFault.{LaneFault}
 use Rattle.upload_reader.specs.declared.line.Line.{Line}
-use Rattle.upload_reader.specs.declared.line.Line.TheVariants.{Blank, Says, Bye}
+use Rattle.upload_reader.specs.declared.line.Line.TheVariants.{Says, Bye}
 use Rattle.upload_reader.specs.declared.message.Message.{Message}
 
 -- ---- the number of a visit
@@ -67,7 +68,6 @@ module _ (cost : ℕ) (some : 1 ≤ cost) where
   ended_fits d = from_visit (visit_in d) _ (number_least 1 (get (codes "visit") d)) (λ visit is. search (from_any, is) depth 8)
 
   abbrev LineFits : Line → Type 0
-  LineFits Blank = Unit {0}
   LineFits (Says message) = IsPositive message cost
   LineFits Bye = Unit {0}
 
@@ -92,19 +92,19 @@ module _ (cost : ℕ) (some : 1 ≤ cost) where
 
   line_fits : (line : List ℕ) → SaidFits (line_said line)
   unfolding line_said
-  line_fits line = either (is_blank line) _ _ tt (said_from (json_said line) value_said (λ d. said_from _ _ (λ kind. kind_fits kind d)))
+  line_fits line = said_from (json_said line) value_said (λ d. said_from _ _ (λ kind. kind_fits kind d))
 
 -- ---- its cost
 
 -- an empty line is blank
-some_byte : (line : List ℕ) (message : Message) → line_said line ≡ Ok (Says message) → 1 ≤ length line
-unfolding line_said is_blank
-some_byte [] message is = cc
-some_byte (byte ∷ line) message is = omega arith
+some_byte : (line : List ℕ) → is_blank line ≡ false → 1 ≤ length line
+unfolding is_blank
+some_byte [] text = cc
+some_byte (byte ∷ line) text = omega arith
 
 -- What a line says is positive at its length.
-pub said_positive : (line : List ℕ) (said : Line) (message : Message) → line_said line ≡ Ok said → said ≡ Says message → IsPositive message (length line)
-said_positive line said message is says =
+pub said_positive : (line : List ℕ) (said : Line) (message : Message) → is_blank line ≡ false → line_said line ≡ Ok said → said ≡ Says message → IsPositive message (length line)
+said_positive line said message text is says =
     let one : line_said line ≡ Ok (Says message) = is ∙ ap Ok says in
-    let some = some_byte line message one in
+    let some = some_byte line text in
     IfOk-at_ok (LineFits (length line) some) one (line_fits (length line) some line)

@@ -1,90 +1,177 @@
 -- What an upload keeps from call to call.
-use Rattle.std.proofs.Common.{◌≡◌, ℕ, ◌-◌, List, [], ◌++◌, length, take, drop, true, Option, Some, None, refl, sym, ap, ◌∙◌, append-nil, append_assoc}
-use Rattle.upload_reader.specs.Answers.{Answer, bytes_of}
-use Rattle.upload_reader.specs.GoesOn.{GoesOn}
-use Rattle.upload_reader.specs.Longest.{IsStreamOf}
-use Rattle.upload_reader.specs.Next.{next_of, IfOver}
-use Rattle.upload_reader.specs.Real.{is_real}
-use Rattle.upload_reader.specs.Stream.{Costed, Lane, Taken, untaken, stream_from, stream_of}
-use Rattle.upload_reader.specs.Taking.{Continues, EndsAs, FirstOf, StreamEnds, OnlyNeeded, ReadsAsNeeded}
+use Rattle.std.proofs.Common.{◌≡◌, ℕ, ◌+◌, List, [], ◌++◌, length, drop, true, Option, Some, None, Result, Ok, Err, IfErr, IfSome, IsErrOf, option_map, refl, sym, subst, ap, ◌∙◌, arith, append-nil}
+use Rattle.std.proofs.lemmas.Option.{MatchOption-at_some}
+use Rattle.byte_streams.specs.Reading.{Reading, input}
+use Rattle.byte_streams.specs.declared.fault.LineFault.{LineFault}
+use Rattle.byte_streams.proofs.ReadingLaws.{reads_none}
+use Rattle.upload_reader.specs.Limits.{max_line_bytes}
+use Rattle.upload_reader.specs.Next.{given_by, ending_by, next_of, IfOver}
+use Rattle.upload_reader.specs.Real.{is_real, IfReal}
+use Rattle.upload_reader.specs.Stream.{Costed, Stream, Lane, IsSaid, UnlessHad, IsStreamOf, BeginsWith, messages_in, message_in, line_end, stop_end, kind_of}
+use Rattle.upload_reader.specs.Upload.{UploadState, Begins}
+use Rattle.upload_reader.specs.inside.Ended.{fault_ending}
+use Rattle.upload_reader.specs.inside.Greeted.{BeginsLines}
+use Rattle.upload_reader.specs.inside.Taken.{Taken, EndsLane, LaneTaken, TakesText, SaysNoMore, TakesNext}
+use Rattle.upload_reader.specs.inside.Text.{NextText}
 use Rattle.upload_reader.specs.declared.ending.Ending.{Ending}
 use Rattle.upload_reader.specs.declared.ending.Ending.TheVariants.{Over, GaveUp}
-use Rattle.upload_reader.specs.declared.fault.LineFault.{LineFault}
 use Rattle.upload_reader.specs.declared.lane_fault.LaneEnd.{LaneEnd}
-use Rattle.upload_reader.proofs.LongestLaws.{stream_is}
-use Rattle.upload_reader.proofs.LoopLaws.{says, bytes_of-append, bytes_later, still_continues, continues_then}
-use Rattle.upload_reader.proofs.RealLaws.{stream_real}
-use Rattle.upload_reader.proofs.StreamLaws.{stream_begins}
+use Rattle.upload_reader.specs.declared.lane_fault.LaneEnd.TheVariants.{Fault}
+use Rattle.upload_reader.proofs.FrontLaws.{said_first}
+use Rattle.upload_reader.proofs.FrontSteps.{takes_first}
+use Rattle.upload_reader.proofs.LaneLaws.{cut_one, no_line, is_stream, reads_for_message, taken_message, taken_end, taken_none, taken_stop, stop_real}
 
-module _ (lane lane' : Lane) (start : ℕ) (taken : Taken) (place : ℕ) (earlier later more : List Answer) (same : lane' ≡ lane) (stands : Continues lane start place (untaken lane) taken (bytes_of earlier)) (grown : later ≡ earlier ++ more) where
-  -- a message more
-  pub stands_then : (taken' : Taken) (place' : ℕ) → Continues lane place place' taken taken' (bytes_of later) → Continues lane' start place' (untaken lane') taken' (bytes_of later)
-  stands_then taken' place' step = rw same (continues_then lane (untaken lane) taken start place earlier later more stands grown lane taken' place' refl step)
+-- ---- the next message
 
-  -- each read was needed
-  pub needed_then : OnlyNeeded lane place taken earlier later → ReadsAsNeeded lane start taken.given earlier later
-  needed_then needed n high low =
-      let bytes = bytes_later earlier later more n grown high in
-      ap (λ bytes. stream_of lane (drop start bytes) None) bytes ∙ stands (bytes_of (take (n - length earlier) more)) None
-      ∙ ap (λ bytes. stream_from lane taken (drop place bytes) None) (sym bytes) ∙ needed n high low
+module _ {R : Type 0} (lane : Lane) (start : ℕ) (old new : Reading R) (taken taken' : Taken) (number : ℕ) (stands : LaneTaken lane start old taken None) where
+  same_fault : old.fault ≡ lane.fault
+  same_fault = (stands.here refl).2
 
-  -- the same messages
-  pub first_then : (given given' : List Costed) → FirstOf lane start given (bytes_of earlier) → given' ≡ given → FirstOf lane' start given' (bytes_of later)
-  first_then given given' first same_given rest ending =
-      let whole : bytes_of later ++ rest ≡ bytes_of earlier ++ (bytes_of more ++ rest) = ap (λ bytes. bytes ++ rest) (ap bytes_of grown ∙ bytes_of-append earlier more) ∙ append_assoc (bytes_of earlier) (bytes_of more) rest in
-      rw (same, same_given, whole) (first (bytes_of more ++ rest) ending)
+  line_none : NextText taken.lines old new number cut_one → lane.fault ≡ None
+  line_none next = by old.fault same_fault next.again
+    where
+      by : (had : Option LineFault) → had ≡ lane.fault → IfSome had (λ fault. IsErrOf cut_one fault × (number ≡ taken.lines + 1) × (new ≡ old)) → lane.fault ≡ None
+      by None same again = sym same
+      by (Some fault) same again = let never = again.0 in cc
 
-  -- the end
-  pub ended_then : (given : List Costed) (ending : Option LineFault) (end : Ending) → given ≡ taken.given → EndsAs lane place taken (bytes_of later) ending end
-      → (last : LaneEnd) → Some end ≡ Some (Over last) → StreamEnds lane' start given (bytes_of later) ending last
-  ended_then given ending GaveUp same_given ends last is = cc
-  ended_then given ending (Over end) same_given ends last is = λ input' ending' goes.
-      let one : end ≡ last = cc in
-      rw same
-      (ap (λ bytes. stream_of lane (drop start bytes) ending') goes.bytes_are
-      ∙ still_continues lane (untaken lane) taken start place earlier later more stands grown goes.more ending'
-      ∙ ap (λ bytes. stream_from lane taken (drop place bytes) ending') (sym goes.bytes_are)
-      ∙ ends input' ending' goes
-      ∙ ap (says end) (sym same_given)
-      ∙ ap (λ e. says e given) one)
+  -- behind a line that was cut
+  pub next_by_line : NextText taken.lines old new number cut_one → (result : Result Costed Ending) → TakesText lane number new.line taken taken' result → IfErr result IfReal → TakesNext lane start old new taken taken' result
+  next_by_line next (Ok costed) takes real = record {
+    given = ap (λ taken. taken.given) takes.2;
+    reads = reads_for_message lane start old new taken number stands cut_one next (line_none next);
+    stands = taken_message lane start old new taken taken' number stands (line_none next) next costed takes;
+  }
+  next_by_line next (Err (Over end)) takes real = record {
+    given = ap (λ taken. taken.given) takes.1 ∙ sym (append-nil taken.given);
+    reads = reads_for_message lane start old new taken number stands cut_one next (line_none next);
+    stands = taken_end lane start old new taken taken' number stands (line_none next) next end takes real;
+  }
+  next_by_line next (Err GaveUp) takes real = record {
+    given = ap (λ taken. taken.given) takes ∙ sym (append-nil taken.given);
+    reads = reads_for_message lane start old new taken number stands cut_one next (line_none next);
+    stands = taken_none lane start old new taken taken' number stands (line_none next) next takes;
+  }
 
--- what was given is the front of all that is said
-pub first_by : (lane : Lane) (start place : ℕ) (taken : Taken) (input : List ℕ) → Continues lane start place (untaken lane) taken input → FirstOf lane start taken.given input
-first_by lane start place taken input stands more ending = rw (stands more ending) (stream_begins lane taken (drop place (input ++ more)) ending)
+abbrev refused : Ending → Result Costed Ending
+refused ending = Err ending
 
--- ---- an end
+-- lines that had a fault before the lane began
+module _ {R : Type 0} (lane : Lane) (start : ℕ) (old : Reading R) (taken : Taken) (stands : LaneTaken lane start old taken None) where
+  had_empty : (had : LineFault) → lane.fault ≡ Some had → stands.front ≡ []
+  had_empty had is = stands.had (rw is refl)
 
--- of a call that ended it, or of a repeated one
-abbrev pub EndsGiven : Lane → ℕ → List Costed → List ℕ → Option LineFault → Ending → Type 0
-EndsGiven lane start given input ending end = (last : LaneEnd) → Some end ≡ Some (Over last) → StreamEnds lane start given input ending last
+  nothing_given : (had : LineFault) → lane.fault ≡ Some had → taken.given ≡ []
+  nothing_given had is = stands.given ∙ ap messages_in (had_empty had is)
 
-pub not_ended : (ending : Option Ending) (last : LaneEnd) → ending ≡ None → ending ≡ Some (Over last) → ⊥
-not_ended ending last none is = let never : None ≡ Some (Over last) = sym none ∙ is in cc
+  had_stream : (had : LineFault) → lane.fault ≡ Some had → (bytes : List ℕ) (ending : Option LineFault) (end : Option LaneEnd) → stop_end lane [] had ≡ end → IsStreamOf lane bytes ending (record { messages = taken.given; end = end })
+  had_stream had is bytes ending end stops = subst (λ had. UnlessHad had lane (record { messages = taken.given; end = end }) (IsSaid lane bytes ending (record { messages = taken.given; end = end }))) (sym is) (by (nothing_given had is) stops)
+    where
+      by : taken.given ≡ [] → stop_end lane [] had ≡ end → UnlessHad (Some had) lane (record { messages = taken.given; end = end }) (IsSaid lane bytes ending (record { messages = taken.given; end = end }))
+      by none stops = rw (none, stops) refl
 
-at_end : (input : List ℕ) (ending : Option LineFault) → GoesOn input input ending ending
-at_end input ending = record { more = []; bytes_are = sym (append-nil input); ended = λ some. (refl, refl) }
+  had_number : (had : LineFault) → lane.fault ≡ Some had → taken.lines + 1 ≡ lane.lines + 0 + 1
+  had_number had is = let lines = (stands.here refl).1 in let none = ap length (had_empty had is) in omega (arith, lines, none)
 
-module _ (lane : Lane) (start : ℕ) (given : List Costed) (input : List ℕ) (ending : Option LineFault) (end : LaneEnd) (ends : StreamEnds lane start given input ending end) where
-  now : stream_of lane (drop start input) ending ≡ says end given
-  now = ends input ending (at_end input ending)
+  had_ended : (had : LineFault) → lane.fault ≡ Some had → (end : LaneEnd) → Some (fault_ending (taken.lines + 1) (kind_of had)) ≡ Some (Over end) → stop_end lane [] had ≡ Some end
+  had_ended had is end one = by (kind_of had) (had_number had is) one
+    where
+      by : (kind : _) → taken.lines + 1 ≡ lane.lines + 0 + 1 → Some (fault_ending (taken.lines + 1) kind) ≡ Some (Over end) → option_map (Fault (lane.lines + 0 + 1)) kind ≡ Some end
+      by None number one = cc
+      by (Some kind) number one = rw (← number) (let same : Fault (taken.lines + 1) kind ≡ end = cc in ap Some same)
 
-  -- it is no want of memory
-  pub real_end : is_real end ≡ true
-  real_end = stream_real lane (drop start input) ending end (ap (λ stream. stream.end) now)
+  had_real : (number : ℕ) (had : LineFault) (end : LaneEnd) → Some (fault_ending number (kind_of had)) ≡ Some (Over end) → is_real end ≡ true
+  had_real number had end one = let same : fault_ending number (kind_of had) ≡ Over end = cc in rw same at (stop_real number had)
 
-  -- and follows the longest front of lines
-  pub longest_end : lane.fault ≡ None → IsStreamOf lane (drop start input) ending (says end given)
-  longest_end none = rw now at (stream_is lane none (drop start input) ending)
+  had_stands : (had : LineFault) → lane.fault ≡ Some had → LaneTaken lane start old taken (Some (fault_ending (taken.lines + 1) (kind_of had)))
+  had_stands had is = record {
+    front = stands.front;
+    at = stands.at;
+    between = stands.between;
+    passes = stands.passes;
+    given = stands.given;
+    had = stands.had;
+    numbered = stands.numbered;
+    here = λ never. absurd (cc);
+    ended = λ end one. λ input' ending' goes. had_stream had is (drop start input') ending' (Some end) (had_ended had is end one);
+    real = λ end one. had_real (taken.lines + 1) had end one;
+    failures = λ none. cc;
+  }
 
-module _ (lane : Lane) (start : ℕ) (given : List Costed) (input : List ℕ) (ending : Option LineFault) where
-  pub over_told : (end : Ending) → EndsGiven lane start given input ending end → IfOver (next_of end) (StreamEnds lane start given input ending)
-  over_told GaveUp ends = tt
-  over_told (Over end) ends = ends end refl
+-- where there is no line
+pub next_by_fault : {R : Type 0} (lane : Lane) (start : ℕ) (old new : Reading R) (taken : Taken) (number : ℕ) → LaneTaken lane start old taken None → (fault : LineFault) → NextText taken.lines old new number (no_line fault)
+    → TakesNext lane start old new taken taken (refused (fault_ending number (kind_of fault)))
+next_by_fault lane start old new taken number stands fault next = by lane.fault refl
+  where
+    by : (had : Option LineFault) → lane.fault ≡ had → TakesNext lane start old new taken taken (refused (fault_ending number (kind_of fault)))
+    by None is = record {
+      given = sym (append-nil taken.given);
+      reads = reads_for_message lane start old new taken number stands (no_line fault) next is;
+      stands = taken_stop lane start old new taken taken number stands is fault next refl;
+    }
+    by (Some had) is =
+        let again : IsErrOf (no_line fault) had × (number ≡ taken.lines + 1) × (new ≡ old) = MatchOption-at_some _ (λ fault'. IsErrOf (no_line fault) fault' × (number ≡ taken.lines + 1) × (new ≡ old)) had ((stands.here refl).2 ∙ is) next.again in
+        let same : fault ≡ had = cc again.0 in
+        record {
+          given = sym (append-nil taken.given);
+          reads = reads_none (SaysNoMore lane start taken.given) old new (ap (λ lines. lines.first) again.2) (ap (λ lines. lines.answers) again.2);
+          stands = rw (same, again.1, again.2) (had_stands lane start old taken stands had is);
+        }
 
-  pub real_told : (end : Ending) → EndsGiven lane start given input ending end → IfOver (next_of end) (λ last. is_real last ≡ true)
-  real_told GaveUp ends = tt
-  real_told (Over end) ends = real_end lane start given input ending end (ends end refl)
+-- ---- the whole upload
 
-  pub longest_told : (end : Ending) → EndsGiven lane start given input ending end → IfOver (next_of end) (λ last. lane.fault ≡ None → IsStreamOf lane (drop start input) ending (says last given))
-  longest_told GaveUp ends = tt
-  longest_told (Over end) ends = longest_end lane start given input ending end (ends end refl)
+-- the messages that were given are the first ones
+pub gives_first : {R : Type 0} (lane : Lane) (start : ℕ) (lines : Reading R) (taken : Taken) (over : Option Ending) → LaneTaken lane start lines taken over → (more : List ℕ) (ending : Option LineFault)
+    → (stream : Stream) × IsStreamOf lane (drop start (input lines ++ more)) ending stream × BeginsWith taken.given stream.messages
+gives_first lane start lines taken over stands more ending = by lane.fault refl
+  where
+    by : (had : Option LineFault) → lane.fault ≡ had → (stream : Stream) × IsStreamOf lane (drop start (input lines ++ more)) ending stream × BeginsWith taken.given stream.messages
+    by None is =
+        let (front', end, said, extra, same) = takes_first max_line_bytes (line_end lane) (stop_end lane) start stands.at (input lines) stands.front stands.between stands.passes more ending in (
+          record { messages = messages_in front'; end = end },
+          is_stream lane (drop start (input lines ++ more)) ending _ is (record { front = front'; taken = said; messages = refl }),
+          rw (stands.given, same) (said_first message_in stands.front extra),
+        )
+    by (Some had) is = (
+      record { messages = []; end = stop_end lane [] had },
+      subst (λ had'. UnlessHad had' lane (record { messages = []; end = stop_end lane [] had }) (IsSaid lane (drop start (input lines ++ more)) ending (record { messages = []; end = stop_end lane [] had }))) (sym is) refl,
+      rw (stands.given, stands.had (rw is refl)) refl,
+    )
+
+pub real_again : (ending : Ending) → ((end : LaneEnd) → Some ending ≡ Some (Over end) → is_real end ≡ true) → IfOver (next_of ending) (λ end. is_real end ≡ true)
+real_again (Over end) real = real end refl
+real_again GaveUp real = tt
+
+pub begins_upload : {R : Type 0} (lines now : Reading R) (client : List ℕ) (number : ℕ) (upload : UploadState R) → BeginsLines lines now client number
+    → upload ≡ record { client = client; lines = now; lane = record { earlier = []; lines = number; fault = now.fault }; start = now.place; given = []; ending = None } → Begins lines upload
+begins_upload lines now client number upload begins is = rw is
+    (record {
+      going = begins.going;
+      reads = begins.reads;
+      greets = begins.greets;
+      lane = ap (λ fault. record { earlier = []; lines = number; fault = fault }) begins.fault;
+      start = refl;
+      behind = begins.behind;
+      fresh = (refl, refl);
+    })
+
+-- nothing else changes but what was read, what was given and how it ended
+pub state_is : {R : Type 0} (before : UploadState R) (lines : Reading R) (lane : Lane) (given more : List Costed) (ending : Option Ending) (value : UploadState R) → before ≡ value → lane ≡ before.lane → given ≡ before.given ++ more
+    → record before { lines = lines; lane = lane; given = given; ending = ending } ≡ record value { lines = lines; given = value.given ++ more; ending = ending }
+state_is before lines lane given more ending value is same grown = rw (← is, same, grown) refl
+
+-- the end that was answered is the lane's
+pub over_now : {R : Type 0} (lane : Lane) (start : ℕ) (lines : Reading R) (taken : Taken) (ending : Ending) → LaneTaken lane start lines taken (Some ending) → IfOver (next_of ending) (EndsLane lane start lines taken.given)
+over_now lane start lines taken (Over end) stands = stands.ended end refl
+over_now lane start lines taken GaveUp stands = tt
+
+pub lane_kept : {R : Type 0} (lane lane' : Lane) (start : ℕ) (lines : Reading R) (taken : Taken) (over : Option Ending) → lane' ≡ lane → LaneTaken lane start lines taken over → LaneTaken lane' start lines taken over
+lane_kept lane lane' start lines taken over same stands = rw same stands
+
+-- an ending gives no message, and is itself the end
+pub gives_none : (ending : Ending) → given_by (next_of ending) ≡ []
+gives_none (Over end) = refl
+gives_none GaveUp = refl
+
+pub ends_by_it : (ending : Ending) → ending_by (next_of ending) ≡ Some ending
+ends_by_it (Over end) = refl
+ends_by_it GaveUp = refl

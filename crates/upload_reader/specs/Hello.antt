@@ -1,5 +1,5 @@
 -- What the first line of an upload that isn't blank says: this project's own format, over RFC 8259. Unknown members are ignored.
-use Rattle.std.specs.Prelude.{◌≡◌, ℕ, List, if◌then◌else◌, Bool, false, Option, Some, None, Result, Ok, Err, codes}
+use Rattle.std.specs.Prelude.{ℕ, List, if◌then◌else◌, Bool, false, Option, Some, None, Result, Ok, Err, codes}
 use Rattle.std.specs.Str.{bytes_eq}
 use Rattle.serde_json.specs.Data.{Data}
 use Rattle.upload_reader.specs.Client.{is_client}
@@ -31,8 +31,9 @@ hello_by number (Err fault) = Err (Line number fault)
 abbrev pub hello_said : ℕ → List ℕ → Result (List ℕ) HelloFault
 hello_said number line = hello_by number (json_said line)
 
--- What the reader of a hello answers, want of memory left aside.
-abbrev pub Greets : Result (List ℕ) HelloFault → Result (List ℕ) HelloFault → Type 0
-Greets (Ok client) said = said ≡ Ok client
-Greets (Err NoMemory) said = Unit {0}
-Greets (Err fault) said = said ≡ Err fault
+-- The codes of the faults; `U4`, want of memory, is no fault of a hello.
+abbrev pub hello_fault_code : HelloFault → List ℕ
+hello_fault_code BadClient = codes "U1"
+hello_fault_code NoHello = codes "U2"
+hello_fault_code (Line number fault) = codes "U3"
+hello_fault_code NoMemory = codes "U4"

@@ -1,14 +1,6 @@
 -- This project's own limits on what is read.
 use Rattle.std.specs.Prelude.{ℕ}
 
--- reads of one Lines
-abbrev pub max_reads : ℕ
-max_reads = 1048576
-
--- bytes that each read is offered
-abbrev pub read_bytes : ℕ
-read_bytes = 8192
-
 -- the longest line of an upload, in bytes, without its line end
 abbrev pub max_line_bytes : ℕ
 max_line_bytes = 65536

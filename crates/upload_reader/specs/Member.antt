@@ -5,7 +5,7 @@ use Rattle.serde_json.specs.Data.{Data}
 use Rattle.serde_json.specs.Read.{read}
 use Rattle.serde_json.specs.Find.{get, as_str, as_number, as_u64}
 use Rattle.page_tree.specs.Tree.{Tree}
-use Rattle.page_tree.specs.Visit.{page_or_fault}
+use Rattle.page_tree.specs.Fault.{page_or_fault}
 use Rattle.xpath_child.specs.Path.{Step}
 use Rattle.xpath_child.specs.Fault.{path_in}
 use Rattle.page_tree.specs.declared.fault.PageFault.{PageFault}
@@ -13,12 +13,6 @@ use Rattle.xpath_child.specs.declared.fault.PathFault.{PathFault}
 use Rattle.upload_reader.specs.declared.lane_fault.LaneFault.{LaneFault}
 use Rattle.upload_reader.specs.declared.lane_fault.LaneFault.TheVariants.{NotJson, BadMessage, BadPage, BadTarget}
 use Rattle.upload_reader.specs.Limits.{max_number}
-
--- the first fault, or what comes of the value
-infixl 10 ◌>>=◌
-abbrev pub ◌>>=◌ : {A B : Type 0} → Result A LaneFault → (A → Result B LaneFault) → Result B LaneFault
-(Ok x) >>= f = f x
-(Err fault) >>= f = Err fault
 
 abbrev pub or_bad : {A : Type 0} → Option A → Result A LaneFault
 or_bad None = Err BadMessage
@@ -69,8 +63,8 @@ optional_number_at name d = or_bad (number_or_zero (get name d))
 abbrev pub text_in : List ℕ → Data → Option (List ℕ)
 text_in name d = option_and_then as_str (get name d)
 
-abbrev pub text_at : List ℕ → Data → Result (List ℕ) LaneFault
-text_at name d = or_bad (text_in name d)
+abbrev pub member_text : List ℕ → Data → Result (List ℕ) LaneFault
+member_text name d = or_bad (text_in name d)
 
 abbrev pub text_if_any : Option Data → Result (Option (List ℕ)) LaneFault
 text_if_any None = Ok None

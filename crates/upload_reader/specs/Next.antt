@@ -1,18 +1,18 @@
 -- What an upload gives next.
 use Rattle.std.specs.Prelude.{ℕ, List, [], ◌∷◌, Option, Some, None}
 use Rattle.upload_reader.specs.Stream.{Costed}
-use Rattle.upload_reader.specs.Taking.{failures_in}
 use Rattle.upload_reader.specs.declared.ending.Ending.{Ending}
 use Rattle.upload_reader.specs.declared.ending.Ending.TheVariants as ending
 use Rattle.upload_reader.specs.declared.lane_fault.LaneEnd.{LaneEnd}
+use Rattle.upload_reader.specs.declared.lane_fault.LaneEnd.TheVariants.{Fault}
+use Rattle.upload_reader.specs.declared.lane_fault.LaneFault.TheVariants.{ReadFailed}
 use Rattle.upload_reader.specs.declared.message.Message.{Message}
 use Rattle.upload_reader.specs.declared.next.Next.{Next}
 use Rattle.upload_reader.specs.declared.next.Next.TheVariants.{Got, Over, GaveUp}
 
 abbrev pub given_by : Next → List Costed
 given_by (Got message cost) = (message, cost) ∷ []
-given_by (Over end) = []
-given_by GaveUp = []
+given_by other = []
 
 abbrev pub ending_by : Next → Option Ending
 ending_by (Got message cost) = None
@@ -25,15 +25,13 @@ next_of ending.GaveUp = GaveUp
 
 abbrev pub IfGot : Next → (Message → ℕ → Type 0) → Type 0
 IfGot (Got message cost) P = P message cost
-IfGot (Over end) P = Unit {0}
-IfGot GaveUp P = Unit {0}
+IfGot other P = Unit {0}
 
 abbrev pub IfOver : Next → (LaneEnd → Type 0) → Type 0
-IfOver (Got message cost) P = Unit {0}
 IfOver (Over end) P = P end
-IfOver GaveUp P = Unit {0}
+IfOver other P = Unit {0}
 
--- how many reads failed in a call that answers so
-abbrev pub failures_told : Next → ℕ
-failures_told (Over end) = failures_in (ending.Over end)
-failures_told next = 0
+-- how many reads failed, by how the upload ended: one where the end is that
+abbrev pub failed_reads : Option Ending → ℕ
+failed_reads (Some (ending.Over (Fault line ReadFailed))) = 1
+failed_reads other = 0

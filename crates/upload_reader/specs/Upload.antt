@@ -1,41 +1,88 @@
--- What clauses see of an Upload.
-use Rattle.std.specs.Prelude.{ℕ, List, Option}
-use Rattle.upload_reader.specs.Answers.{Answer}
-use Rattle.upload_reader.specs.Lines.{lines_answers, lines_input, lines_place, lines_reader}
-use Rattle.upload_reader.specs.Stream.{Costed, Lane}
-use Rattle.upload_reader.specs.Taking.{lane_of, taken_of}
+-- What clauses see of an upload: what was read of it, where its lane began, what was given of it and how it ended.
+use Rattle.std.specs.Prelude.{◌≡◌, ◌≢◌, ℕ, ◌+◌, List, [], ◌++◌, drop, Option, Some, None, Ok, Err, IfSome, ◌⊎◌}
+use Rattle.byte_streams.specs.Answers.{Answer, bytes_of}
+use Rattle.byte_streams.specs.Cutting.{ending_of}
+use Rattle.byte_streams.specs.GoesOn.{GoesOn}
+use Rattle.byte_streams.specs.Reading.{Reading, ReadsWhile, input}
+use Rattle.byte_streams.specs.declared.fault.LineFault.{LineFault}
+use Rattle.byte_streams.specs.declared.fault.LineFault.TheVariants as line
+use Rattle.byte_streams.specs.declared.fault.LineFault.TheVariants.{ReadFailed, TooManyReads, Truncated, LineTooLong}
+use Rattle.upload_reader.specs.Greeting.{Greeting, IsGreetingOf, lines_length, hello_fault_of}
+use Rattle.upload_reader.specs.Stream.{Costed, Stream, Lane, IsStreamOf, BeginsWith}
 use Rattle.upload_reader.specs.declared.ending.Ending.{Ending}
-use Rattle.upload_reader.specs.declared.lines.Lines.{Lines}
-use Rattle.upload_reader.specs.declared.upload.Upload.{Upload}
+use Rattle.upload_reader.specs.declared.hello_fault.HelloFault.{HelloFault}
+use Rattle.upload_reader.specs.declared.hello_fault.HelloFault.TheVariants.{Line, NoMemory}
+use Rattle.upload_reader.specs.declared.lane_fault.LaneEnd.{LaneEnd}
+use Rattle.upload_reader.specs.declared.lane_fault.LaneFault.TheVariants as lane
 
-module _ {R : Type 0} where
-  -- its name
-  abbrev pub upload_client : Upload R → List ℕ
-  upload_client upload = upload.client
+pub record UploadState (R : Type 0) : Type 0 where
+  -- its client's name
+  pub client : List ℕ
+  pub lines : Reading R
+  -- the lane, and behind how many of the bytes it begins
+  pub lane : Lane
+  pub start : ℕ
+  -- the messages that were given, in order, and the last answer where that ended it
+  pub given : List Costed
+  pub ending : Option Ending
 
-  abbrev pub upload_lines : Upload R → Lines R
-  upload_lines upload = upload.lines
+-- the bytes of the lane among these
+abbrev pub lane_bytes : {R : Type 0} → UploadState R → List ℕ → List ℕ
+lane_bytes upload bytes = drop upload.start bytes
 
-  abbrev pub upload_reader : Upload R → R
-  upload_reader upload = lines_reader upload.lines
+-- ---- how an upload begins
 
-  -- what the reads of its lines answered, from the first one on, and the bytes that they gave
-  abbrev pub upload_answers : Upload R → List Answer
-  upload_answers upload = lines_answers upload.lines
+-- however the input of these lines goes on, the upload that begins at this place begins so
+abbrev pub Greets : {R : Type 0} → ℕ → Reading R → Greeting → Type 0
+Greets place lines greeting =
+    (input' : List ℕ) → (ending' : Option LineFault) → GoesOn (input lines) input' (ending_of lines.answers) ending' → IsGreetingOf (drop place input') ending' (Some greeting)
 
-  abbrev pub upload_input : Upload R → List ℕ
-  upload_input upload = lines_input upload.lines
+-- what was read doesn't tell how the upload begins
+abbrev pub NotGreeted : ℕ → List Answer → Type 0
+NotGreeted place answers = IsGreetingOf (drop place (bytes_of answers)) None None
 
-  -- where the lane begins, and behind how many of these bytes
-  abbrev pub upload_lane : Upload R → Lane
-  upload_lane upload = lane_of upload.progress
+-- The upload begins behind its hello, which the lines hold: its client, and a lane with nothing said before.
+pub record Begins {R : Type 0} (old : Reading R) (upload : UploadState R) : Type 0 where
+  pub going : old.fault ≡ None
+  pub reads : ReadsWhile (NotGreeted old.place) old upload.lines
+  pub greets : Greets old.place upload.lines (record { lines = upload.lane.lines; answer = Ok upload.client })
+  pub lane : upload.lane ≡ record { earlier = []; lines = upload.lane.lines; fault = None }
+  pub start : upload.start ≡ upload.lines.place
+  pub behind : upload.start ≡ old.place + lines_length upload.lane.lines (drop old.place (input upload.lines))
+  pub fresh : (upload.given ≡ []) × (upload.ending ≡ None)
 
-  abbrev pub upload_start : Upload R → ℕ
-  upload_start upload = lines_place upload.first_lines.value
+-- the fault that lines have behind a hello that was refused so: none, where they gave a line that is no hello
+abbrev pub LeavesFault : HelloFault → Option LineFault → Type 0
+LeavesFault (Line number lane.ReadFailed) fault = fault ≡ Some ReadFailed
+LeavesFault (Line number lane.TooManyReads) fault = fault ≡ Some TooManyReads
+LeavesFault (Line number lane.Truncated) fault = fault ≡ Some Truncated
+LeavesFault (Line number lane.LineTooLong) fault = fault ≡ Some LineTooLong
+LeavesFault NoMemory fault = (fault ≡ None) ⊎ (fault ≡ Some line.NoMemory)
+LeavesFault refused fault = fault ≡ None
 
-  -- the messages that `next` gave, in order, and its last answer where that ended it
-  abbrev pub upload_given : Upload R → List Costed
-  upload_given upload = (taken_of upload.progress).given
+-- The upload doesn't begin: the first fault, want of memory aside. Lines that had a fault are left as they are.
+pub record Refuses {R : Type 0} (old new : Reading R) (fault : HelloFault) : Type 0 where
+  pub reads : ReadsWhile (NotGreeted old.place) old new
+  pub lines : ℕ
+  pub greets : old.fault ≡ None → fault ≢ NoMemory → Greets old.place new (record { lines = lines; answer = Err fault })
+  pub place : old.fault ≡ None → fault ≢ NoMemory → new.place ≡ old.place + lines_length lines (drop old.place (input new))
+  pub leaves : LeavesFault fault new.fault
+  pub again : IfSome old.fault (λ had. (fault ≡ hello_fault_of 1 had) × (new ≡ old))
 
-  abbrev pub upload_ending : Upload R → Option Ending
-  upload_ending upload = upload.ending
+-- ---- what is given of it
+
+-- however the input goes on, the messages of the lane begin with those that were given
+abbrev pub GivesFirst : {R : Type 0} → UploadState R → Type 0
+GivesFirst upload =
+    (more : List ℕ) → (ending : Option LineFault)
+    → (stream : Stream) × IsStreamOf upload.lane (lane_bytes upload (input upload.lines ++ more)) ending stream × BeginsWith upload.given stream.messages
+
+-- however it goes on, these are the messages of the lane, and this is its end
+abbrev pub EndsBy : {R : Type 0} → UploadState R → LaneEnd → Type 0
+EndsBy upload end =
+    (input' : List ℕ) → (ending' : Option LineFault) → GoesOn (input upload.lines) input' (ending_of upload.lines.answers) ending'
+    → IsStreamOf upload.lane (lane_bytes upload input') ending' (record { messages = upload.given; end = Some end })
+
+-- what was read holds no further message and no end
+abbrev pub NothingMore : {R : Type 0} → UploadState R → List Answer → Type 0
+NothingMore upload answers = IsStreamOf upload.lane (lane_bytes upload (bytes_of answers)) None (record { messages = upload.given; end = None })

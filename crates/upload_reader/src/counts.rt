@@ -12,7 +12,7 @@ pub(crate) struct Counts {
 }
 
 impl Counts {
-    ghost use Rattle.upload_reader.specs.Standing.{counts_with};
+    ghost use Rattle.upload_reader.specs.inside.Counting.{counts_with};
 
     /// With no event.
     pub(crate) fn new() -> Counts

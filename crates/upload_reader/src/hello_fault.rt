@@ -1,26 +1,39 @@
-ghost use Rattle.std.specs.Prelude.{◌≡◌};
+ghost use Rattle.std.specs.Prelude.{◌≡◌, Some};
+ghost use Rattle.upload_reader.specs.Hello.{hello_fault_code};
 ghost use Rattle.upload_reader.specs.declared.hello_fault.HelloFault.TheVariants.{NoMemory};
 
 use crate::lane_fault::LaneFault;
 use std::alloc::{AllocError, AllocFailed};
-use thiserror::Error;
+use std::error::Error;
+use std::fmt;
 
-/// Why an upload doesn't begin. Its text is its number, as `U2`.
-#[derive(Clone, Copy, Debug, PartialEq, Eq, Error)]
+/// Why an upload doesn't begin. Its text is its code, as `U2`.
+#[derive(Clone, Copy, Debug, PartialEq, Eq)]
 pub enum HelloFault {
     /// The client is no text of 1 to 64 of `[A-Za-z0-9_-]`.
-    #[error("U1")]
     BadClient,
     /// The first line that isn't blank is no hello.
-    #[error("U2")]
     NoHello,
     /// There is no such line, or it is no JSON text: `ReadFailed`, `TooManyReads`, `Truncated`, `LineTooLong` or `NotJson`.
-    #[error("U3")]
     Line { line: u64, fault: LaneFault },
     /// An allocation was refused.
-    #[error("U4")]
     NoMemory,
 }
+
+impl fmt::Display for HelloFault {
+    ghost output = { λ fault. Some (hello_fault_code fault) };
+
+    fn fmt<W: fmt::Write>(&self, f: &mut fmt::Formatter<W>) -> fmt::Result {
+        match self {
+            HelloFault::BadClient => f.write_str("U1"),
+            HelloFault::NoHello => f.write_str("U2"),
+            HelloFault::Line { .. } => f.write_str("U3"),
+            HelloFault::NoMemory => f.write_str("U4"),
+        }
+    }
+}
+
+impl Error for HelloFault {}
 
 impl From<AllocError> for HelloFault {
     ghost from_gives = { λ _ e. e ≡ NoMemory };

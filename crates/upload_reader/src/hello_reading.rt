@@ -1,7 +1,8 @@
 ghost use Rattle.std.specs.Prelude.{◌≡◌, codes};
 ghost use Rattle.serde_json.specs.View.{view};
-ghost use Rattle.upload_reader.specs.Hello.{Greets, is_hello, client_said, greeting_said, hello_said};
+ghost use Rattle.upload_reader.specs.Hello.{is_hello, client_said, greeting_said, hello_said};
 ghost use Rattle.upload_reader.specs.Member.{text_in};
+ghost use Rattle.upload_reader.specs.inside.Greeted.{SaysHello};
 
 use crate::client::Client;
 use crate::hello_fault::HelloFault;
@@ -12,7 +13,7 @@ use std::alloc::Global;
 
 /// The client of the line of that number, the first that isn't blank.
 pub(crate) fn read_hello(alloc: Global, number: u64, line: &[u8]) -> Result<Client, HelloFault>
-    ensures { Greets result (hello_said number line.now) }
+    ensures { SaysHello result (hello_said number line.now) }
 {
     match line_value(alloc, line) {
         Ok(value) => read_greeting(alloc, &value),
@@ -26,7 +27,7 @@ pub(crate) fn read_hello(alloc: Global, number: u64, line: &[u8]) -> Result<Clie
 
 #[tactic(auto, unfolding(crate::specs::Hello::greeting_said))]
 fn read_greeting(alloc: Global, value: &Value) -> Result<Client, HelloFault>
-    ensures { Greets result (greeting_said (view value.now)) }
+    ensures { SaysHello result (greeting_said (view value.now)) }
 {
     if !is_hello(value) {
         return Err(HelloFault::NoHello);
@@ -44,7 +45,7 @@ fn is_hello(value: &Value) -> bool
 }
 
 fn read_client(alloc: Global, value: &Value) -> Result<Client, HelloFault>
-    ensures { Greets result (client_said (text_in (codes "client") (view value.now))) }
+    ensures { SaysHello result (client_said (text_in (codes "client") (view value.now))) }
 {
     let Some(text) = text_in(value, "client") else {
         return Err(HelloFault::BadClient);

@@ -1,44 +1,76 @@
 //! How an upload ends.
+ghost use Rattle.std.specs.Prelude.{◌≡◌, Some};
+ghost use Rattle.upload_reader.specs.LaneFaultCode.{lane_fault_code};
+ghost use Rattle.upload_reader.specs.Stream.{kind_of};
+
 use crate::session_fault::SessionFault;
+use byte_streams::LineFault;
 use page_tree::PageFault;
-use thiserror::Error;
+use std::error::Error;
+use std::fmt;
 use xpath_child::PathFault;
 
-/// Why nothing more is taken of an upload. Its text is its number, with the inner fault's where there is one, as `E9.S4`. Of one line the first counts,
+/// Why nothing more is taken of an upload. Its text is its code, with the inner fault's where there is one, as `E9.S4`. Of one line the first counts,
 /// in the order `LineTooLong`, `NotJson`, `BadMessage`, `BadPage`, `BadTarget`, `LaneFull`, `BadSession`.
-#[derive(Clone, Copy, Debug, PartialEq, Eq, Error)]
+#[derive(Clone, Copy, Debug, PartialEq, Eq)]
 pub enum LaneFault {
     /// A read failed.
-    #[error("E1")]
     ReadFailed,
     /// As many reads were made as may be.
-    #[error("E2")]
     TooManyReads,
     /// The input ended before a bye.
-    #[error("E3")]
     Truncated,
     /// A line of more than 65,536 bytes.
-    #[error("E4")]
     LineTooLong,
     /// A line that is no JSON text (RFC 8259).
-    #[error("E5")]
     NotJson,
     /// A JSON text that is none of the messages.
-    #[error("E6")]
     BadMessage,
     /// A load of something that is no page.
-    #[error("E7.{0}")]
     BadPage(PageFault),
     /// A target, or the button of a submit, that is no path.
-    #[error("E8.{0}")]
     BadTarget(PathFault),
     /// A message that doesn't fit what came before it.
-    #[error("E9.{0}")]
     BadSession(SessionFault),
     /// One message more than may be.
-    #[error("E10")]
     LaneFull,
 }
+
+impl LaneFault {
+    /// The same fault of a lane; none for want of memory, which is no fault of the input.
+    pub(crate) fn of(fault: LineFault) -> Option<LaneFault>
+        ensures { result ≡ kind_of fault }
+    {
+        match fault {
+            LineFault::ReadFailed => Some(LaneFault::ReadFailed),
+            LineFault::TooManyReads => Some(LaneFault::TooManyReads),
+            LineFault::Truncated => Some(LaneFault::Truncated),
+            LineFault::LineTooLong => Some(LaneFault::LineTooLong),
+            LineFault::NoMemory => None,
+        }
+    }
+}
+
+impl fmt::Display for LaneFault {
+    ghost output = { λ fault. Some (lane_fault_code fault) };
+
+    fn fmt<W: fmt::Write>(&self, f: &mut fmt::Formatter<W>) -> fmt::Result {
+        match self {
+            LaneFault::ReadFailed => f.write_str("E1"),
+            LaneFault::TooManyReads => f.write_str("E2"),
+            LaneFault::Truncated => f.write_str("E3"),
+            LaneFault::LineTooLong => f.write_str("E4"),
+            LaneFault::NotJson => f.write_str("E5"),
+            LaneFault::BadMessage => f.write_str("E6"),
+            LaneFault::BadPage(fault) => write!(f, "E7.{fault}"),
+            LaneFault::BadTarget(fault) => write!(f, "E8.{fault}"),
+            LaneFault::BadSession(fault) => write!(f, "E9.{fault}"),
+            LaneFault::LaneFull => f.write_str("E10"),
+        }
+    }
+}
+
+impl Error for LaneFault {}
 
 /// How a lane ended.
 #[derive(Clone, Copy, Debug, PartialEq, Eq)]

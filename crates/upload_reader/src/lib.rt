@@ -2,19 +2,12 @@
 //! its line.
 #![tactic(auto)]
 
-// Bytes in: sources, and the lines that are cut from them.
-mod fault;
-mod history;
-mod limits;
-mod lines;
-mod source;
-mod window;
-
 // What a line says.
 mod client;
 mod hello_fault;
 mod hello_reading;
 mod lane_fault;
+mod limits;
 mod line;
 mod line_reading;
 mod members;
@@ -34,29 +27,25 @@ mod next;
 mod progress;
 mod refused;
 mod taking;
+mod text;
 mod upload;
 
+pub use byte_streams::{Fed, Last, LineFault, Lines, Source};
 pub use client::Client;
 pub use ending::Ending;
-pub use fault::LineFault;
 pub use hello_fault::HelloFault;
-pub use history::History;
 pub use lane_fault::{LaneEnd, LaneFault};
-pub use lines::Lines;
 pub use message::{Event, Message};
 pub use next::Next;
 pub use refused::Refused;
 pub use session::Session;
 pub use session_fault::SessionFault;
-pub use source::{Fed, Last, Source};
 pub use upload::Upload;
 
 #[cfg(test)]
 mod hello_tests;
 #[cfg(test)]
 mod limit_tests;
-#[cfg(test)]
-mod line_tests;
 #[cfg(test)]
 mod reading_tests;
 #[cfg(test)]

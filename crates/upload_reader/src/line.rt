@@ -1,9 +1,8 @@
 use crate::message::Message;
 
-/// What a line of an upload says.
+/// What a line of an upload says that isn't blank.
 #[derive(Debug, Drop)]
 pub(crate) enum Line {
-    Blank,
     Says(Message),
     Bye,
 }

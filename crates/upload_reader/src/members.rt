@@ -1,8 +1,8 @@
 //! Members of messages, each with the fault where it isn't so. Nothing is copied.
 ghost use Rattle.std.specs.Prelude.{◌≡◌, option_map};
 ghost use Rattle.serde_json.specs.View.{view};
-ghost use Rattle.upload_reader.specs.Member.{json_said, member_at, number_in, number_at, optional_number_at, text_in, text_at, optional_text_at, page_said, path_said, path_if_any};
-ghost use Rattle.upload_reader.specs.Unread.{Reads, ReadsAs};
+ghost use Rattle.upload_reader.specs.Member.{json_said, member_at, number_in, number_at, optional_number_at, text_in, member_text, optional_text_at, page_said, path_said, path_if_any};
+ghost use Rattle.upload_reader.specs.inside.Unread.{IsReadAs, ReadsAs};
 
 use crate::lane_fault::LaneFault;
 use crate::limits::MAX_NUMBER;
@@ -51,7 +51,7 @@ fn number(value: &Value, least: u64) -> Option<u64>
 }
 
 pub(crate) fn number_at(message: &Value, name: &str, least: u64) -> Result<u64, Unread>
-    ensures { Reads result (number_at least name.now (view message.now)) }
+    ensures { IsReadAs result (number_at least name.now (view message.now)) }
 {
     let Some(value) = message.get(name) else {
         return Err(BAD_MESSAGE);
@@ -61,7 +61,7 @@ pub(crate) fn number_at(message: &Value, name: &str, least: u64) -> Result<u64, 
 
 /// 0 where the member is absent.
 pub(crate) fn optional_number_at(message: &Value, name: &str) -> Result<u64, Unread>
-    ensures { Reads result (optional_number_at name.now (view message.now)) }
+    ensures { IsReadAs result (optional_number_at name.now (view message.now)) }
 {
     let Some(value) = message.get(name) else {
         return Ok(0);
@@ -76,8 +76,8 @@ pub(crate) fn text_in<'a>(message: &'a Value, name: &str) -> Option<&'a str>
     message.get(name)?.as_str()
 }
 
-pub(crate) fn text_at<'a>(message: &'a Value, name: &str) -> Result<&'a str, Unread>
-    ensures { ReadsAs (λ text. text.now) result (text_at name.now (view message.now)) }
+pub(crate) fn member_text<'a>(message: &'a Value, name: &str) -> Result<&'a str, Unread>
+    ensures { ReadsAs (λ text. text.now) result (member_text name.now (view message.now)) }
 {
     text_in(message, name).ok_or(BAD_MESSAGE)
 }
@@ -101,7 +101,7 @@ pub(crate) fn optional_text_at<'a>(
 /// The page that a value stands for.
 #[tactic(auto, unfolding(crate::specs::Member::page_said))]
 pub(crate) fn read_page(alloc: Global, value: &Value) -> Result<Page, Unread>
-    ensures { Reads result (page_said (view value.now)) }
+    ensures { IsReadAs result (page_said (view value.now)) }
 {
     match Page::from_value(alloc, value) {
         Ok(page) => Ok(page),
@@ -113,7 +113,7 @@ pub(crate) fn read_page(alloc: Global, value: &Value) -> Result<Page, Unread>
 /// The path that has the text.
 #[tactic(auto, unfolding(crate::specs::Member::path_said))]
 pub(crate) fn read_path(alloc: Global, text: &str) -> Result<Path, Unread>
-    ensures { Reads result (path_said text.now) }
+    ensures { IsReadAs result (path_said text.now) }
 {
     match Path::read(alloc, text) {
         Ok(path) => Ok(path),
@@ -128,7 +128,7 @@ pub(crate) fn read_path(alloc: Global, text: &str) -> Result<Path, Unread>
 }
 
 pub(crate) fn read_path_if_any(alloc: Global, text: Option<&str>) -> Result<Option<Path>, Unread>
-    ensures { Reads result (path_if_any (option_map (λ given. given.now) text.entry)) }
+    ensures { IsReadAs result (path_if_any (option_map (λ given. given.now) text.entry)) }
 {
     let Some(text) = text else {
         return Ok(None);

@@ -1,11 +1,10 @@
 //! How far a lane was taken.
-ghost use Rattle.std.specs.Prelude.{◌≡◌, ◌+◌, ◌^◌, ◌<◌, ◌≤◌, [], ◌∷◌, ◌++◌, length, Some, IfSome, IfOk, IfErr, OnOk, OnErr};
+ghost use Rattle.std.specs.Prelude.{◌≡◌, ◌≤◌, [], ◌++◌, length, false, IfOk, IfErr};
 ghost use Rattle.upload_reader.specs.Limits.{max_messages};
-ghost use Rattle.upload_reader.specs.InTurn.{on};
+ghost use Rattle.upload_reader.specs.Message.{is_blank};
 ghost use Rattle.upload_reader.specs.Stream.{messages_of};
 
 use crate::ending::Ending;
-use crate::fault::LineFault;
 use crate::lane_fault::{LaneEnd, LaneFault};
 use crate::limits::MAX_MESSAGES;
 use crate::line::Line;
@@ -15,6 +14,7 @@ use crate::session::Session;
 use crate::session_fault::SessionFault;
 use crate::trace::Trace;
 use crate::unread::Unread;
+use byte_streams::LineFault;
 use std::alloc::Global;
 use std::snapshot::Snapshot;
 
@@ -34,9 +34,10 @@ pub(crate) struct Progress {
 }
 
 impl Progress {
-    ghost use Rattle.upload_reader.specs.Taking.{lane_of, taken_of, costed_in, ended_by, line_ending, failures_in, TakesLine};
-    ghost use Rattle.upload_reader.specs.Stream.{take_line, take_message, MayFollow};
+    ghost use Rattle.upload_reader.specs.inside.Taken.{lane_of, taken_of, TakesText, TakesMessage};
+    ghost use Rattle.upload_reader.specs.Stream.{MayFollow};
     ghost use Rattle.upload_reader.specs.Positive.{IsPositive};
+    ghost use Rattle.upload_reader.specs.Real.{IfReal};
 
     /// A lane that begins behind this session and so many lines. The fault is the one that its lines have.
     pub(crate) fn begin(session: Session, lines: u64, fault: Option<LineFault>) -> Progress
@@ -60,90 +61,63 @@ impl Progress {
         &self.session
     }
 
-    /// One line more. A blank one gives nothing.
-    #[tactic(auto, using(crate::proofs::TakeLaws::take_blank, crate::proofs::TakeLaws::take_bye, crate::proofs::TakeLaws::take_fault))]
+    /// How many lines were taken.
+    pub(crate) fn lines(&self) -> u64
+        ensures { result ≡ (taken_of self.now).lines }
+    {
+        self.lines
+    }
+
+    /// Takes the line of that number, which isn't blank.
     pub(crate) fn take(
         &mut self,
         alloc: Global,
+        number: u64,
         line: &[u8],
-    ) -> Result<Option<(Message, u32)>, Ending>
+    ) -> Result<(Message, u32), Ending>
+        requires text { is_blank line.now ≡ false }
         requires short { length line.now ≤ 65536 }
-        requires few { (taken_of self.old).lines + 1 < 2 ^ 64 }
         ensures lane { lane_of self.new ≡ lane_of self.old }
-        ensures turn { TakesLine result (take_line (lane_of self.old).earlier (taken_of self.old) line.now) (taken_of self.old) (taken_of self.new) }
-        ensures given { IfOk result (λ costed. (taken_of self.new).given ≡ (taken_of self.old).given ++ costed_in costed) }
-        ensures priced { IfOk result (λ costed. IfSome costed (λ it. IsPositive it.0 it.1)) }
-        ensures lawful { IfOk result (λ costed. IfSome costed (λ it. MayFollow (lane_of self.old) (taken_of self.old).given it.0)) }
-        ensures lines { OnOk result ((taken_of self.new).lines ≤ (taken_of self.old).lines + 1) }
-        ensures same { OnErr result (taken_of self.new ≡ taken_of self.old) }
-        ensures no_read { IfErr result (λ ending. failures_in ending ≡ 0) }
+        ensures takes { TakesText (lane_of self.old) number line.now (taken_of self.old) (taken_of self.new) result }
+        ensures priced { IfOk result (λ costed. IsPositive costed.0 costed.1) }
+        ensures lawful { IfOk result (λ costed. MayFollow (lane_of self.old) (taken_of self.old).given costed.0) }
+        ensures real { IfErr result IfReal }
     {
         let cost = line.len() as u32;
         match read_line(alloc, line) {
-            Ok(Line::Blank) => {
-                self.lines += 1;
-                Ok(None)
-            }
-            Ok(Line::Says(message)) => self.take_message(message, cost),
+            Ok(Line::Says(message)) => self.take_message(number, message, cost),
             Ok(Line::Bye) => Err(Ending::Over(LaneEnd::Bye)),
-            Err(Unread::Fault(kind)) => Err(self.ends_by(kind)),
+            Err(Unread::Fault(kind)) => Err(Ending::at(number, kind)),
             Err(Unread::NoMemory) => Err(Ending::GaveUp),
         }
     }
 
     fn take_message(
         &mut self,
+        number: u64,
         message: Message,
         cost: u32,
-    ) -> Result<Option<(Message, u32)>, Ending>
+    ) -> Result<(Message, u32), Ending>
         requires priced { IsPositive message cost }
-        requires few { (taken_of self.old).lines + 1 < 2 ^ 64 }
         ensures lane { lane_of self.new ≡ lane_of self.old }
-        ensures turn { TakesLine result (take_message (lane_of self.old).earlier (taken_of self.old) message cost) (taken_of self.old) (taken_of self.new) }
-        ensures given { IfOk result (λ costed. (taken_of self.new).given ≡ (taken_of self.old).given ++ costed_in costed) }
-        ensures priced { IfOk result (λ costed. IfSome costed (λ it. IsPositive it.0 it.1)) }
-        ensures lawful { IfOk result (λ costed. IfSome costed (λ it. MayFollow (lane_of self.old) (taken_of self.old).given it.0)) }
-        ensures lines { OnOk result ((taken_of self.new).lines ≤ (taken_of self.old).lines + 1) }
-        ensures same { OnErr result (taken_of self.new ≡ taken_of self.old) }
+        ensures takes { TakesMessage (lane_of self.old) number message cost (taken_of self.old) (taken_of self.new) result }
+        ensures priced { IfOk result (λ costed. IsPositive costed.0 costed.1) }
+        ensures lawful { IfOk result (λ costed. MayFollow (lane_of self.old) (taken_of self.old).given costed.0) }
+        ensures real { IfErr result IfReal }
     {
         if self.count == MAX_MESSAGES {
-            return Err(self.ends_by(LaneFault::LaneFull));
+            return Err(Ending::at(number, LaneFault::LaneFull));
         }
         match self.session.accept(&message) {
             Ok(()) => {
                 let costed = (message, cost);
-                self.lines += 1;
+                self.lines = number;
                 self.count += 1;
                 self.given = self.given.and(&costed);
-                Ok(Some(costed))
+                Ok(costed)
             }
             Err(SessionFault::NoMemory) => Err(Ending::GaveUp),
-            Err(fault) => Err(self.ends_by(LaneFault::BadSession(fault))),
+            Err(fault) => Err(Ending::at(number, LaneFault::BadSession(fault))),
         }
-    }
-
-    /// The end where there is no next line.
-    pub(crate) fn without_line(&self, fault: LineFault) -> Ending
-        requires few { (taken_of self.now).lines + 1 < 2 ^ 64 }
-        ensures { result ≡ line_ending (taken_of self.now) fault }
-    {
-        match fault {
-            LineFault::ReadFailed => self.ends_by(LaneFault::ReadFailed),
-            LineFault::TooManyReads => self.ends_by(LaneFault::TooManyReads),
-            LineFault::Truncated => self.ends_by(LaneFault::Truncated),
-            LineFault::LineTooLong => self.ends_by(LaneFault::LineTooLong),
-            LineFault::NoMemory => Ending::GaveUp,
-        }
-    }
-
-    // The end by that fault, at the next line.
-    fn ends_by(&self, kind: LaneFault) -> Ending
-        requires few { (taken_of self.now).lines + 1 < 2 ^ 64 }
-        ensures { result ≡ ended_by (taken_of self.now) kind }
-    {
-        Ending::Over(LaneEnd::Fault {
-            line: self.lines + 1,
-            kind,
-        })
     }
 }

@@ -1,6 +1,7 @@
 use crate::hello_reading::read_hello;
 use crate::line::Line;
-use crate::line_reading::{is_blank, read_line};
+use crate::line_reading::read_line;
+use crate::text::is_blank;
 use crate::unread::Unread;
 use crate::{Client, Event, HelloFault, LaneFault, LineFault, Message, SessionFault};
 use page_tree::{NoMemory, Page, PageFault, Place};
@@ -67,8 +68,10 @@ fn message_text(alloc: Global, message: &Message) -> Result<String, Fail> {
 
 // What a line says, in words, or its fault.
 fn line_text(alloc: Global, line: &[u8]) -> Result<String, Fail> {
+    if is_blank(line) {
+        return Ok(String::from_str(alloc, "blank")?);
+    }
     match read_line(alloc, line) {
-        Ok(Line::Blank) => Ok(String::from_str(alloc, "blank")?),
         Ok(Line::Bye) => Ok(String::from_str(alloc, "bye")?),
         Ok(Line::Says(message)) => message_text(alloc, &message),
         Err(Unread::Fault(fault)) => Ok(fault.to_string(alloc)?),

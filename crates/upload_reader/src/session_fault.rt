@@ -1,37 +1,50 @@
-ghost use Rattle.std.specs.Prelude.{◌≡◌};
+ghost use Rattle.std.specs.Prelude.{◌≡◌, Some};
+ghost use Rattle.upload_reader.specs.Session.{session_fault_code};
 ghost use Rattle.upload_reader.specs.declared.session_fault.SessionFault.TheVariants.{NoMemory};
 
 use std::alloc::{AllocError, AllocFailed};
-use thiserror::Error;
+use std::error::Error;
+use std::fmt;
 
-/// Why a message doesn't fit what came before it. Its text is its number, as `S4`.
-#[derive(Clone, Copy, Debug, PartialEq, Eq, Error)]
+/// Why a message doesn't fit what came before it. Its text is its code, as `S4`.
+#[derive(Clone, Copy, Debug, PartialEq, Eq)]
 pub enum SessionFault {
     /// A load whose number isn't above that of every earlier load.
-    #[error("S1")]
     VisitOrder,
     /// A load whose parent was never loaded.
-    #[error("S2")]
     NoParent,
     /// The visit was never loaded.
-    #[error("S3")]
     NoVisit,
     /// The visit has ended.
-    #[error("S4")]
     AfterEnd,
     /// A request whose number is neither 0 nor one more than the visit's largest.
-    #[error("S5")]
     RequestOrder,
     /// The visit has as many events as may be.
-    #[error("S6")]
     VisitFull,
     /// As many visits are open as may be.
-    #[error("S7")]
     TooManyOpen,
     /// An allocation was refused.
-    #[error("S8")]
     NoMemory,
 }
+
+impl fmt::Display for SessionFault {
+    ghost output = { λ fault. Some (session_fault_code fault) };
+
+    fn fmt<W: fmt::Write>(&self, f: &mut fmt::Formatter<W>) -> fmt::Result {
+        match self {
+            SessionFault::VisitOrder => f.write_str("S1"),
+            SessionFault::NoParent => f.write_str("S2"),
+            SessionFault::NoVisit => f.write_str("S3"),
+            SessionFault::AfterEnd => f.write_str("S4"),
+            SessionFault::RequestOrder => f.write_str("S5"),
+            SessionFault::VisitFull => f.write_str("S6"),
+            SessionFault::TooManyOpen => f.write_str("S7"),
+            SessionFault::NoMemory => f.write_str("S8"),
+        }
+    }
+}
+
+impl Error for SessionFault {}
 
 impl From<AllocError> for SessionFault {
     ghost from_gives = { λ _ e. e ≡ NoMemory };

@@ -1,6 +1,6 @@
 -- What the fields keep after one event more.
 use Rattle.std.proofs.Common.{◌≡◌, ℕ, suc, ◌+◌, List, [], ◌∷◌, ◌++◌, Bool, true, false, not, cond, Option, Some, None, unwrap_or, refl, sym, ◌∙◌, ap, arith}
-use Rattle.std.specs.List.{cons_option, filter_map, count_by}
+use Rattle.std.specs.List.{cons_option, filter_map, count_by, last_or}
 use Rattle.std.specs.Option.{option_or}
 use Rattle.std.specs.Str.{bytes_eq}
 use Rattle.std.proofs.lemmas.List.Elements.{filter_map-append}
@@ -15,23 +15,23 @@ use Rattle.xpath_child.specs.Path.{Step}
 use Rattle.xpath_child.specs.Targets.{target_in}
 use Rattle.xpath_child.specs.declared.target.Target.TheVariants.{One}
 use Rattle.visit_replay.specs.Conflict.{path_of}
-use Rattle.visit_replay.specs.Field.{written, last_of, last_written, is_click_on, turned, is_on_before}
-use Rattle.visit_replay.specs.Standing.{Keeps, IsWritten, IsClicked, text_in, check_in}
+use Rattle.visit_replay.specs.Field.{written, is_click_on, turned, is_on_before}
+use Rattle.visit_replay.specs.inside.KeptFields.{Keeps, IsWritten, IsClicked, text_written, check_turned, last_written}
 use Rattle.visit_replay.specs.declared.fields.Fields.{Fields}
 
 -- ---- the last text
 
-last_of-append : (texts : List (List ℕ)) (o : Option (List ℕ)) → last_of (texts ++ cons_option o []) ≡ option_or o (last_of texts)
-last_of-append [] None = refl
-last_of-append [] (Some text) = refl
-last_of-append (first ∷ texts) None = ap (λ last. Some (unwrap_or last first)) (last_of-append texts None)
-last_of-append (first ∷ texts) (Some text) = ap (λ last. Some (unwrap_or last first)) (last_of-append texts (Some text))
+last_or-append : (before : Option (List ℕ)) (texts : List (List ℕ)) (o : Option (List ℕ)) → last_or before (texts ++ cons_option o []) ≡ option_or o (last_or before texts)
+last_or-append before [] None = refl
+last_or-append before [] (Some text) = refl
+last_or-append before (first ∷ texts) o = last_or-append (Some first) texts o
 
 -- what the event writes, or else what was written last
 pub last_written-push : (new : Tree) (before : List Event) (event : Event) (place : List ℕ)
     → last_written new (before ++ event ∷ []) place ≡ option_or (written new place event) (last_written new before place)
 last_written-push new before event place =
-    ap last_of (filter_map-append (written new place) before (event ∷ [])) ∙ last_of-append (filter_map (written new place) before) (written new place event)
+    ap (last_or None) (filter_map-append (written new place) before (event ∷ []))
+    ∙ last_or-append None (filter_map (written new place) before) (written new place event)
 
 -- ---- the clicks
 
@@ -51,23 +51,23 @@ is_on_before-push new before event place =
     ∙ turned-more (count_by (is_click_on new place) before) (is_click_on new place event) (start_checked_at place new)
 
 -- the map holds the other state at the place, and nothing new elsewhere
-pub turned_there : {now : Option Bool} (old : Fields) (new : Tree) (place : List ℕ) (on : Bool) → on ≡ unwrap_or (check_in old place) (start_checked_at place new)
-    → (other : List ℕ) → now ≡ cond (bytes_eq place other) (Some (not on)) (check_in old other)
-    → unwrap_or now (start_checked_at other new) ≡ turned (cond (bytes_eq place other) 1 0) (unwrap_or (check_in old other) (start_checked_at other new))
+pub turned_there : {now : Option Bool} (old : Fields) (new : Tree) (place : List ℕ) (on : Bool) → on ≡ unwrap_or (check_turned old place) (start_checked_at place new)
+    → (other : List ℕ) → now ≡ cond (bytes_eq place other) (Some (not on)) (check_turned old other)
+    → unwrap_or now (start_checked_at other new) ≡ turned (cond (bytes_eq place other) 1 0) (unwrap_or (check_turned old other) (start_checked_at other new))
 turned_there old new place on was other is = ap (λ o. unwrap_or o (start_checked_at other new)) is ∙ by (bytes_eq place other) (bytes_eq-Decides place other).0
   where
     by : (b : Bool) → (b ≡ true → place ≡ other)
-        → unwrap_or (cond b (Some (not on)) (check_in old other)) (start_checked_at other new) ≡ turned (cond b 1 0) (unwrap_or (check_in old other) (start_checked_at other new))
-    by true same = ap not (was ∙ ap (λ p. unwrap_or (check_in old p) (start_checked_at p new)) (same refl))
+        → unwrap_or (cond b (Some (not on)) (check_turned old other)) (start_checked_at other new) ≡ turned (cond b 1 0) (unwrap_or (check_turned old other) (start_checked_at other new))
+    by true same = ap not (was ∙ ap (λ p. unwrap_or (check_turned old p) (start_checked_at p new)) (same refl))
     by false same = refl
 
 -- ---- the fields
 
 -- they took in what the event writes and turns
 kept_push : (old fields : Fields) (new : Tree) (before : List Event) (event : Event)
-    → ((place : List ℕ) → text_in fields place ≡ option_or (written new place event) (text_in old place))
+    → ((place : List ℕ) → text_written fields place ≡ option_or (written new place event) (text_written old place))
     → ((place : List ℕ) → control_at place new ≡ control.Check
-    → unwrap_or (check_in fields place) (start_checked_at place new) ≡ turned (cond (is_click_on new place event) 1 0) (unwrap_or (check_in old place) (start_checked_at place new)))
+    → unwrap_or (check_turned fields place) (start_checked_at place new) ≡ turned (cond (is_click_on new place event) 1 0) (unwrap_or (check_turned old place) (start_checked_at place new)))
     → Keeps old new before → Keeps fields new (before ++ event ∷ [])
 kept_push old fields new before event texts checks kept = record {
   texts = λ place. texts place ∙ ap (option_or (written new place event)) (kept.texts place) ∙ sym (last_written-push new before event place);
@@ -83,7 +83,7 @@ pub kept_input : {at : ℕ} {path : List Step} {text : List ℕ} (old fields : F
 kept_input {at} {path} {text} old fields new event place is only written before kept =
     let there : target_in path new ≡ One place = sym (ap (λ e. target_in (path_of e) new) is) ∙ only in
     rw is (kept_push old fields new before (Input at path text)
-    (λ other. written.texts other ∙ or_kept (bytes_eq place other) text (text_in old other) ∙ rw there refl)
+    (λ other. written.texts other ∙ or_kept (bytes_eq place other) text (text_written old other) ∙ rw there refl)
     (λ other checkbox. ap (λ o. unwrap_or o (start_checked_at other new)) (written.checks other))
     kept)
 

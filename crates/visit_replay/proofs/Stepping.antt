@@ -12,9 +12,10 @@ use Rattle.visit_replay.specs.declared.outcome.Request.{Request}
 use Rattle.visit_replay.specs.declared.outcome.ConflictKind.{ConflictKind}
 use Rattle.visit_replay.specs.declared.fields.Fields.{Fields}
 use Rattle.visit_replay.specs.Conflict.{conflict}
-use Rattle.visit_replay.specs.Requests.{request_of, nth_request, requests_before, load_request}
+use Rattle.visit_replay.specs.Requests.{event_request, nth_request, requests_before, load_request}
 use Rattle.visit_replay.specs.Outcome.{is_bad, first_bad, conflict_of, first_conflict}
-use Rattle.visit_replay.specs.Standing.{Keeps, Steps}
+use Rattle.visit_replay.specs.inside.KeptFields.{Keeps}
+use Rattle.visit_replay.specs.inside.OneEvent.{TakesEvent}
 
 -- ---- the event that comes next
 
@@ -42,25 +43,25 @@ one_more address new events i =
     let next : i + 1 ≡ suc i = omega arith in
     rw next (ap (λ rest. load_request address ∷ rest) (ap (filter_map h) (range_more 0 i i (omega arith)) ∙ filter_map-append h (range_with_len 0 i) (i ∷ [])))
 
-nth : (address : List ℕ) (new : Tree) (events : List Event) (i : ℕ) (event : Event) → slice_get events i ≡ Some event → nth_request address new events i ≡ request_of address new (take i events) event
-nth address new events i event is = ap (option_and_then (request_of address new (take i events))) is
+nth : (address : List ℕ) (new : Tree) (events : List Event) (i : ℕ) (event : Event) → slice_get events i ≡ Some event → nth_request address new events i ≡ event_request address new (take i events) event
+nth address new events i event is = ap (option_and_then (event_request address new (take i events))) is
 
 pub first_request : (address : List ℕ) (new : Tree) (events : List Event) (none : List Request) (load : Request) → none ≡ [] → load ≡ load_request address → none ++ load ∷ [] ≡ requests_before address new events 0
 first_request address new events none load empty is = rw (empty, is) refl
 
 -- an event that can't be replayed makes no request
-pub not_added : (address : List ℕ) (new : Tree) (event : Event) (fields fields' : Fields) (made made' : List Request) (found : Option ConflictKind) (kind : ConflictKind) → Steps address new event fields fields' made made' found → found ≡ Some kind → made' ≡ made
+pub not_added : (address : List ℕ) (new : Tree) (event : Event) (fields fields' : Fields) (made made' : List Request) (found : Option ConflictKind) (kind : ConflictKind) → TakesEvent address new event fields fields' made made' found → found ≡ Some kind → made' ≡ made
 not_added address new event fields fields' made made' (Some found) kind step is = step
 not_added address new event fields fields' made made' None kind step is = absurd (none-some kind is)
 
 pub made_on : (address : List ℕ) (new : Tree) (events : List Event) (i : ℕ) (event : Event) (fields fields' : Fields) (made made' : List Request) (found : Option ConflictKind) → i < length events → event ≡ get_or events i event
-    → Keeps fields new (take i events) → made ≡ requests_before address new events i → Steps address new event fields fields' made made' found → found ≡ None → made' ≡ requests_before address new events (i + 1)
+    → Keeps fields new (take i events) → made ≡ requests_before address new events i → TakesEvent address new event fields fields' made made' found → found ≡ None → made' ≡ requests_before address new events (i + 1)
 made_on address new events i event fields fields' made made' (Some kind) below is kept so_far step none = absurd (none-some kind (sym none))
 made_on address new events i event fields fields' made made' None below is kept so_far step none =
-    step.added (take i events) kept ∙ (ap (λ m. m ++ cons_option (request_of address new (take i events) event) []) so_far ∙ sym (one_more address new events i ∙ ap (λ r. requests_before address new events i ++ cons_option r []) (nth address new events i event (event_here events i event below is))))
+    step.added (take i events) kept ∙ (ap (λ m. m ++ cons_option (event_request address new (take i events) event) []) so_far ∙ sym (one_more address new events i ∙ ap (λ r. requests_before address new events i ++ cons_option r []) (nth address new events i event (event_here events i event below is))))
 
 pub kept_on : (address : List ℕ) (new : Tree) (events : List Event) (i : ℕ) (event : Event) (fields fields' : Fields) (made made' : List Request) (found : Option ConflictKind) → i < length events → event ≡ get_or events i event
-    → Keeps fields new (take i events) → Steps address new event fields fields' made made' found → found ≡ None → Keeps fields' new (take (i + 1) events)
+    → Keeps fields new (take i events) → TakesEvent address new event fields fields' made made' found → found ≡ None → Keeps fields' new (take (i + 1) events)
 kept_on address new events i event fields fields' made made' (Some kind) below is kept step none = absurd (none-some kind (sym none))
 kept_on address new events i event fields fields' made made' None below is kept step none = rw (taken_here events i event below is) (step.kept (take i events) kept)
 

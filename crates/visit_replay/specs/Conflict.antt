@@ -1,5 +1,7 @@
 -- Why one event can't be replayed: from the page that it was made on, the page that stands there now, and the event alone (this project's own rules).
-use Rattle.std.specs.Prelude.{ℕ, List, Bool, true, false, not, ◌&&◌, ◌==◌, if◌then◌else◌, Option, Some, None, is_some, codes}
+-- Each rule has the code that reports show for it.
+use Rattle.std.specs.Prelude.{ℕ, List, Bool, true, false, not, ◌&&◌, ◌==◌, if◌then◌else◌, Option, Some, None, is_some, option_and_then, codes}
+use Rattle.std.specs.Option.{option_map_or}
 use Rattle.std.specs.Str.{bytes_eq}
 use Rattle.page_tree.specs.Tree.{Tree}
 use Rattle.page_tree.specs.Look.{attribute_at}
@@ -8,13 +10,25 @@ use Rattle.page_tree.specs.Under.{is_under}
 use Rattle.page_tree.specs.declared.control.Control.{Control}
 use Rattle.page_tree.specs.declared.control.Control.TheVariants as control
 use Rattle.xpath_child.specs.Path.{Step}
-use Rattle.xpath_child.specs.Targets.{target_in}
+use Rattle.xpath_child.specs.Targets.{target_in, only_place}
 use Rattle.xpath_child.specs.declared.target.Target.{Target}
 use Rattle.xpath_child.specs.declared.target.Target.TheVariants.{Missing, One, Several}
 use Rattle.upload_reader.specs.declared.message.Event.{Event}
 use Rattle.upload_reader.specs.declared.message.Event.TheVariants.{Input, Click, Submit}
 use Rattle.visit_replay.specs.declared.outcome.ConflictKind.{ConflictKind}
-use Rattle.visit_replay.specs.declared.outcome.ConflictKind.TheVariants.{NoTarget, ManyTargets, NotAField, BaseChanged, NotALink, NotAForm}
+use Rattle.visit_replay.specs.declared.outcome.ConflictKind.TheVariants.{NoPage, NoTarget, ManyTargets, NotAField, BaseChanged, NotALink, NotAForm, LogCut, Ui}
+
+-- K2 to K7 are of one event, and their rules stand below; K1, K8 and K9 are of a whole visit (`Outcome`)
+abbrev pub conflict_code : ConflictKind → List ℕ
+conflict_code NoPage = codes "K1"
+conflict_code NoTarget = codes "K2"
+conflict_code ManyTargets = codes "K3"
+conflict_code NotAField = codes "K4"
+conflict_code BaseChanged = codes "K5"
+conflict_code NotALink = codes "K6"
+conflict_code NotAForm = codes "K7"
+conflict_code LogCut = codes "K8"
+conflict_code Ui = codes "K9"
 
 abbrev pub path_of : Event → List Step
 path_of (Input at target value) = target
@@ -25,37 +39,26 @@ path_of (Submit at target by req) = target
 abbrev pub is_disabled : List ℕ → Tree → Bool
 is_disabled place page = is_some (attribute_at place (codes "disabled") page)
 
--- ---- inputs: into a text control that isn't disabled, over an unchanged start text
+-- ---- inputs: into a text control that isn't disabled (K4), over an unchanged start text (K5)
 
 unfoldable pub input_conflict_on : Control → Bool → Bool → Option ConflictKind
 input_conflict_on control.Text disabled unchanged = if disabled then Some NotAField else (if unchanged then None else Some BaseChanged)
-input_conflict_on control.Check disabled unchanged = Some NotAField
-input_conflict_on control.Radio disabled unchanged = Some NotAField
-input_conflict_on control.Submit disabled unchanged = Some NotAField
-input_conflict_on control.Link disabled unchanged = Some NotAField
-input_conflict_on control.Form disabled unchanged = Some NotAField
-input_conflict_on control.Other disabled unchanged = Some NotAField
+input_conflict_on _ disabled unchanged = Some NotAField
 
--- the start text of the only place that the path selected
-abbrev pub start_text_of_target : Target → Tree → Option (List ℕ)
-start_text_of_target Missing page = None
-start_text_of_target (One place) page = start_text_at place page
-start_text_of_target Several page = None
-
--- an absent text is the same as no other, an absent one too
-abbrev pub is_same_text : Option (List ℕ) → Option (List ℕ) → Bool
-is_same_text None other = false
-is_same_text (Some text) None = false
-is_same_text (Some text) (Some other) = bytes_eq text other
+-- an absent start text is the same as no other, an absent one too
+abbrev pub is_same_start : Option (List ℕ) → Option (List ℕ) → Bool
+is_same_start (Some before) (Some now) = bytes_eq before now
+is_same_start before now = false
 
 -- whether the path selected, on the old page, one text control that started as the one at the place does now
 abbrev pub is_unchanged : Tree → Tree → List Step → List ℕ → Bool
-is_unchanged old new path place = is_same_text (start_text_of_target (target_in path old) old) (start_text_at place new)
+is_unchanged old new path place =
+    is_same_start (option_and_then (λ there. start_text_at there old) (only_place (target_in path old))) (start_text_at place new)
 
 abbrev pub input_conflict : Tree → Tree → List Step → List ℕ → Option ConflictKind
 input_conflict old new path place = input_conflict_on (control_at place new) (is_disabled place new) (is_unchanged old new path place)
 
--- ---- clicks: on no radio button and no disabled checkbox; one that made a request, on a link
+-- ---- clicks: on no radio button and no disabled checkbox (K4); one that made a request, on a link (K6)
 
 abbrev pub off_link : ℕ → Option ConflictKind
 off_link req = if req == 0 then None else Some NotALink
@@ -64,43 +67,28 @@ unfoldable pub click_conflict_on : Control → Bool → ℕ → Option ConflictK
 click_conflict_on control.Radio disabled req = Some NotAField
 click_conflict_on control.Check disabled req = if disabled then Some NotAField else off_link req
 click_conflict_on control.Link disabled req = None
-click_conflict_on control.Text disabled req = off_link req
-click_conflict_on control.Submit disabled req = off_link req
-click_conflict_on control.Form disabled req = off_link req
-click_conflict_on control.Other disabled req = off_link req
+click_conflict_on _ disabled req = off_link req
 
 abbrev pub click_conflict : Tree → ℕ → List ℕ → Option ConflictKind
 click_conflict new req place = click_conflict_on (control_at place new) (is_disabled place new) req
 
--- ---- submits: of a form, and by a button of it where one was pressed
+-- ---- submits: of a form, and by a button of it where one was pressed (K7)
 
 unfoldable pub is_enabled_submit : Control → Bool → Bool
 is_enabled_submit control.Submit disabled = not disabled
-is_enabled_submit control.Text disabled = false
-is_enabled_submit control.Check disabled = false
-is_enabled_submit control.Radio disabled = false
-is_enabled_submit control.Link disabled = false
-is_enabled_submit control.Form disabled = false
-is_enabled_submit control.Other disabled = false
+is_enabled_submit _ disabled = false
 
--- the only place that was selected is an enabled button under the form
-abbrev pub is_button_of : Tree → List ℕ → Target → Bool
-is_button_of new form Missing = false
-is_button_of new form (One place) = is_under form place && is_enabled_submit (control_at place new) (is_disabled place new)
-is_button_of new form Several = false
+abbrev pub is_button_of : Tree → List ℕ → List ℕ → Bool
+is_button_of new form place = is_under form place && is_enabled_submit (control_at place new) (is_disabled place new)
 
+-- none was pressed, or the only place that its path selects is an enabled one under the form
 abbrev pub has_button : Tree → List ℕ → Option (List Step) → Bool
 has_button new form None = true
-has_button new form (Some path) = is_button_of new form (target_in path new)
+has_button new form (Some path) = option_map_or (is_button_of new form) (only_place (target_in path new)) false
 
 unfoldable pub submit_conflict_on : Control → Bool → Option ConflictKind
 submit_conflict_on control.Form button = if button then None else Some NotAForm
-submit_conflict_on control.Text button = Some NotAForm
-submit_conflict_on control.Check button = Some NotAForm
-submit_conflict_on control.Radio button = Some NotAForm
-submit_conflict_on control.Submit button = Some NotAForm
-submit_conflict_on control.Link button = Some NotAForm
-submit_conflict_on control.Other button = Some NotAForm
+submit_conflict_on _ button = Some NotAForm
 
 abbrev pub submit_conflict : Tree → Option (List Step) → List ℕ → Option ConflictKind
 submit_conflict new by place = submit_conflict_on (control_at place new) (has_button new place by)
@@ -112,7 +100,7 @@ conflict_at old new (Input at target value) place = input_conflict old new targe
 conflict_at old new (Click at target req) place = click_conflict new req place
 conflict_at old new (Submit at target by req) place = submit_conflict new by place
 
--- a target must be one place
+-- a target must be a place (K2), and one alone (K3)
 abbrev pub on_target : Target → (List ℕ → Option ConflictKind) → Option ConflictKind
 on_target Missing found = Some NoTarget
 on_target (One place) found = found place

@@ -13,20 +13,17 @@ use Rattle.page_tree.specs.Under.{places_under}
 use Rattle.page_tree.specs.declared.control.Control.{Control}
 use Rattle.page_tree.specs.declared.control.Control.TheVariants as control
 use Rattle.xpath_child.specs.Path.{Step}
-use Rattle.xpath_child.specs.Targets.{target_in}
-use Rattle.xpath_child.specs.declared.target.Target.{Target}
-use Rattle.xpath_child.specs.declared.target.Target.TheVariants.{Missing}
+use Rattle.xpath_child.specs.Targets.{target_in, only_place}
 use Rattle.upload_reader.specs.declared.message.Event.{Event}
 use Rattle.visit_replay.specs.Conflict.{is_disabled}
-use Rattle.visit_replay.specs.Field.{is_only, value_before, is_on_before}
+use Rattle.visit_replay.specs.Field.{is_there, value_before, is_on_before}
 use Rattle.visit_replay.specs.declared.outcome.Method.TheVariants.{Get, Post}
 use Rattle.visit_replay.specs.declared.outcome.Request.{Request}
 
 -- an absent text and an empty one are the same
 abbrev pub unless_empty : Option (List ℕ) → Option (List ℕ)
-unless_empty None = None
-unless_empty (Some []) = None
 unless_empty (Some (c ∷ text)) = Some (c ∷ text)
+unless_empty other = None
 
 -- ---- the pairs (section 17.13.2: successful controls)
 
@@ -40,30 +37,28 @@ sent_name place new = if is_disabled place new then None else unless_empty (attr
 abbrev pub value_or : List ℕ → List ℕ → Tree → List ℕ
 value_or default place new = unwrap_or (attribute_at place (codes "value") new) default
 
--- what a control sends that holds that text, or is on or off, where `by` is what the path of the pressed button selects
-unfoldable pub sent_value : Control → List ℕ → Bool → Target → Tree → List ℕ → Option (List ℕ)
+-- what a control sends that holds that text, or is on or off, where `by` is the place of the pressed button
+unfoldable pub sent_value : Control → List ℕ → Bool → Option (List ℕ) → Tree → List ℕ → Option (List ℕ)
 sent_value control.Text text on by new place = Some text
 sent_value control.Check text on by new place = if on then Some (value_or (codes "on") place new) else None
 sent_value control.Radio text on by new place = if start_checked_at place new then Some (value_or (codes "on") place new) else None
-sent_value control.Submit text on by new place = if is_only place by then Some (value_or [] place new) else None
-sent_value control.Link text on by new place = None
-sent_value control.Form text on by new place = None
-sent_value control.Other text on by new place = None
+sent_value control.Submit text on by new place = if is_there place by then Some (value_or [] place new) else None
+sent_value _ text on by new place = None
 
 abbrev pub paired : Option (List ℕ) → Option (List ℕ) → Option Pair
 paired name value = option_and_then (λ n. option_map (λ v. (n, v)) value) name
 
-abbrev pub pair_of : Tree → List Event → Target → List ℕ → Option Pair
-pair_of new before by place = paired (sent_name place new) (sent_value (control_at place new) (value_before new before place) (is_on_before new before place) by new place)
+abbrev pub pair_of : Tree → List Event → Option (List ℕ) → List ℕ → Option Pair
+pair_of new before by place =
+    paired (sent_name place new) (sent_value (control_at place new) (value_before new before place) (is_on_before new before place) by new place)
 
 -- of all nodes under the form, in document order
-abbrev pub pairs_of : Tree → List Event → Target → List ℕ → List Pair
+abbrev pub pairs_of : Tree → List Event → Option (List ℕ) → List ℕ → List Pair
 pairs_of new before by form = filter_map (pair_of new before by) (places_under form new)
 
--- what the pressed button's path selects; where none was pressed, nothing
-abbrev pub button_of : Tree → Option (List Step) → Target
-button_of new None = Missing
-button_of new (Some path) = target_in path new
+-- the place of the pressed button, where one was pressed and its path selects one place
+abbrev pub button_of : Tree → Option (List Step) → Option (List ℕ)
+button_of new by = option_and_then (λ path. only_place (target_in path new)) by
 
 -- the pairs as `application/x-www-form-urlencoded` (section 17.13.4)
 abbrev pub encoded : Tree → List Event → Option (List Step) → List ℕ → List ℕ

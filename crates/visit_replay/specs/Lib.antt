@@ -3,5 +3,4 @@ pub mod Field
 pub mod Form
 pub mod Requests
 pub mod Outcome
-pub mod Now
-pub mod Standing
+pub mod inside

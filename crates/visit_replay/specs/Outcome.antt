@@ -1,5 +1,5 @@
 -- What replaying a visit gives: the first case that holds. Events are numbered from 1, the load is event 0.
-use Rattle.std.specs.Prelude.{ℕ, ◌+◌, List, [], length, Bool, if◌then◌else◌, Option, Some, None, is_some, option_and_then, slice_get}
+use Rattle.std.specs.Prelude.{ℕ, ◌+◌, List, [], length, Bool, if◌then◌else◌, Option, Some, None, is_some, option_map, option_and_then, slice_get}
 use Rattle.std.specs.List.{list_any, position}
 use Rattle.std.specs.Str.{bytes_eq}
 use Rattle.page_tree.specs.Tree.{Tree}
@@ -43,7 +43,7 @@ all_requests visit new = requests_before visit.address new visit.events (length 
 abbrev pub behind_the_events : Visit → Tree → ConflictKind → Outcome
 behind_the_events visit new kind = Conflict (all_requests visit new) (length visit.events + 1) kind
 
--- where no event is bad: the visit was kept in part, or the site signals a conflict, or all is done
+-- where no event is bad: the visit was kept in part (K8), or the site signals a conflict (K9), or all is done
 abbrev pub at_end : Visit → Tree → Bool → Outcome
 at_end visit new signalled =
     if visit.cut then behind_the_events visit new LogCut else
@@ -55,8 +55,9 @@ at_event visit new signalled None = at_end visit new signalled
 
 -- its place among the events, and why
 abbrev pub first_conflict : Tree → Tree → List Event → Option (ℕ × ConflictKind)
-first_conflict old new events = option_and_then (λ k. option_and_then (λ kind. Some (k, kind)) (conflict_of old new events k)) (first_bad old new events)
+first_conflict old new events = option_and_then (λ k. option_map (λ kind. (k, kind)) (conflict_of old new events k)) (first_bad old new events)
 
+-- on the page that the site has there now, if it has one (K1)
 abbrev pub on_page : Visit → (Tree → Bool) → Option Tree → Outcome
 on_page visit signalled None = Conflict [] 0 NoPage
 on_page visit signalled (Some new) = at_event visit new (signalled new) (first_conflict visit.page new visit.events)

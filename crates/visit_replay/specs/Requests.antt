@@ -3,9 +3,7 @@ use Rattle.std.specs.Prelude.{ℕ, List, [], ◌∷◌, take, ◌==◌, if◌the
 use Rattle.std.specs.List.{filter_map, range_with_len}
 use Rattle.page_tree.specs.Tree.{Tree}
 use Rattle.page_tree.specs.Look.{attribute_at}
-use Rattle.xpath_child.specs.Targets.{target_in}
-use Rattle.xpath_child.specs.declared.target.Target.{Target}
-use Rattle.xpath_child.specs.declared.target.Target.TheVariants.{Missing, One, Several}
+use Rattle.xpath_child.specs.Targets.{target_in, only_place}
 use Rattle.upload_reader.specs.declared.message.Event.{Event}
 use Rattle.upload_reader.specs.declared.message.Event.TheVariants.{Input, Click, Submit}
 use Rattle.visit_replay.specs.Conflict.{path_of}
@@ -29,17 +27,12 @@ request_at address new before (Input at target value) place = None
 request_at address new before (Click at target req) place = numbered req (option_map (link_request req) (attribute_at place (codes "href") new))
 request_at address new before (Submit at target by req) place = numbered req (Some (form_request address new before by place req))
 
-abbrev pub at_only : Target → (List ℕ → Option Request) → Option Request
-at_only Missing made = None
-at_only (One place) made = made place
-at_only Several made = None
-
-abbrev pub request_of : List ℕ → Tree → List Event → Event → Option Request
-request_of address new before event = at_only (target_in (path_of event) new) (request_at address new before event)
+abbrev pub event_request : List ℕ → Tree → List Event → Event → Option Request
+event_request address new before event = option_and_then (request_at address new before event) (only_place (target_in (path_of event) new))
 
 -- of the event with k events before it
 abbrev pub nth_request : List ℕ → Tree → List Event → ℕ → Option Request
-nth_request address new events k = option_and_then (request_of address new (take k events)) (slice_get events k)
+nth_request address new events k = option_and_then (event_request address new (take k events)) (slice_get events k)
 
 -- of the load and of the first n events, in order
 abbrev pub requests_before : List ℕ → Tree → List Event → ℕ → List Request

@@ -1,3 +1,4 @@
+use crate::ConflictKind;
 use crate::test_visits::Did::{Click, Input, Submit};
 use crate::test_visits::{Did, replayed};
 use std::alloc::Global;
@@ -26,6 +27,24 @@ const NODES: &str = r#"{"n":"html","c":[
     {"n":"form","a":{"disabled":""}},
     {"n":"p"}]}"#;
 
+#[test]
+fn each_conflict_is_written_as_its_code(rt: HostRuntime) -> Result<(), Fail> {
+    for (kind, code) in [
+        (ConflictKind::NoPage, "K1"),
+        (ConflictKind::NoTarget, "K2"),
+        (ConflictKind::ManyTargets, "K3"),
+        (ConflictKind::NotAField, "K4"),
+        (ConflictKind::BaseChanged, "K5"),
+        (ConflictKind::NotALink, "K6"),
+        (ConflictKind::NotAForm, "K7"),
+        (ConflictKind::LogCut, "K8"),
+        (ConflictKind::Ui, "K9"),
+    ] {
+        assert_eq!(rt; kind.to_string(rt.alloc())?.as_str(), code);
+    }
+    Ok(())
+}
+
 // What events on that page give, without the load.
 fn on_nodes(alloc: Global, events: &[Did<'_>]) -> Result<String, Fail> {
     let told = replayed(alloc, NODES, NODES, events)?;
@@ -35,6 +54,7 @@ fn on_nodes(alloc: Global, events: &[Did<'_>]) -> Result<String, Fail> {
     }
 }
 
+// K2 where the path selects nothing, K3 where it selects several places.
 #[test]
 fn every_event_needs_one_target(rt: HostRuntime) -> Result<(), Fail> {
     let alloc = rt.alloc();
@@ -61,6 +81,7 @@ fn every_event_needs_one_target(rt: HostRuntime) -> Result<(), Fail> {
     Ok(())
 }
 
+// K4 of inputs.
 #[test]
 fn inputs_need_an_enabled_text_control(rt: HostRuntime) -> Result<(), Fail> {
     let alloc = rt.alloc();
@@ -97,6 +118,7 @@ fn inputs_need_an_enabled_text_control(rt: HostRuntime) -> Result<(), Fail> {
     Ok(())
 }
 
+// K4 of clicks, and K6.
 #[test]
 fn clicks_are_bad_on_some_switches_and_with_a_request_off_links(
     rt: HostRuntime,
@@ -141,6 +163,7 @@ fn clicks_are_bad_on_some_switches_and_with_a_request_off_links(
     Ok(())
 }
 
+// K7 of the form.
 #[test]
 fn submits_need_a_form(rt: HostRuntime) -> Result<(), Fail> {
     let alloc = rt.alloc();
@@ -185,6 +208,7 @@ const BUTTONS: &str = r#"{"n":"html","c":[{"n":"form","a":{"action":"/s","method
     {"n":"form","c":[{"n":"button","a":{"name":"m","value":"v"}}]}]},
     {"n":"div","c":[{"n":"form","c":[{"n":"button"}]},{"n":"button"}]}]}"#;
 
+// K7 of the button.
 #[test]
 fn a_pressed_button_is_an_enabled_one_under_the_form(rt: HostRuntime) -> Result<(), Fail> {
     let alloc = rt.alloc();
@@ -265,6 +289,7 @@ const ABSENT: &str = r#"{"n":"input"}"#;
 
 const AREA_V: &str = r#"{"n":"textarea","a":{"value":"w"},"c":["v"]}"#;
 
+// K5.
 #[test]
 fn inputs_need_the_start_text_that_was_there(rt: HostRuntime) -> Result<(), Fail> {
     let alloc = rt.alloc();
@@ -377,6 +402,7 @@ fn inputs_need_the_start_text_that_was_there(rt: HostRuntime) -> Result<(), Fail
     Ok(())
 }
 
+// K2, K3 and K4 come before K5.
 #[test]
 fn the_new_page_is_looked_at_first(rt: HostRuntime) -> Result<(), Fail> {
     let alloc = rt.alloc();

@@ -1,7 +1,7 @@
-//! Why one event can't be replayed, or where it is.
+//! Why one event can't be replayed (K2 to K7), or where it is.
 ghost use Rattle.std.specs.Prelude.{◌≡◌, IfOk};
 ghost use Rattle.visit_replay.specs.Conflict.{path_of, is_disabled, input_conflict, input_conflict_on, is_unchanged, off_link, click_conflict, click_conflict_on, is_enabled_submit, is_button_of, has_button, submit_conflict, submit_conflict_on, conflict_at};
-ghost use Rattle.visit_replay.specs.Standing.{Answers};
+ghost use Rattle.visit_replay.specs.inside.OneEvent.{FindsPlace};
 
 use crate::outcome::ConflictKind;
 use page_tree::{Control, NoMemory, Page, Place};
@@ -16,7 +16,7 @@ pub(crate) enum Found {
 }
 
 pub(crate) fn find(old: &Page, new: &Page, event: &Event) -> Result<Found, NoMemory>
-    ensures { IfOk result (Answers old.now new.now event.now) }
+    ensures { IfOk result (FindsPlace old.now new.now event.now) }
 {
     let place = match path_of(event).select(new)? {
         Target::Missing => return Ok(Found::Bad(ConflictKind::NoTarget)),
@@ -60,7 +60,7 @@ pub(crate) fn is_disabled(page: &Page, place: &Place) -> bool
     page.attribute(place, "disabled").is_some()
 }
 
-// ---- inputs
+// ---- inputs: K4, K5
 
 fn input_conflict(
     old: &Page,
@@ -90,9 +90,9 @@ fn input_conflict_on(control: Control, disabled: bool, unchanged: bool) -> Optio
 fn is_unchanged(old: &Page, new: &Page, path: &Path, place: &Place) -> Result<bool, NoMemory>
     ensures { IfOk result (λ same. same ≡ is_unchanged old.now new.now path.now place.now) }
 {
-    let before = match path.select(old)? {
-        Target::One(place) => old.start_text(&place)?,
-        Target::Missing | Target::Several => None,
+    let before = match path.select(old)?.only() {
+        Some(there) => old.start_text(there)?,
+        None => None,
     };
     match (before, new.start_text(place)?) {
         (Some(before), Some(now)) => Ok(before.as_str() == now.as_str()),
@@ -100,7 +100,7 @@ fn is_unchanged(old: &Page, new: &Page, path: &Path, place: &Place) -> Result<bo
     }
 }
 
-// ---- clicks
+// ---- clicks: K4, K6
 
 fn click_conflict(new: &Page, req: u64, place: &Place) -> Option<ConflictKind>
     ensures { result ≡ click_conflict new.now req place.now }
@@ -130,7 +130,7 @@ fn off_link(req: u64) -> Option<ConflictKind>
     }
 }
 
-// ---- submits
+// ---- submits: K7
 
 fn submit_conflict(
     new: &Page,
@@ -159,19 +159,17 @@ fn has_button(new: &Page, form: &Place, by: &Option<Path>) -> Result<bool, NoMem
 {
     match by {
         None => Ok(true),
-        Some(path) => Ok(is_button_of(new, form, &path.select(new)?)),
+        Some(path) => match path.select(new)?.only() {
+            Some(place) => Ok(is_button_of(new, form, place)),
+            None => Ok(false),
+        },
     }
 }
 
-fn is_button_of(new: &Page, form: &Place, target: &Target) -> bool
-    ensures { result ≡ is_button_of new.now form.now target.now }
+fn is_button_of(new: &Page, form: &Place, place: &Place) -> bool
+    ensures { result ≡ is_button_of new.now form.now place.now }
 {
-    match target {
-        Target::One(place) => {
-            place.is_under(form) && is_enabled_submit(new.control(place), is_disabled(new, place))
-        }
-        Target::Missing | Target::Several => false,
-    }
+    place.is_under(form) && is_enabled_submit(new.control(place), is_disabled(new, place))
 }
 
 #[tactic(auto, unfolding(crate::specs::Conflict::is_enabled_submit))]

@@ -5,7 +5,7 @@ ghost use Rattle.upload_reader.specs.declared.message.Event.{Event as AnEvent};
 ghost use Rattle.xpath_child.specs.Targets.{target_in};
 ghost use Rattle.xpath_child.specs.declared.target.Target.TheVariants.{One};
 ghost use Rattle.visit_replay.specs.Conflict.{path_of};
-ghost use Rattle.visit_replay.specs.Standing.{Keeps, IsWritten, IsClicked, text_in, check_in};
+ghost use Rattle.visit_replay.specs.inside.KeptFields.{Keeps, IsWritten, IsClicked, text_written, check_turned};
 
 use page_tree::{Control, NoMemory, Page, Place, Text};
 use std::alloc::Global;
@@ -32,14 +32,14 @@ impl Fields {
 
     /// What was written into the field there.
     pub(crate) fn text(&self, place: &Place) -> Option<&str>
-        ensures { option_map (λ text. text.now) result ≡ text_in self.now place.now }
+        ensures { option_map (λ text. text.now) result ≡ text_written self.now place.now }
     {
         self.texts.get(place).map(|text| text.as_str())
     }
 
     /// Whether the checkbox there is on, which started so.
     pub(crate) fn is_on(&self, place: &Place, start: bool) -> bool
-        ensures { result ≡ unwrap_or (check_in self.now place.now) start }
+        ensures { result ≡ unwrap_or (check_turned self.now place.now) start }
     {
         self.checks.get(place).copied().unwrap_or(start)
     }

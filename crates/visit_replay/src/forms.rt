@@ -3,10 +3,11 @@ ghost use Rattle.std.specs.Prelude.{◌≡◌, [], List, IfOk, OnOk, option_map}
 ghost use Rattle.std.specs.List.{cons_option};
 ghost use Rattle.form_urlencoded.specs.Form.{append_pair, extend_pairs};
 ghost use Rattle.upload_reader.specs.declared.message.Event.{Event as AnEvent};
-ghost use Rattle.visit_replay.specs.Field.{is_only};
+ghost use Rattle.xpath_child.specs.Targets.{only_place};
+ghost use Rattle.visit_replay.specs.Field.{is_there};
 ghost use Rattle.visit_replay.specs.Form.{unless_empty, sent_name, value_or, button_of, encoded, is_post, action_of};
-ghost use Rattle.visit_replay.specs.Standing.{Keeps};
-ghost use Rattle.visit_replay.specs.Now.{text_now, is_on_now, value_now, pair_now, pairs_now};
+ghost use Rattle.visit_replay.specs.inside.KeptFields.{Keeps};
+ghost use Rattle.visit_replay.specs.inside.FieldsNow.{text_now, is_on_now, value_now, pair_now, pairs_now};
 
 use crate::conflicts::is_disabled;
 use crate::fields::Fields;
@@ -59,7 +60,7 @@ fn unless_empty(text: Option<&str>) -> Option<&str>
 
 // What the path of the pressed button selects; where none was pressed, nothing.
 fn button_of(page: &Page, by: &Option<Path>) -> Result<Target, NoMemory>
-    ensures { IfOk result (λ button. button ≡ button_of page.now by.now) }
+    ensures { IfOk result (λ button. only_place button ≡ button_of page.now by.now) }
 {
     match by {
         None => Ok(Target::Missing),
@@ -171,10 +172,10 @@ fn is_on(page: &Page, fields: &Fields, place: &Place) -> bool
 
 // Whether that place alone was selected.
 fn is_only(place: &Place, target: &Target) -> bool
-    ensures { result ≡ is_only place.now target.now }
+    ensures { result ≡ is_there place.now (only_place target.now) }
 {
-    match target {
-        Target::One(other) => other == place,
-        Target::Missing | Target::Several => false,
-    }
+    let Some(other) = target.only() else {
+        return false;
+    };
+    other == place
 }

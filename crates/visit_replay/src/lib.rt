@@ -2,7 +2,8 @@
 //!
 //! `replay` goes through a visit's events once. Each event's path must select one element of the page, which must still take it; what was typed and
 //! clicked is kept by the places of the fields, and a form sends what its fields hold. It is proved that the outcome is the one that `specs/` defines:
-//! `Conflict` says why one event can't be replayed, `Field` what a field holds, `Form` what a form sends, `Requests` and `Outcome` the rest.
+//! `Conflict` says why one event can't be replayed and has the conflicts' codes, `Field` says what a field holds, `Form` what a form sends, `Requests`
+//! and `Outcome` the rest. What serves private contracts stands in `specs/inside`.
 #![tactic(auto)]
 
 mod address;

@@ -1,11 +1,13 @@
 //! What replaying a visit gives.
-ghost use Rattle.std.specs.Prelude.{◌≡◌, [], ◌∷◌, ◌++◌, OnOk, OnErr};
+ghost use Rattle.std.specs.Prelude.{◌≡◌, [], ◌∷◌, ◌++◌, Some, OnOk, OnErr};
+ghost use Rattle.visit_replay.specs.Conflict.{conflict_code};
 
 use page_tree::{NoMemory, Text};
 use std::alloc::Global;
+use std::fmt;
 use std::marker::Model;
 
-/// Why a visit can't be replayed as it was.
+/// Why a visit can't be replayed as it was. Its text is its code, as `K5`.
 #[derive(Clone, Copy, Debug, PartialEq, Eq)]
 pub enum ConflictKind {
     /// K1: the site has no page there.
@@ -26,6 +28,24 @@ pub enum ConflictKind {
     LogCut,
     /// K9: the site's own test signals a conflict.
     Ui,
+}
+
+impl fmt::Display for ConflictKind {
+    ghost output = { λ kind. Some (conflict_code kind) };
+
+    fn fmt<W: fmt::Write>(&self, f: &mut fmt::Formatter<W>) -> fmt::Result {
+        f.write_str(match self {
+            ConflictKind::NoPage => "K1",
+            ConflictKind::NoTarget => "K2",
+            ConflictKind::ManyTargets => "K3",
+            ConflictKind::NotAField => "K4",
+            ConflictKind::BaseChanged => "K5",
+            ConflictKind::NotALink => "K6",
+            ConflictKind::NotAForm => "K7",
+            ConflictKind::LogCut => "K8",
+            ConflictKind::Ui => "K9",
+        })
+    }
 }
 
 /// How a request is made: by opening a page, or by a link or a form.

@@ -11,8 +11,8 @@ use site_hooks::SiteHooks;
 use std::alloc::Global;
 
 /// What replaying a visit gives. It is untouched where the patch doesn't list its address. It is a conflict at the load where the site has no page
-/// there; at the first event that can't be replayed on that page; behind the last event where the log kept only a part of the visit, or where the
-/// site signals one between the old page and the new. Else it is done.
+/// there (K1); at the first event that can't be replayed on that page (K2 to K7); behind the last event where the log kept only a part of the visit
+/// (K8), or where the site signals one between the old page and the new (K9). Else it is done.
 ///
 /// The hooks are asked only where no case before decides (which is tested, not proved).
 pub fn replay<H: SiteHooks>(

@@ -4,7 +4,7 @@ ghost use Rattle.upload_reader.specs.declared.message.Event.{Event as AnEvent};
 ghost use Rattle.page_tree.specs.Look.{attribute_at};
 ghost use Rattle.visit_replay.specs.Form.{is_post, action_of, post_request, get_request, form_request_of};
 ghost use Rattle.visit_replay.specs.Requests.{load_request, link_request, request_at};
-ghost use Rattle.visit_replay.specs.Standing.{Keeps};
+ghost use Rattle.visit_replay.specs.inside.KeptFields.{Keeps};
 
 use crate::address::bare;
 use crate::fields::Fields;

@@ -151,6 +151,7 @@ const FIRST_CASES: &[(&str, &str, bool, &[Did<'static>], &str)] = &[
     ("/p", "/p", false, &[GOOD, GOOD], r#"Ui at 3 | load 0 "/p""#),
 ];
 
+// K1, then the events, then K8, then K9.
 #[test]
 fn the_first_case_decides(rt: HostRuntime) -> Result<(), Fail> {
     let alloc = rt.alloc();
@@ -168,6 +169,7 @@ fn the_first_case_decides(rt: HostRuntime) -> Result<(), Fail> {
     Ok(())
 }
 
+// K8 and K9.
 #[test]
 fn all_requests_stand_before_what_comes_behind_the_events(rt: HostRuntime) -> Result<(), Fail> {
     let alloc = rt.alloc();
@@ -345,6 +347,7 @@ impl SiteHooks for Pageless {
     }
 }
 
+// K1.
 #[test]
 fn no_page_comes_before_all_but_the_patch(rt: HostRuntime) -> Result<(), Fail> {
     let alloc = rt.alloc();

@@ -2,7 +2,7 @@
 ghost use Rattle.std.specs.Prelude.{ℕ, ◌≡◌, ◌<◌, ◌+◌, ◌^◌, IfOk, IfSome};
 ghost use Rattle.visit_replay.specs.Conflict.{conflict};
 ghost use Rattle.visit_replay.specs.Outcome.{first_conflict};
-ghost use Rattle.visit_replay.specs.Standing.{Steps, made_until};
+ghost use Rattle.visit_replay.specs.inside.OneEvent.{TakesEvent, made_until};
 
 use crate::conflicts::{Found, find};
 use crate::fields::Fields;
@@ -48,7 +48,7 @@ fn step(
     requests: &mut Requests,
 ) -> Result<Option<ConflictKind>, NoMemory>
     ensures conflict { IfOk result (λ found. found ≡ conflict visit.now.page new.now event.now) }
-    ensures steps { IfOk result (Steps visit.now.address new.now event.now fields.old fields.new requests.old requests.new) }
+    ensures steps { IfOk result (TakesEvent visit.now.address new.now event.now fields.old fields.new requests.old requests.new) }
 {
     let place = match find(&visit.page, new, event)? {
         Found::Bad(kind) => return Ok(Some(kind)),

@@ -1,8 +1,7 @@
-pub mod TextWriting
 pub mod SiteSteps
 pub mod SiteLaws
+pub mod OpeningLaws
 pub mod NeededLaws
 pub mod GatherLaws
-pub mod LaneLaws
 pub mod IntakeLaws
 pub mod RunLaws

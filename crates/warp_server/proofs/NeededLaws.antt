@@ -1,52 +1,43 @@
 -- Each read was made where the bytes before it decided nothing: of the site line, of the hello and of the lane.
-use Rattle.std.proofs.Common.{◌≡◌, ℕ, ◌+◌, ◌-◌, ◌<◌, ◌≤◌, List, [], ◌++◌, length, take, drop, Option, Some, None, Result, Ok, Err, inl, inr, sym, ap, ◌∙◌, refl, arith}
-use Rattle.std.proofs.Math.Seq.{take-append_seam}
-use Rattle.std.proofs.lemmas.Bool.{cases_lt}
-use Rattle.std.proofs.lemmas.List.{drop-drop, take-append-le}
-use Rattle.upload_reader.specs.Answers.{Answer, bytes_of}
-use Rattle.upload_reader.specs.Cutting.{ending_of, StopsAtEnd}
-use Rattle.upload_reader.specs.Greeted.{Begins, ReadsForHello}
-use Rattle.upload_reader.specs.Greeting.{Hello, Greeting, greeting_of}
-use Rattle.upload_reader.specs.Reading.{EachNeeded}
-use Rattle.upload_reader.specs.Stream.{stream_of}
-use Rattle.upload_reader.proofs.CutLaws.{cut_longer}
-use Rattle.upload_reader.proofs.LoopLaws.{bytes_later}
+use Rattle.std.proofs.Common.{◌≡◌, ℕ, List, [], ◌++◌, length, take, drop, Option, Some, None, Result, Ok, Err, inl, inr, refl, sym, ap, ◌∙◌, append-nil}
+use Rattle.byte_streams.specs.Answers.{Answer, bytes_of}
+use Rattle.byte_streams.specs.Cutting.{ending_of}
+use Rattle.byte_streams.specs.GoesOn.{GoesOn}
+use Rattle.byte_streams.specs.Reading.{Reading, MadeWhile, ReadsWhile, NoLineYet, input}
+use Rattle.byte_streams.specs.declared.fault.LineFault.{LineFault}
+use Rattle.byte_streams.proofs.ReadingLaws.{bytes_of-append, made_then}
+use Rattle.upload_reader.specs.Greeting.{Greeting, IsGreetingOf}
+use Rattle.upload_reader.specs.Stream.{Costed, Stream, IsStreamOf}
+use Rattle.upload_reader.specs.Upload.{UploadState, Begins, NotGreeted}
+use Rattle.upload_reader.specs.declared.hello_fault.HelloFault.{HelloFault}
+use Rattle.upload_reader.specs.declared.lane_fault.LaneEnd.{LaneEnd}
 use Rattle.warp_server.specs.Site.{Site as PlainSite}
-use Rattle.warp_server.specs.Run.{site_line, max_site_bytes, IsSiteLine, HasReport, HasBadSite, HasBadHello, lane_behind, behind, IsUndecided, ReadWhileUndecided}
-use Rattle.warp_server.specs.Gathering.{ReadsBeforeEnd}
-use Rattle.warp_server.specs.Intake.{IsLaneUndecided}
+use Rattle.warp_server.specs.Run.{site_line, max_site_bytes, HasSite, HasReport, HasBadSite, HasBadHello, BeginsBy, behind, Opening, OpensBy, lane_behind, lane_place, IsUndecided, ReadWhileUndecided}
+use Rattle.warp_server.specs.inside.Gathering.{NotOver}
+use Rattle.warp_server.specs.inside.Intake.{IsFresh, IsBehindSite}
+use Rattle.warp_server.specs.declared.site.Site.{Site}
+use Rattle.warp_server.proofs.OpeningLaws.{greets, same_lines, same_said, greeting_once, end_once, site_stays, opens_stays}
 
--- ---- reads and further reads
-
--- it held where each of the later reads was made, from that one on
-abbrev pub HeldBefore : (List Answer → Type 0) → ℕ → List Answer → Type 0
-HeldBefore P from later = (n : ℕ) → from ≤ n → n < length later → P (take n later)
-
-pub held_then : (P : List Answer → Type 0) (from : ℕ) (now later more : List Answer) → later ≡ now ++ more → HeldBefore P from now → HeldBefore P (length now) later → HeldBefore P from later
-held_then P from now later more grown first then n high below = elim (cases_lt n (length now)) [
-  | inl early ↦
-      let same : take n later ≡ take n now = ap (take n) grown ∙ take-append-le n now more (omega (arith, early)) in
-      rw same (first n high early)
-  | inr late ↦ then n late below
-]
+pub goes_nowhere : (input : List ℕ) (ending : Option LineFault) → GoesOn input input ending ending
+goes_nowhere input ending = record { more = []; bytes_are = sym (append-nil input); ended = λ some. (refl, refl) }
 
 -- ---- one answer is no other
 
 no_answer : {A : Type 0} (found : Option A) (answer : A) → found ≡ None → found ≡ Some answer → ⊥
 no_answer found answer none some = cc
 
-same_answer : {A E : Type 0} (found : Option (Result A E)) (good good' : A) → found ≡ Some (Ok good) → found ≡ Some (Ok good') → good ≡ good'
+same_answer : {A E : Type 0} (found : Option (Result A E)) (good good' : A) → found ≡ Some (Ok good) → found ≡ Some (Ok good') → good' ≡ good
 same_answer found good good' is also = cc
 
 no_fault : {A E : Type 0} (found : Option (Result A E)) (good : A) (fault : E) → found ≡ Some (Ok good) → found ≡ Some (Err fault) → ⊥
 no_fault found good fault is also = cc
 
--- ---- the site line
+-- ---- what is undecided
 
 -- no line can be cut yet
-no_line_yet : (input : List ℕ) → site_line input None ≡ None → IsUndecided input
-no_line_yet input none = record {
-  no_report = λ text report. no_answer (site_line input None) (Ok report.line) none report.site_is.cut_is;
+before_line : (input : List ℕ) → site_line input None ≡ None → IsUndecided input
+before_line input none = record {
+  no_report = λ text report. no_answer (site_line input None) (Ok report.report.opening.line) none report.report.opens.site_is.cut_is;
   no_bad_site = λ bad. elim bad [
     | inl (fault, real, is) ↦ no_answer (site_line input None) (Err fault) none is
     | inr (line, is, no_site) ↦ no_answer (site_line input None) (Ok line) none is
@@ -54,116 +45,108 @@ no_line_yet input none = record {
   no_bad_hello = λ bad. no_answer (site_line input None) (Ok bad.line) none bad.site_is.cut_is;
 }
 
--- ---- the hello and the lane
+-- the site line was read, and behind it there is no whole lane and no line that is no hello
+module _ (input line : List ℕ) (site : PlainSite) (has : HasSite input None line site)
+    (no_report : (text : List ℕ) (report : HasReport input None text) → report.report.opening.line ≡ line → ⊥)
+    (no_bad : (lines : ℕ) (fault : HelloFault) → BeginsBy input None line lines (Err fault) → ⊥) where
+  same_line : (line' : List ℕ) → site_line input None ≡ Some (Ok line') → line' ≡ line
+  same_line line' is = same_answer (site_line input None) line line' has.cut_is is
 
--- the hello isn't whole yet
-before_hello : (place : ℕ) (input : List ℕ) → (greeting_of None (drop place input) None).answer ≡ None → IsLaneUndecided place input
-before_hello place input none = record {
-  no_end = λ bytes hello is. absurd (no_answer (greeting_of None (drop place input) None).answer (Ok hello) none (ap (λ greeting. greeting.answer) is));
-  no_refusal = λ (fault, is). no_answer (greeting_of None (drop place input) None).answer (Err fault) none is;
-}
-
-abbrev greeting_by : ℕ → Hello → Greeting
-greeting_by bytes hello = record { bytes = bytes; answer = Some (Ok hello) }
-
--- the lane behind the hello has no end yet
-before_end : (place bytes : ℕ) (hello : Hello) (input : List ℕ) → greeting_of None (drop place input) None ≡ greeting_by bytes hello → (stream_of (lane_behind hello) (drop bytes (drop place input)) None).end ≡ None
-    → IsLaneUndecided place input
-before_end place bytes hello input begins none =
-    let greeting = greeting_of None (drop place input) None in
-    let said : greeting.answer ≡ Some (Ok hello) = ap (λ greeting. greeting.answer) begins in
-    record {
-      no_end = λ bytes' hello' begins'.
-          let said' : greeting.answer ≡ Some (Ok hello') = ap (λ greeting. greeting.answer) begins' in
-          rw (same_answer greeting.answer hello' hello said' said, ap (λ greeting. greeting.bytes) (sym begins' ∙ begins)) none;
-      no_refusal = λ (fault, refused). no_fault greeting.answer hello fault said refused;
-    }
-
--- where each of these reads was made, the lane told nothing
-abbrev pub LaneHeld : ℕ → ℕ → List Answer → Type 0
-LaneHeld place from later = HeldBefore (λ reads. IsLaneUndecided place (bytes_of reads)) from later
-
--- the hello that was read is that of any longer input
-greets_later : (place : ℕ) (greeted now more : List Answer) (greeting : Greeting) (n : ℕ) → now ≡ greeted ++ more → StopsAtEnd now → Begins None place (bytes_of greeted) (ending_of greeted) greeting → length greeted ≤ n → n < length now
-    → greeting_of None (drop place (bytes_of (take n now))) None ≡ greeting
-greets_later place greeted now more greeting n grown stops begins high below =
-    let front : take (length greeted) now ≡ greeted = ap (take (length greeted)) grown ∙ take-append_seam greeted more in
-    let going : ending_of greeted ≡ None = ap ending_of (sym front) ∙ stops (length greeted) (omega (arith, high, below)) in
-    begins (bytes_of (take n now)) None (record {
-      more = bytes_of (take (n - length greeted) more);
-      bytes_are = bytes_later greeted now more n grown high;
-      ended = λ some. let never = rw going at some in cc;
-    })
-
-pub hello_needed : (place : ℕ) (earlier greeted : List Answer) → ReadsForHello None place earlier greeted → LaneHeld place (length earlier) greeted
-hello_needed place earlier greeted needed n high below = before_hello place (bytes_of (take n greeted)) (needed n high below)
-
-lane_needed_behind : (place start : ℕ) (hello : Hello) (greeted now more : List Answer) → now ≡ greeted ++ more → StopsAtEnd now → place ≤ start → Begins None place (bytes_of greeted) (ending_of greeted) (greeting_by (start - place) hello)
-    → ReadsBeforeEnd (lane_behind hello) start greeted now → LaneHeld place (length greeted) now
-lane_needed_behind place start hello greeted now more grown stops far begins needed n high below =
-    let input = bytes_of (take n now) in
-    let at : place + (start - place) ≡ start = omega (arith, far) in
-    let same : drop (start - place) (drop place input) ≡ drop start input = drop-drop (start - place) place input ∙ ap (λ k. drop k input) at in
-    before_end place (start - place) hello input (greets_later place greeted now more (greeting_by (start - place) hello) n grown stops begins high below)
-    (ap (λ bytes. (stream_of (lane_behind hello) bytes None).end) same ∙ needed n high below)
-
--- each read of the hello and of the lane behind it was needed
-pub lane_needed : (place start : ℕ) (hello : Hello) (earlier greeted now more : List Answer) → now ≡ greeted ++ more → StopsAtEnd now → place ≤ start → Begins None place (bytes_of greeted) (ending_of greeted) (greeting_by (start - place) hello)
-    → ReadsForHello None place earlier greeted → ReadsBeforeEnd (lane_behind hello) start greeted now → LaneHeld place (length earlier) now
-lane_needed place start hello earlier greeted now more grown stops far begins first then =
-    held_then (λ reads. IsLaneUndecided place (bytes_of reads)) (length earlier) greeted now more grown (hello_needed place earlier greeted first)
-    (lane_needed_behind place start hello greeted now more grown stops far begins then)
-
--- ---- both
-
--- the site line was read, and the lane behind it tells nothing yet
-module _ (place : ℕ) (line : List ℕ) (site : PlainSite) (input : List ℕ) (from : place ≡ length line + 1) (cut_is : site_line input None ≡ Some (Ok line)) (site_is : IsSiteLine line site) (lane : IsLaneUndecided place input) where
-  same_place : (line' : List ℕ) → site_line input None ≡ Some (Ok line') → drop place input ≡ behind line' input
-  same_place line' is = ap (λ n. drop n input) (from ∙ ap (λ l. length l + 1) (same_answer (site_line input None) line line' cut_is is))
-
-  no_report_yet : (text : List ℕ) → HasReport input None text → ⊥
-  no_report_yet text report =
-      let here = same_place report.line report.site_is.cut_is in
-      let begins = ap (λ bytes. greeting_of None bytes None) here ∙ report.begins in
-      let end : None ≡ Some report.end =
-      sym (lane.no_end report.bytes report.hello begins) ∙ ap (λ bytes. (stream_of (lane_behind report.hello) (drop report.bytes bytes) None).end) here ∙ ap (λ stream. stream.end) report.stream_is in
-      cc
-
-  no_bad_site_yet : HasBadSite input None → ⊥
-  no_bad_site_yet bad = elim bad [
-    | inl (fault, real, is) ↦ no_fault (site_line input None) line fault cut_is is
-    | inr (line', is, no_site) ↦ no_site site (rw (same_answer (site_line input None) line line' cut_is is) at site_is)
+  no_bad_site : HasBadSite input None → ⊥
+  no_bad_site bad = elim bad [
+    | inl (fault, real, is) ↦ no_fault (site_line input None) line fault has.cut_is is
+    | inr (line', is, none) ↦ none site (rw (same_line line' is) has.site_is)
   ]
 
-  no_bad_hello_yet : HasBadHello input None → ⊥
-  no_bad_hello_yet bad = lane.no_refusal (bad.fault, ap (λ bytes. (greeting_of None bytes None).answer) (same_place bad.line bad.site_is.cut_is) ∙ bad.fault_is)
+  behind_line : IsUndecided input
+  behind_line = record {
+    no_report = λ text report. no_report text report (same_line report.report.opening.line report.report.opens.site_is.cut_is);
+    no_bad_site = no_bad_site;
+    no_bad_hello = λ bad. no_bad bad.lines bad.fault (rw (same_line bad.line bad.site_is.cut_is) at bad.begins);
+  }
 
-  behind_site : IsUndecided input
-  behind_site = record { no_report = no_report_yet; no_bad_site = no_bad_site_yet; no_bad_hello = no_bad_hello_yet }
+never : (greeting : Greeting) → None ≡ Some greeting → ⊥
+never greeting is = cc
 
--- where each of these reads was made, nothing was decided
-abbrev Held : ℕ → List Answer → Type 0
-Held from later = HeldBefore (λ reads. IsUndecided (bytes_of reads)) from later
+-- the hello isn't whole yet
+before_hello : (input line : List ℕ) (site : PlainSite) → HasSite input None line site → IsGreetingOf (behind line input) None None → IsUndecided input
+before_hello input line site has none =
+    let no_greeting : (greeting : Greeting) → IsGreetingOf (behind line input) None (Some greeting) → ⊥ =
+    λ greeting is. never greeting (greeting_once (behind line input) None None (Some greeting) none is) in
+    behind_line input line site has
+    (λ text report same. no_greeting (record { lines = report.report.opening.lines; answer = Ok report.report.opening.client }) (rw same at report.report.opens.begins))
+    (λ lines fault is. no_greeting (record { lines = lines; answer = Err fault }) is)
 
-site_needed : (answers : List Answer) → EachNeeded max_site_bytes 0 [] answers → Held 0 answers
-site_needed answers needed n high below = no_line_yet (bytes_of (take n answers)) (needed n high below)
+not_both : (client : List ℕ) (fault : HelloFault) → Err fault ≡ Ok client → ⊥
+not_both client fault is = cc
 
--- each read of a site line that was refused was needed
-pub line_needed : (start : ℕ) (none answers m : List Answer) → none ≡ [] → start ≡ 0 → answers ≡ none ++ m → EachNeeded max_site_bytes start none answers → ReadWhileUndecided m
-line_needed start none answers m empty first here needed n below =
-    let same : answers ≡ m = rw empty at here in
-    site_needed m (rw (first, empty, same) at needed) n (omega arith) below
+no_end : (end : LaneEnd) → None ≡ Some end → ⊥
+no_end end is = cc
 
--- the site line that was read is that of any longer input
-line_later : (line : List ℕ) (answers more : List Answer) (n : ℕ) → site_line (bytes_of answers) (ending_of answers) ≡ Some (Ok line) → length answers ≤ n → site_line (bytes_of (take n (answers ++ more))) None ≡ Some (Ok line)
-line_later line answers more n cut_is high =
-    let rest = bytes_of (take (n - length answers) more) in
-    rw (bytes_later answers (answers ++ more) more n refl high) (cut_longer max_site_bytes (bytes_of answers) rest line (ending_of answers) None cut_is)
+-- the lane behind the hello has no end yet
+before_end : (input : List ℕ) (opening : Opening) (messages : List Costed) → OpensBy input None opening
+    → IsStreamOf (lane_behind opening) (drop (lane_place opening input) input) None (record { messages = messages; end = None }) → IsUndecided input
+before_end input opening messages opens none =
+    let line = opening.line in
+    let same_greeting : (lines : ℕ) (said : Result (List ℕ) HelloFault) → BeginsBy input None line lines said → greets opening.lines (Ok opening.client) ≡ greets lines said =
+    λ lines said is. greeting_once (behind line input) None (greets opening.lines (Ok opening.client)) (greets lines said) opens.begins is in
+    behind_line input line opening.site opens.site_is
+    (λ text report same.
+    let other = report.report.opening in
+    let count : other.lines ≡ opening.lines = sym (same_lines opening.lines other.lines (Ok opening.client) (Ok other.client) (same_greeting other.lines (Ok other.client) (rw same at report.report.opens.begins))) in
+    no_end report.end (end_once (lane_behind opening) (drop (lane_place opening input) input) None (record { messages = messages; end = None })
+    (record { messages = report.messages; end = Some report.end }) none (rw (same, count) at report.all)))
+    (λ lines fault is. not_both opening.client fault (sym (same_said opening.lines lines (Ok opening.client) (Err fault) (same_greeting lines (Err fault) is))))
 
--- each read of the site line and of the lane behind it was needed
-pub both_needed : (start place : ℕ) (line : List ℕ) (site : PlainSite) (none answers more : List Answer) → none ≡ [] → start ≡ 0 → place ≡ length line + 1 → site_line (drop start (bytes_of answers)) (ending_of answers) ≡ Some (Ok line) → IsSiteLine line site
-    → EachNeeded max_site_bytes start none answers → LaneHeld place (length answers) (answers ++ more) → ReadWhileUndecided (answers ++ more)
-both_needed start place line site none answers more empty first from cut_is site_is needed lane n below =
-    let later : Held (length answers) (answers ++ more) =
-    λ n high below. behind_site place line site (bytes_of (take n (answers ++ more))) from (line_later line answers more n (rw first at cut_is) high) site_is (lane n high below) in
-    held_then (λ reads. IsUndecided (bytes_of reads)) 0 answers (answers ++ more) more refl (site_needed answers (rw (first, empty) at needed)) later n (omega arith) below
+-- ---- each read was needed
+
+-- the site line that was read is that of the lines read further
+pub site_later : {R : Type 0} {Undecided : List Answer → Type 0} (old new : Reading R) (line : List ℕ) (site : PlainSite) → ReadsWhile Undecided old new
+    → HasSite (input old) (ending_of old.answers) line site → HasSite (input new) (ending_of new.answers) line site
+site_later old new line site reads has =
+    rw (ap bytes_of reads.answers ∙ bytes_of-append old.answers reads.more)
+    (site_stays (input old) (bytes_of reads.more) (ending_of old.answers) (ending_of new.answers) line site has)
+
+pub line_needed : {R : Type 0} (old new : Reading R) → IsFresh old → ReadsWhile (NoLineYet max_site_bytes old.place) old new → ReadWhileUndecided new.answers
+line_needed old new fresh reads =
+    let needed : MadeWhile (NoLineYet max_site_bytes 0) [] new.answers = rw (fresh.answers, fresh.place) at reads.needed in
+    λ n low high. before_line (bytes_of (take n new.answers)) (needed n low high)
+
+module _ {R : Type 0} (lines : Reading R) (site : Site) (at_site : IsBehindSite lines site) where
+  pub hello_needed : (new : Reading R) → ReadWhileUndecided lines.answers → ReadsWhile (NotGreeted lines.place) lines new → ReadWhileUndecided new.answers
+  hello_needed new needed reads =
+      made_then (λ earlier. IsUndecided (bytes_of earlier)) (NotGreeted lines.place) [] lines.answers new.answers reads.more reads.answers
+      (λ rest none.
+      before_hello (bytes_of (lines.answers ++ rest)) lines.line at_site.plain
+      (rw (bytes_of-append lines.answers rest) (site_stays (input lines) (bytes_of rest) (ending_of lines.answers) None lines.line at_site.plain at_site.site_is))
+      (rw at_site.place at none))
+      needed reads.needed
+
+  -- the upload begins behind the site line
+  module _ (upload : UploadState R) (begins : Begins lines upload) where
+    abbrev pub opening : Opening
+    opening = record { line = lines.line; site = at_site.plain; lines = upload.lane.lines; client = upload.client }
+
+    opens : OpensBy (input upload.lines) (ending_of upload.lines.answers) opening
+    opens =
+        record {
+          site_is = site_later lines upload.lines lines.line at_site.plain begins.reads at_site.site_is;
+          begins = rw at_site.place at (begins.greets (input upload.lines) (ending_of upload.lines.answers) (goes_nowhere (input upload.lines) _));
+        }
+
+    -- it stays so
+    pub opens_later : (answers more : List Answer) (ending : Option LineFault) → answers ≡ upload.lines.answers ++ more
+        → OpensBy (bytes_of answers) ending opening × (upload.start ≡ lane_place opening (bytes_of answers))
+    opens_later answers more ending grown =
+        let (later, place) = opens_stays (input upload.lines) (bytes_of more) (ending_of upload.lines.answers) ending opening opens in
+        let bytes : bytes_of answers ≡ input upload.lines ++ bytes_of more = ap bytes_of grown ∙ bytes_of-append upload.lines.answers more in
+        let start : upload.start ≡ lane_place opening (input upload.lines) = rw at_site.place at begins.behind in
+        (rw bytes later, start ∙ sym place ∙ ap (lane_place opening) (sym bytes))
+
+    pub lane_needed : (new : Reading R) → ReadWhileUndecided lines.answers → ReadsWhile (NotOver upload) upload.lines new → ReadWhileUndecided new.answers
+    lane_needed new needed reads =
+        made_then (λ earlier. IsUndecided (bytes_of earlier)) (NotOver upload) [] upload.lines.answers new.answers reads.more reads.answers
+        (λ rest (messages, none).
+        let (later, start) = opens_later (upload.lines.answers ++ rest) rest None refl in
+        before_end (bytes_of (upload.lines.answers ++ rest)) opening messages later (rw (begins.lane, start) at none))
+        (hello_needed upload.lines needed begins.reads) reads.needed

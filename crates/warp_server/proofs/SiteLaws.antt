@@ -4,7 +4,7 @@ use Rattle.std.proofs.lemmas.Bool.{and_parts, and_from, le-leb, leb-true}
 use Rattle.serde_json.specs.Data.{Data, Members, no_members, member}
 use Rattle.serde_json.specs.Find.{as_object}
 use Rattle.page_tree.specs.Tree.{Tree}
-use Rattle.page_tree.specs.Visit.{page_in}
+use Rattle.page_tree.specs.Fault.{page_in}
 use Rattle.page_tree.proofs.Once.{page_found, page_is}
 use Rattle.xpath_child.specs.Path.{Step, IsPath, path_text}
 use Rattle.xpath_child.specs.Fault.{path_in}
@@ -14,7 +14,8 @@ use Rattle.client_log.specs.Quota.{IsQuota}
 use Rattle.site_hooks.specs.declared.table.Table.{Table}
 use Rattle.visit_replay.specs.Outcome.{is_listed}
 use Rattle.warp_server.specs.Site.{Entry, Site as PlainSite, patched_in, pages_in, watch_in, quota_in, has_later_member, HoldPages, ArePaths, IsSiteOf, IsJsonOf}
-use Rattle.warp_server.specs.SiteReading.{site_patch, site_table, site_quota, Stands, StandsBy, HasPages, Watches, entries_in, paths_in, ok_of, quota_of, make_site, site_by, site_in, Fails}
+use Rattle.warp_server.specs.SiteReading.{site_patch, site_table, site_quota, Stands}
+use Rattle.warp_server.specs.inside.SiteMembers.{StandsBy, HasPages, Watches, entries_in, paths_in, ok_of, quota_of, make_site, site_by, site_in, SiteFails}
 use Rattle.warp_server.specs.declared.site.Site.{Site}
 use Rattle.warp_server.specs.declared.site_fault.SiteFault.{SiteFault}
 use Rattle.warp_server.specs.declared.site_fault.SiteFault.TheVariants.{NotJson, BadMember, NoMemory}
@@ -62,7 +63,7 @@ paths_found : (texts : List (List ℕ)) (paths : List (List Step)) → ArePaths 
 paths_found [] [] are = refl
 paths_found [] (path ∷ paths) are = absurd are
 paths_found (text ∷ texts) [] are = absurd are
-paths_found (text ∷ texts) (path ∷ paths) are = rw (path_found text path are.0 are.1, paths_found texts paths are.2) refl
+paths_found (text ∷ texts) (path ∷ paths) are = rw (path_found text path are.0.0 are.0.1, paths_found texts paths are.1) refl
 
 was_ok : {A E : Type 0} (r : Result A E) (x : A) → ok_of r ≡ Some x → r ≡ Ok x
 was_ok (Ok y) x is = let same : y ≡ x = cc in ap Ok same
@@ -74,7 +75,7 @@ paths_are (text ∷ texts) paths is =
     let first = chained (λ path. option_map (λ rest. path ∷ rest) (paths_in texts)) (ok_of (path_in text)) paths is in
     let rest = mapped (λ rest. first.0 ∷ rest) (paths_in texts) paths first.2 in
     let sound = path_in-sound text first.0 (was_ok (path_in text) first.0 first.1) in
-    rw (← rest.2) (sound.0, sound.1, paths_are texts rest.0 rest.1)
+    rw (← rest.2) (sound, paths_are texts rest.0 rest.1)
 
 -- ---- the quota
 
@@ -171,7 +172,7 @@ pub answered_only : (line : List ℕ) (d : Data) (r : Result Site SiteFault) →
 answered_only line d (Ok site) stands json = λ e also plain is. one_site line d e site stands.0 plain stands.1 stands.2 json also is
 answered_only line d (Err e) stands json = tt
 
-bad_member : (line : List ℕ) (d : Data) (e : SiteFault) → Fails e (site_in d) → IsJsonOf line d → e ≡ BadMember → (f : Data) × IsJsonOf line f × ((plain : PlainSite) → IsSiteOf f plain → ⊥)
+bad_member : (line : List ℕ) (d : Data) (e : SiteFault) → SiteFails e (site_in d) → IsJsonOf line d → e ≡ BadMember → (f : Data) × IsJsonOf line f × ((plain : PlainSite) → IsSiteOf f plain → ⊥)
 bad_member line d NotJson fails json is = absurd fails
 bad_member line d BadMember fails json is = (d, json, no_site d fails)
 bad_member line d NoMemory fails json is = cc

@@ -1,19 +1,20 @@
 -- What the loops of the reading of a site keep.
 use Rattle.std.proofs.Common.{◌≡◌, ℕ, ◌+◌, ◌<◌, ◌≤◌, length, get_or, drop, drop-cons, add-one, List, [], ◌∷◌, ◌++◌, Option, Some, None, option_map, Bool, true, false, if◌then◌else◌, String, Global, string_bytes, refl, sym, ◌∙◌, ap, append_assoc, append-nil}
 use Rattle.std.proofs.lemmas.List.{drop_all}
+use Rattle.std.specs.Option.{option_or}
 use Rattle.std.specs.Str.{bytes_eq}
 use Rattle.serde_json.specs.Data.{Data, Items, item, Members, member}
 use Rattle.serde_json.specs.Find.{as_str}
 use Rattle.serde_json.specs.View.{view, items_view, members_view}
 use Rattle.serde_json.specs.declared.value.Value.{Value}
 use Rattle.page_tree.specs.Tree.{Tree}
-use Rattle.page_tree.specs.Visit.{page_in}
+use Rattle.page_tree.specs.Fault.{page_in}
 use Rattle.xpath_child.specs.Path.{Step}
 use Rattle.xpath_child.specs.Fault.{path_in}
-use Rattle.site_hooks.specs.Table.{page_in as page_at, watched_in}
+use Rattle.site_hooks.specs.Table.{table_page as page_at, watched_in}
 use Rattle.site_hooks.specs.declared.table.Table.{Table}
-use Rattle.warp_server.specs.Site.{Entry, texts_of, page_among, page_before}
-use Rattle.warp_server.specs.SiteReading.{entries_in, paths_in, ok_of, HasPages, Watches, Fails}
+use Rattle.warp_server.specs.Site.{Entry, texts_among, page_among}
+use Rattle.warp_server.specs.inside.SiteMembers.{entries_in, paths_in, ok_of, HasPages, Watches, SiteFails}
 use Rattle.warp_server.specs.declared.site_fault.SiteFault.{SiteFault}
 use Rattle.warp_server.specs.declared.site_fault.SiteFault.TheVariants.{NotJson, BadMember, NoMemory}
 
@@ -31,13 +32,13 @@ drop_next : {X : Type 0} (xs : List X) (i : ℕ) (x : X) → i < length xs → x
 drop_next xs i x below is = rw (add-one, drop-cons xs i x below, ← is) refl
 
 text_step : (before : List (List ℕ)) (text : List ℕ) (d : Data) (ds : Items) → as_str d ≡ Some text
-    → option_map (λ r. (before ++ text ∷ []) ++ r) (texts_of ds) ≡ option_map (λ r. before ++ r) (texts_of (item d ds))
-text_step before text d ds is = rw is (joined before text (texts_of ds))
+    → option_map (λ r. (before ++ text ∷ []) ++ r) (texts_among ds) ≡ option_map (λ r. before ++ r) (texts_among (item d ds))
+text_step before text d ds is = rw is (joined before text (texts_among ds))
 
 pub text_next : (before : List (List ℕ)) (text : List ℕ) (xs : List Value) (i : ℕ) (x : Value) (whole : Option (List (List ℕ))) → i < length xs → x ≡ get_or xs i x → as_str (view x) ≡ Some text
-    → option_map (λ r. before ++ r) (texts_of (items_view (drop i xs))) ≡ whole → option_map (λ r. (before ++ text ∷ []) ++ r) (texts_of (items_view (drop (i + 1) xs))) ≡ whole
+    → option_map (λ r. before ++ r) (texts_among (items_view (drop i xs))) ≡ whole → option_map (λ r. (before ++ text ∷ []) ++ r) (texts_among (items_view (drop (i + 1) xs))) ≡ whole
 text_next before text xs i x whole below is found so_far =
-    text_step before text (view x) (items_view (drop (i + 1) xs)) found ∙ ap (λ ys. option_map (λ r. before ++ r) (texts_of (items_view ys))) (sym (drop_next xs i x below is)) ∙ so_far
+    text_step before text (view x) (items_view (drop (i + 1) xs)) found ∙ ap (λ ys. option_map (λ r. before ++ r) (texts_among (items_view ys))) (sym (drop_next xs i x below is)) ∙ so_far
 
 -- ---- pages
 
@@ -51,14 +52,15 @@ pub record PagesSoFar (table : Table) (rest : List Given) (whole : Option (List 
   pub pages : HasPages table entries
 
 -- a later page stands in place of those before it
-replaced : (b : Bool) (page : Tree) (rest : Option Tree) (entry : Entry) (other : List ℕ) → page_before (if b then Some page else rest) entry other ≡ (if b then Some page else page_before rest entry other)
-replaced true page rest entry other = refl
-replaced false page rest entry other = refl
+replaced : (b : Bool) (page : Tree) (rest own : Option Tree) → option_or (if b then Some page else rest) own ≡ (if b then Some page else option_or rest own)
+replaced true page rest own = refl
+replaced false page rest own = refl
 
 among_with : (entries : List Entry) (address : List ℕ) (page : Tree) (other : List ℕ) → page_among (entries ++ (address, page) ∷ []) other ≡ (if bytes_eq address other then Some page else page_among entries other)
 among_with [] address page other = refl
 among_with (entry ∷ entries) address page other =
-    ap (λ found. page_before found entry other) (among_with entries address page other) ∙ replaced (bytes_eq address other) page (page_among entries other) entry other
+    let own : Option Tree = if bytes_eq entry.0 other then Some entry.1 else None in
+    ap (λ found. option_or found own) (among_with entries address page other) ∙ replaced (bytes_eq address other) page (page_among entries other) own
 
 page_step : (before : List Entry) (address : List ℕ) (page : Tree) (d : Data) (ms : Members) → page_in d ≡ Some page
     → option_map (λ r. (before ++ (address, page) ∷ []) ++ r) (entries_in ms) ≡ option_map (λ r. before ++ r) (entries_in (member address d ms))
@@ -124,7 +126,7 @@ path_missing text texts is = rw is refl
 
 -- a text that has no path fails the whole
 pub path_missed : (e : SiteFault) (old table : Table) (text : List ℕ) (texts : List (List ℕ)) (i : ℕ) (whole : Option (List (List Step))) → i < length texts → text ≡ get_or texts i text
-    → Fails e (ok_of (path_in text)) → PathsSoFar old table (drop i texts) whole → Fails e whole
+    → SiteFails e (ok_of (path_in text)) → PathsSoFar old table (drop i texts) whole → SiteFails e whole
 path_missed NotJson old table text texts i whole below is fails so_far = fails
 path_missed BadMember old table text texts i whole below is fails so_far =
     sym so_far.found ∙ ap (λ ts. option_map (λ r. so_far.paths ++ r) (paths_in ts)) (drop_next texts i text below is)

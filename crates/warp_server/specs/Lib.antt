@@ -1,11 +1,8 @@
-pub mod Told
-pub mod Writing
 pub mod Site
+pub mod SiteFault
 pub mod SiteReading
 pub mod Report
-pub mod Gathering
-pub mod Repairing
 pub mod Run
-pub mod Intake
-pub mod Running
 pub mod Status
+pub mod Call
+pub mod inside

@@ -3,18 +3,11 @@ use Rattle.std.specs.Prelude.{ℕ, List, [], ◌∷◌, ◌++◌, Option, Some, 
 use Rattle.std.specs.List.{flat_map}
 use Rattle.serde_json.specs.Data.{string}
 use Rattle.serde_json.specs.Written.{compact_text}
-use Rattle.page_tree.specs.declared.fault.PageFault.{PageFault}
-use Rattle.page_tree.specs.declared.fault.PageFault.TheVariants as page
-use Rattle.xpath_child.specs.declared.fault.PathFaultKind.{PathFaultKind}
-use Rattle.xpath_child.specs.declared.fault.PathFaultKind.TheVariants as path
-use Rattle.upload_reader.specs.declared.session_fault.SessionFault.{SessionFault}
-use Rattle.upload_reader.specs.declared.session_fault.SessionFault.TheVariants as session
-use Rattle.upload_reader.specs.declared.lane_fault.LaneFault.{LaneFault}
-use Rattle.upload_reader.specs.declared.lane_fault.LaneFault.TheVariants as lane
+use Rattle.upload_reader.specs.LaneFaultCode.{lane_fault_code}
 use Rattle.upload_reader.specs.declared.lane_fault.LaneEnd.{LaneEnd}
 use Rattle.upload_reader.specs.declared.lane_fault.LaneEnd.TheVariants.{Bye, Fault}
+use Rattle.visit_replay.specs.Conflict.{conflict_code}
 use Rattle.visit_replay.specs.declared.outcome.ConflictKind.{ConflictKind}
-use Rattle.visit_replay.specs.declared.outcome.ConflictKind.TheVariants.{NoPage, NoTarget, ManyTargets, NotAField, BaseChanged, NotALink, NotAForm, LogCut, Ui}
 use Rattle.visit_replay.specs.declared.outcome.Method.{Method}
 use Rattle.visit_replay.specs.declared.outcome.Method.TheVariants.{Load, Get, Post}
 use Rattle.visit_replay.specs.declared.outcome.Request.{Request}
@@ -40,7 +33,7 @@ pub data Standing : Type 0 where
   untouched : Standing
   done : Standing
   waiting : ConflictKind → ℕ → Standing
-  kept : ConflictKind → ℕ → Standing
+  upheld : ConflictKind → ℕ → Standing
   cancelled : ConflictKind → ℕ → Standing
 
 pub data Choice : Type 0 where
@@ -48,10 +41,10 @@ pub data Choice : Type 0 where
   keep : Choice
 
 -- what a decision was answered; where it wasn't the front's, with the front
-pub data Answer : Type 0 where
-  accepted : Answer
-  no_client : Answer
-  not_front : Option ℕ → Answer
+pub data DecisionAnswer : Type 0 where
+  accepted : DecisionAnswer
+  no_client : DecisionAnswer
+  not_front : Option ℕ → DecisionAnswer
 
 pub record VisitReport : Type 0 where
   pub number : ℕ
@@ -70,7 +63,7 @@ pub record Decision : Type 0 where
   pub client : List ℕ
   pub visit : ℕ
   pub choice : Choice
-  pub answer : Answer
+  pub answer : DecisionAnswer
 
 pub record Report : Type 0 where
   pub stop : Stop
@@ -94,81 +87,31 @@ stop_word none = codes "none"
 stop_word asked = codes "asked"
 stop_word memory = codes "memory"
 
-abbrev pub page_number : PageFault → ℕ
-page_number page.NotAnElement = 1
-page_number page.BadName = 2
-page_number page.BadAttribute = 3
-page_number page.BadChildren = 4
-page_number page.TooDeep = 5
-page_number page.TooMany = 6
-page_number page.NoMemory = 7
-
-abbrev pub path_number : PathFaultKind → ℕ
-path_number path.NotAbsolute = 1
-path_number path.EmptyStep = 2
-path_number path.BadName = 3
-path_number path.BadIndex = 4
-path_number path.TooManySteps = 5
-path_number path.NoMemory = 6
-
-abbrev pub session_number : SessionFault → ℕ
-session_number session.VisitOrder = 1
-session_number session.NoParent = 2
-session_number session.NoVisit = 3
-session_number session.AfterEnd = 4
-session_number session.RequestOrder = 5
-session_number session.VisitFull = 6
-session_number session.TooManyOpen = 7
-session_number session.NoMemory = 8
-
-abbrev pub fault_word : LaneFault → List ℕ
-fault_word lane.ReadFailed = codes "E1"
-fault_word lane.TooManyReads = codes "E2"
-fault_word lane.Truncated = codes "E3"
-fault_word lane.LineTooLong = codes "E4"
-fault_word lane.NotJson = codes "E5"
-fault_word lane.BadMessage = codes "E6"
-fault_word (lane.BadPage fault) = codes "E7.P" ++ decimal (page_number fault)
-fault_word (lane.BadTarget fault) = codes "E8.X" ++ decimal (path_number fault.kind)
-fault_word (lane.BadSession fault) = codes "E9.S" ++ decimal (session_number fault)
-fault_word lane.LaneFull = codes "E10"
-
 -- a fault stands at a line
 abbrev pub lane_word : LaneEnd → List ℕ
 lane_word Bye = codes "bye"
-lane_word (Fault line kind) = fault_word kind ++ codes "@" ++ decimal line
+lane_word (Fault line kind) = lane_fault_code kind ++ codes "@" ++ decimal line
 
 abbrev pub end_word : End → List ℕ
 end_word not_yet = codes "none"
 end_word (over end) = lane_word end
 end_word gave_up = codes "gaveup"
 
-abbrev pub kind_number : ConflictKind → ℕ
-kind_number NoPage = 1
-kind_number NoTarget = 2
-kind_number ManyTargets = 3
-kind_number NotAField = 4
-kind_number BaseChanged = 5
-kind_number NotALink = 6
-kind_number NotAForm = 7
-kind_number LogCut = 8
-kind_number Ui = 9
-
 abbrev pub conflict_words : ConflictKind → ℕ → List (List ℕ)
-conflict_words kind at = (codes "K" ++ decimal (kind_number kind)) ∷ codes "at" ∷ decimal at ∷ []
+conflict_words kind at = conflict_code kind ∷ codes "at" ∷ decimal at ∷ []
 
 abbrev pub standing_words : Standing → List (List ℕ)
 standing_words untouched = codes "untouched" ∷ []
 standing_words done = codes "done" ∷ []
 standing_words (waiting kind at) = codes "waiting" ∷ conflict_words kind at
-standing_words (kept kind at) = codes "kept" ∷ conflict_words kind at
+standing_words (upheld kind at) = codes "kept" ∷ conflict_words kind at
 standing_words (cancelled kind at) = codes "cancelled" ∷ conflict_words kind at
 
 abbrev pub choice_word : Choice → List ℕ
 choice_word cancel = codes "cancel"
 choice_word keep = codes "keep"
 
-abbrev pub answer_words : Answer → List (List ℕ)
+abbrev pub answer_words : DecisionAnswer → List (List ℕ)
 answer_words accepted = codes "ok" ∷ []
 answer_words no_client = codes "C1" ∷ []
 answer_words (not_front None) = codes "C2" ∷ codes "front" ∷ codes "none" ∷ []

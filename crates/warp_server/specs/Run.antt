@@ -1,12 +1,15 @@
 -- What a run answers and writes, by what its reads gave: this project's own rules. The input is the bytes that the reads gave, and how it ended.
-use Rattle.std.specs.Prelude.{◌≡◌, ◌≢◌, ℕ, ◌+◌, List, [], ◌∷◌, ◌++◌, length, map, take, drop, ◌<◌, Option, Some, None, Result, Ok, Err, ◌⊎◌}
+use Rattle.std.specs.Prelude.{◌≡◌, ◌≢◌, ℕ, ◌+◌, List, [], ◌∷◌, ◌++◌, length, map, drop, Option, Some, None, Result, Ok, Err, ◌⊎◌}
+use Rattle.std.specs.Io.KnownBytes.{Consumes}
 use Rattle.serde_json.specs.Data.{Data}
-use Rattle.upload_reader.specs.Answers.{Answer, bytes_of}
-use Rattle.upload_reader.specs.Cutting.{cut, ending_of, StopsAtEnd}
-use Rattle.upload_reader.specs.Greeting.{Hello, greeting_of}
-use Rattle.upload_reader.specs.Stream.{Costed, Lane, stream_of, BeginsWith}
-use Rattle.upload_reader.specs.declared.fault.LineFault.{LineFault}
-use Rattle.upload_reader.specs.declared.fault.LineFault.TheVariants.{ReadFailed}
+use Rattle.byte_streams.specs.Answers.{Answer, bytes_of}
+use Rattle.byte_streams.specs.Cutting.{cut, ending_of, StopsAtEnd}
+use Rattle.byte_streams.specs.Reading.{MadeWhile}
+use Rattle.byte_streams.specs.Writing.{Takes, TakesPart}
+use Rattle.byte_streams.specs.declared.fault.LineFault.{LineFault}
+use Rattle.byte_streams.specs.declared.fault.LineFault.TheVariants.{ReadFailed}
+use Rattle.upload_reader.specs.Greeting.{IsGreetingOf, lines_length}
+use Rattle.upload_reader.specs.Stream.{Costed, Stream, Lane, IsStreamOf, BeginsWith}
 use Rattle.upload_reader.specs.declared.hello_fault.HelloFault.{HelloFault}
 use Rattle.upload_reader.specs.declared.lane_fault.LaneEnd.{LaneEnd}
 use Rattle.client_log.specs.Log.{Log, kept, cost_of}
@@ -14,7 +17,6 @@ use Rattle.client_log.specs.declared.visit.Visit.{Visit}
 use Rattle.visit_replay.specs.Outcome.{outcome}
 use Rattle.warp_server.specs.Site.{Site, IsSiteOf, IsJsonOf, page_of, signals_of}
 use Rattle.warp_server.specs.Report.{Report, ClientReport, VisitReport, Stop, none, memory, End, over, not_yet, gave_up, visit_report, report_text}
-use Rattle.warp_server.specs.Writing.{Takes, TakesPart}
 use Rattle.warp_server.specs.declared.status.Status.{Status}
 use Rattle.warp_server.specs.declared.status.Status.TheVariants.{Done, BadSite, BadHello, OutOfMemory, InputOutput}
 
@@ -24,16 +26,14 @@ use Rattle.warp_server.specs.declared.status.Status.TheVariants.{Done, BadSite, 
 abbrev pub visit_of : Site → Visit → VisitReport
 visit_of site visit = visit_report visit.number (outcome (page_of site) (λ address. signals_of site) site.patched visit)
 
-abbrev pub client_of_log : Site → List ℕ → ℕ → End → Log → ClientReport
-client_of_log site client taken end log =
+abbrev pub client_of : Site → List ℕ → ℕ → End → Log → ClientReport
+client_of site client taken end log =
     record { client = client; taken = taken; end = end; cost = cost_of log.visits; lost = log.lost; visits = map (visit_of site) log.visits }
 
--- what is kept of them under the site's quota
-abbrev pub client_of : Site → List ℕ → List Costed → End → ClientReport
-client_of site client messages end = client_of_log site client (length messages) end (kept site.quota messages)
-
+-- of the messages the log keeps what the site's quota leaves
 abbrev pub report_of : Site → Stop → List ℕ → List Costed → End → Report
-report_of site stop client messages end = record { stop = stop; clients = client_of site client messages end ∷ []; decisions = [] }
+report_of site stop client messages end =
+    record { stop = stop; clients = client_of site client (length messages) end (kept site.quota messages) ∷ []; decisions = [] }
 
 -- ---- the site line
 
@@ -66,58 +66,75 @@ pub record HasSite (input : List ℕ) (ending : Option LineFault) (line : List �
 abbrev pub behind : List ℕ → List ℕ → List ℕ
 behind line input = drop (length line + 1) input
 
+-- its first so many lines, and no fewer, say whose it is, or why it doesn't begin
+abbrev pub BeginsBy : List ℕ → Option LineFault → List ℕ → ℕ → Result (List ℕ) HelloFault → Type 0
+BeginsBy input ending line lines said = IsGreetingOf (behind line input) ending (Some (record { lines = lines; answer = said }))
+
 -- it begins with no hello
 pub record HasBadHello (input : List ℕ) (ending : Option LineFault) : Type 0 where
   pub line : List ℕ
   pub site : Site
   pub site_is : HasSite input ending line site
+  pub lines : ℕ
   pub fault : HelloFault
-  pub fault_is : (greeting_of None (behind line input) ending).answer ≡ Some (Err fault)
+  pub begins : BeginsBy input ending line lines (Err fault)
 
--- it begins with that hello, of so many bytes with the blank lines before it
-abbrev pub BeginsBy : List ℕ → Option LineFault → List ℕ → ℕ → Hello → Type 0
-BeginsBy input ending line bytes hello = greeting_of None (behind line input) ending ≡ record { bytes = bytes; answer = Some (Ok hello) }
+-- what stands before a lane: the site line with its site, and so many lines of the upload, the last of which is the hello of that client
+pub record Opening : Type 0 where
+  pub line : List ℕ
+  pub site : Site
+  pub lines : ℕ
+  pub client : List ℕ
 
--- the lane behind a hello
-abbrev pub lane_behind : Hello → Lane
-lane_behind hello = record { earlier = []; lines = hello.lines; fault = None }
+pub record OpensBy (input : List ℕ) (ending : Option LineFault) (opening : Opening) : Type 0 where
+  pub site_is : HasSite input ending opening.line opening.site
+  pub begins : BeginsBy input ending opening.line opening.lines (Ok opening.client)
 
-abbrev pub lane_bytes : List ℕ → ℕ → List ℕ → List ℕ
-lane_bytes line bytes input = drop bytes (behind line input)
+-- the lane behind it, and how many bytes stand before that
+abbrev pub lane_behind : Opening → Lane
+lane_behind opening = record { earlier = []; lines = opening.lines; fault = None }
+
+abbrev pub lane_place : Opening → List ℕ → ℕ
+lane_place opening input = length opening.line + 1 + lines_length opening.lines (behind opening.line input)
+
+-- ---- what is taken of the lane
+
+-- these are all messages of the lane behind so many bytes, and this is its end
+abbrev pub AreAll : Lane → ℕ → List ℕ → Option LineFault → List Costed → LaneEnd → Type 0
+AreAll lane place input ending messages end = IsStreamOf lane (drop place input) ending (record { messages = messages; end = Some end })
+
+-- its messages begin with these, however the input goes on
+abbrev pub AreFirst : Lane → ℕ → List ℕ → List Costed → Type 0
+AreFirst lane place input messages =
+    (more : List ℕ) → (ending : Option LineFault) → (stream : Stream) × IsStreamOf lane (drop place (input ++ more)) ending stream × BeginsWith messages stream.messages
 
 -- ---- the report of an input
 
--- of all messages of the stream, with its end
+-- The text reports these messages of the client whose upload stands behind the site line, and how the lane ended or why the run stopped.
+pub record IsReportOf (input : List ℕ) (ending : Option LineFault) (stop : Stop) (messages : List Costed) (end : End) (text : List ℕ) : Type 0 where
+  pub opening : Opening
+  pub opens : OpensBy input ending opening
+  pub text_is : text ≡ report_text (report_of opening.site stop opening.client messages end)
+
+-- of all messages of the lane, with its end
 pub record HasReport (input : List ℕ) (ending : Option LineFault) (text : List ℕ) : Type 0 where
-  pub line : List ℕ
-  pub site : Site
-  pub site_is : HasSite input ending line site
-  pub bytes : ℕ
-  pub hello : Hello
-  pub begins : BeginsBy input ending line bytes hello
   pub messages : List Costed
   pub end : LaneEnd
-  pub stream_is : stream_of (lane_behind hello) (lane_bytes line bytes input) ending ≡ record { messages = messages; end = Some end }
-  pub text_is : text ≡ report_text (report_of site none hello.client messages (over end))
+  pub report : IsReportOf input ending none messages (over end) text
+  pub all : AreAll (lane_behind report.opening) (lane_place report.opening input) input ending messages end
 
 -- how a run stops for want of memory: the lane gave up, or a message couldn't be recorded
 abbrev pub IsShort : Stop → End → Type 0
 IsShort stop end = ((stop ≡ none) × (end ≡ gave_up)) ⊎ ((stop ≡ memory) × (end ≡ not_yet))
 
--- of the first messages of the stream, however the input goes on
+-- of its first messages
 pub record HasShortReport (input : List ℕ) (ending : Option LineFault) (text : List ℕ) : Type 0 where
-  pub line : List ℕ
-  pub site : Site
-  pub site_is : HasSite input ending line site
-  pub bytes : ℕ
-  pub hello : Hello
-  pub begins : BeginsBy input ending line bytes hello
   pub messages : List Costed
-  pub first : (more : List ℕ) (ending' : Option LineFault) → BeginsWith messages (stream_of (lane_behind hello) (lane_bytes line bytes (input ++ more)) ending').messages
   pub stop : Stop
   pub end : End
   pub is_short : IsShort stop end
-  pub text_is : text ≡ report_text (report_of site stop hello.client messages end)
+  pub report : IsReportOf input ending stop messages end text
+  pub first : AreFirst (lane_behind report.opening) (lane_place report.opening input) input messages
 
 abbrev pub HasAnyReport : List ℕ → Option LineFault → List ℕ → Type 0
 HasAnyReport input ending text = HasReport input ending text ⊎ HasShortReport input ending text
@@ -132,12 +149,14 @@ pub record IsUndecided (input : List ℕ) : Type 0 where
 
 -- each was made where the bytes of those before it decided nothing
 abbrev pub ReadWhileUndecided : List Answer → Type 0
-ReadWhileUndecided reads = (n : ℕ) → n < length reads → IsUndecided (bytes_of (take n reads))
+ReadWhileUndecided reads = MadeWhile (λ earlier. IsUndecided (bytes_of earlier)) [] reads
 
--- from these reads to those, the answers of its own, each needed, and none after the input's end
-pub record Reads (reads reads' : List Answer) (P : List ℕ → Option LineFault → Type 0) : Type 0 where
+-- From these reads to those, the answers of its own, each needed, and none after the input's end. Where it is known what was left to read, the bytes
+-- are the first of that, and the others are left now.
+pub record Reads (reads reads' : List Answer) (left left' : Option (List ℕ)) (P : List ℕ → Option LineFault → Type 0) : Type 0 where
   pub more : List Answer
   pub reads_are : reads' ≡ reads ++ more
+  pub bytes_are : Consumes left left' (bytes_of more)
   pub needed : ReadWhileUndecided more
   pub ends : StopsAtEnd more
   pub holds : P (bytes_of more) (ending_of more)
@@ -154,11 +173,12 @@ Writes puts puts' contents contents' Has input ending = (text : List ℕ) × Has
 abbrev pub WritesPart : List Answer → List Answer → Option (List ℕ) → Option (List ℕ) → List ℕ → Option LineFault → Type 0
 WritesPart puts puts' contents contents' input ending = (text : List ℕ) × HasAnyReport input ending text × TakesPart puts puts' contents contents' text
 
-abbrev pub Meets : List Answer → List Answer → List Answer → List Answer → Option (List ℕ) → Option (List ℕ) → Status → Type 0
-Meets reads reads' puts puts' contents contents' Done = Reads reads reads' (Writes puts puts' contents contents' HasReport)
-Meets reads reads' puts puts' contents contents' BadSite = WritesNothing puts puts' contents contents' × Reads reads reads' HasBadSite
-Meets reads reads' puts puts' contents contents' BadHello = WritesNothing puts puts' contents contents' × Reads reads reads' HasBadHello
-Meets reads reads' puts puts' contents contents' OutOfMemory =
-    WritesNothing puts puts' contents contents' ⊎ Reads reads reads' (Writes puts puts' contents contents' HasShortReport)
-Meets reads reads' puts puts' contents contents' InputOutput =
-    (WritesNothing puts puts' contents contents' × Reads reads reads' HasFailedRead) ⊎ Reads reads reads' (WritesPart puts puts' contents contents')
+module _ (reads reads' : List Answer) (left left' : Option (List ℕ)) (puts puts' : List Answer) (contents contents' : Option (List ℕ)) where
+  abbrev pub Meets : Status → Type 0
+  Meets Done = Reads reads reads' left left' (Writes puts puts' contents contents' HasReport)
+  Meets BadSite = WritesNothing puts puts' contents contents' × Reads reads reads' left left' HasBadSite
+  Meets BadHello = WritesNothing puts puts' contents contents' × Reads reads reads' left left' HasBadHello
+  Meets OutOfMemory = WritesNothing puts puts' contents contents' ⊎ Reads reads reads' left left' (Writes puts puts' contents contents' HasShortReport)
+  Meets InputOutput =
+      (WritesNothing puts puts' contents contents' × Reads reads reads' left left' HasFailedRead)
+      ⊎ Reads reads reads' left left' (WritesPart puts puts' contents contents')

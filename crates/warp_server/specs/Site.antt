@@ -1,6 +1,7 @@
 -- What a site line says: this project's own format, in JSON (RFC 8259).
 use Rattle.std.specs.Prelude.{◌≡◌, ℕ, List, [], ◌∷◌, Bool, true, false, ◌||◌, if◌then◌else◌, Option, Some, None, is_some, option_map, option_and_then, codes, IsUtf8}
-use Rattle.std.specs.List.{list_any}
+use Rattle.std.specs.List.{list_any, AllZip}
+use Rattle.std.specs.Option.{option_map_or, option_or}
 use Rattle.std.specs.Str.{bytes_eq}
 use Rattle.serde_json.specs.Data.{Data, Items, no_items, item, Members, no_members, member}
 use Rattle.serde_json.specs.Find.{get, as_str, as_number, as_u64, as_array, as_object}
@@ -25,17 +26,12 @@ pub record Site : Type 0 where
 
 -- ---- the members of the object
 
-abbrev pub texts_of : Items → Option (List (List ℕ))
-texts_of no_items = Some []
-texts_of (item d ds) = option_and_then (λ text. option_map (λ rest. text ∷ rest) (texts_of ds)) (as_str d)
+abbrev pub texts_among : Items → Option (List (List ℕ))
+texts_among no_items = Some []
+texts_among (item d ds) = option_and_then (λ text. option_map (λ rest. text ∷ rest) (texts_among ds)) (as_str d)
 
 abbrev pub texts_or_none : Option Data → Option (List (List ℕ))
-texts_or_none None = Some []
-texts_or_none (Some d) = option_and_then texts_of (as_array d)
-
-abbrev pub members_or_none : Option Data → Option Members
-members_or_none None = Some no_members
-members_or_none (Some d) = as_object d
+texts_or_none given = option_map_or (λ d. option_and_then texts_among (as_array d)) given (Some [])
 
 -- the member `patched`, an array of texts; no texts where it is absent
 abbrev pub patched_in : Data → Option (List (List ℕ))
@@ -47,22 +43,11 @@ watch_in d = texts_or_none (get (codes "watch") d)
 
 -- the member `pages`, an object; no members where it is absent
 abbrev pub pages_in : Data → Option Members
-pages_in d = members_or_none (get (codes "pages") d)
+pages_in d = option_map_or as_object (get (codes "pages") d) (Some no_members)
 
-abbrev pub default_quota : ℕ
-default_quota = 1048576
-
--- a whole number
-abbrev pub whole_in : Data → Option ℕ
-whole_in d = option_and_then as_u64 (as_number d)
-
-abbrev pub quota_or_default : Option Data → Option ℕ
-quota_or_default None = Some default_quota
-quota_or_default (Some d) = whole_in d
-
--- the member `quota`
+-- the member `quota`, a whole number; 1 MiB where it is absent
 abbrev pub quota_in : Data → Option ℕ
-quota_in d = quota_or_default (get (codes "quota") d)
+quota_in d = option_map_or (λ value. option_and_then as_u64 (as_number value)) (get (codes "quota") d) (Some 1048576)
 
 -- a member that no site may have yet, whatever its value
 abbrev pub has_later_member : Data → Bool
@@ -77,14 +62,11 @@ HoldPages (member address d ms) (entry ∷ entries) = (entry.0 ≡ address) × I
 
 -- each text is that of the path
 abbrev pub ArePaths : List (List ℕ) → List (List Step) → Type 0
-ArePaths [] [] = Unit {0}
-ArePaths [] (path ∷ paths) = ⊥
-ArePaths (text ∷ texts) [] = ⊥
-ArePaths (text ∷ texts) (path ∷ paths) = IsPath path × (path_text path ≡ text) × ArePaths texts paths
+ArePaths texts paths = AllZip (λ text path. IsPath path × (path_text path ≡ text)) texts paths
 
 -- ---- what a value stands for
 
--- unknown members are ignored, all members are optional
+-- Unknown members are ignored, all members are optional. A value that stands for no site is `Z2`.
 pub record IsSiteOf (d : Data) (site : Site) : Type 0 where
   pub object : is_some (as_object d) ≡ true
   pub known : has_later_member d ≡ false
@@ -93,20 +75,16 @@ pub record IsSiteOf (d : Data) (site : Site) : Type 0 where
   pub watched : (texts : List (List ℕ)) × (watch_in d ≡ Some texts) × ArePaths texts site.watched
   pub quota : (quota_in d ≡ Some site.quota) × IsQuota site.quota
 
--- the line is the JSON text of the value, in UTF-8
+-- The line is the JSON text of the value, in UTF-8. A line of no value is `Z1`.
 abbrev pub IsJsonOf : List ℕ → Data → Type 0
 IsJsonOf line d = IsUtf8 line × (read line ≡ Some d)
 
 -- ---- its law
 
-abbrev pub page_before : Option Tree → Entry → List ℕ → Option Tree
-page_before (Some later) entry address = Some later
-page_before None entry address = if bytes_eq entry.0 address then Some entry.1 else None
-
 -- the last one of that address
 abbrev pub page_among : List Entry → List ℕ → Option Tree
 page_among [] address = None
-page_among (entry ∷ entries) address = page_before (page_among entries address) entry address
+page_among (entry ∷ entries) address = option_or (page_among entries address) (if bytes_eq entry.0 address then Some entry.1 else None)
 
 -- the page at just this address
 abbrev pub page_of : Site → List ℕ → Option Tree

@@ -1,21 +1,10 @@
--- What the code keeps of a site and how it reads one; `proofs/SiteLaws` ties it to the sites that values stand for.
-use Rattle.std.specs.Prelude.{◌≡◌, ℕ, List, [], ◌∷◌, ◌++◌, if◌then◌else◌, nat_le, ◌&&◌, Option, Some, None, is_some, option_map, option_and_then, Result, Ok, Err}
-use Rattle.serde_json.specs.Data.{Data, Members, no_members, member}
-use Rattle.serde_json.specs.Find.{as_object}
-use Rattle.page_tree.specs.Visit.{page_in}
-use Rattle.page_tree.specs.declared.fault.PageFault.{PageFault}
-use Rattle.page_tree.specs.declared.fault.PageFault.TheVariants as page
-use Rattle.xpath_child.specs.Path.{Step}
-use Rattle.xpath_child.specs.Fault.{path_in}
-use Rattle.site_hooks.specs.Table.{page_in as page_at, watched_in}
+-- What clauses see of a site that was read, and which site it answers as.
+use Rattle.std.specs.Prelude.{◌≡◌, ℕ, List}
+use Rattle.site_hooks.specs.Table.{table_page as page_at, watched_in}
 use Rattle.site_hooks.specs.declared.table.Table.{Table}
 use Rattle.visit_replay.specs.Outcome.{is_listed}
-use Rattle.warp_server.specs.Site.{Entry, Site as PlainSite, patched_in, pages_in, watch_in, quota_in, has_later_member, page_among, IsJsonOf}
+use Rattle.warp_server.specs.Site.{Site as PlainSite, page_among}
 use Rattle.warp_server.specs.declared.site.Site.{Site}
-use Rattle.warp_server.specs.declared.site_fault.SiteFault.{SiteFault}
-use Rattle.warp_server.specs.declared.site_fault.SiteFault.TheVariants.{NotJson, BadMember, NoMemory}
-
--- ---- what clauses see of a Site
 
 abbrev pub site_patch : Site → List (List ℕ)
 site_patch site = site.patch
@@ -32,78 +21,3 @@ pub record Stands (site : Site) (plain : PlainSite) : Type 0 where
   pub pages : (address : List ℕ) → page_at (site_table site) address ≡ page_among plain.pages address
   pub watched : watched_in (site_table site) ≡ plain.watched
   pub quota : site_quota site ≡ plain.quota
-
--- ---- what is read
-
-abbrev pub entries_in : Members → Option (List Entry)
-entries_in no_members = Some []
-entries_in (member address d ms) = option_and_then (λ page. option_map (λ rest. (address, page) ∷ rest) (entries_in ms)) (page_in d)
-
-abbrev pub ok_of : {A E : Type 0} → Result A E → Option A
-ok_of (Ok x) = Some x
-ok_of (Err e) = None
-
-abbrev pub paths_in : List (List ℕ) → Option (List (List Step))
-paths_in [] = Some []
-paths_in (text ∷ texts) = option_and_then (λ path. option_map (λ rest. path ∷ rest) (paths_in texts)) (ok_of (path_in text))
-
--- a number that a quota may be
-abbrev pub quota_of : ℕ → Option ℕ
-quota_of n = if nat_le 1 n && nat_le n 4294967295 then Some n else None
-
-abbrev pub make_site : List (List ℕ) → List Entry → List (List Step) → ℕ → PlainSite
-make_site patched pages watched quota = record { patched = patched; pages = pages; watched = watched; quota = quota }
-
--- the site that an object stands for
-abbrev pub site_by : Data → Option PlainSite
-site_by d =
-    option_and_then (λ patched. option_and_then (λ pages. option_and_then (λ watched. option_map (make_site patched pages watched)
-    (option_and_then quota_of (quota_in d))) (option_and_then paths_in (watch_in d))) (option_and_then entries_in (pages_in d))) (patched_in d)
-
--- the site that a value stands for
-abbrev pub site_in : Data → Option PlainSite
-site_in d = if is_some (as_object d) then (if has_later_member d then None else site_by d) else None
-
--- why a line has no value
-abbrev pub IsLineFault : List ℕ → SiteFault → Type 0
-IsLineFault line NotJson = (d : Data) → IsJsonOf line d → ⊥
-IsLineFault line BadMember = ⊥
-IsLineFault line NoMemory = Unit {0}
-
-abbrev pub fault_of_page : PageFault → SiteFault
-fault_of_page page.NoMemory = NoMemory
-fault_of_page e = BadMember
-
--- ---- what the code answers, want of memory left aside
-
-abbrev pub Fails : {A : Type 0} → SiteFault → Option A → Type 0
-Fails NotJson found = ⊥
-Fails BadMember found = found ≡ None
-Fails NoMemory found = Unit {0}
-
-abbrev pub Gives : {X Y : Type 0} → (X → Y) → Result X SiteFault → Option Y → Type 0
-Gives view (Ok x) found = found ≡ Some (view x)
-Gives view (Err e) found = Fails e found
-
--- the site that was read is the one that the value stands for
-abbrev pub StandsBy : Result Site SiteFault → Data → Type 0
-StandsBy (Ok site) d = (plain : PlainSite) × (site_in d ≡ Some plain) × Stands site plain
-StandsBy (Err e) d = Fails e (site_in d)
-
--- a table of these pages, and nothing watched
-pub record HasPages (table : Table) (entries : List Entry) : Type 0 where
-  pub pages : (address : List ℕ) → page_at table address ≡ page_among entries address
-  pub watched : watched_in table ≡ []
-
-abbrev pub GivesPages : Result Table SiteFault → Option (List Entry) → Type 0
-GivesPages (Ok table) found = (entries : List Entry) × (found ≡ Some entries) × HasPages table entries
-GivesPages (Err e) found = Fails e found
-
--- the same table with these paths watched too
-pub record Watches (table table' : Table) (paths : List (List Step)) : Type 0 where
-  pub pages : (address : List ℕ) → page_at table' address ≡ page_at table address
-  pub watched : watched_in table' ≡ watched_in table ++ paths
-
-abbrev pub GivesWatched : Table → Table → Result (Unit {0}) SiteFault → Option (List (List Step)) → Type 0
-GivesWatched table table' (Ok done) found = (paths : List (List Step)) × (found ≡ Some paths) × Watches table table' paths
-GivesWatched table table' (Err e) found = Fails e found

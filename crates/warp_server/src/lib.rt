@@ -13,26 +13,24 @@ mod gathering;
 mod repairing;
 mod report;
 
-// Bytes out.
-mod sink;
-mod writing;
-
-// One run.
+// One call of the program, and one run.
+mod call;
 mod intake;
 mod running;
 mod status;
 
+pub use byte_streams::{Sink, Told};
+pub use call::{CallFault, accept_call};
 pub use running::run;
-pub use sink::{Sink, Told};
 pub use site::Site;
 pub use site_fault::SiteFault;
 pub use status::Status;
 
 #[cfg(test)]
+mod call_tests;
+#[cfg(test)]
 mod report_tests;
 #[cfg(test)]
 mod run_tests;
-#[cfg(test)]
-mod sink_tests;
 #[cfg(test)]
 mod site_tests;

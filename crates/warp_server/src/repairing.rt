@@ -2,8 +2,8 @@
 ghost use Rattle.std.specs.Prelude.{◌≡◌, IfOk, map};
 ghost use Rattle.page_tree.specs.Tree.{Tree};
 ghost use Rattle.site_hooks.specs.Closures.{AtAddresses, AtPages, MakesBy, TellsBy};
-ghost use Rattle.site_hooks.specs.Table.{page_in, signals_in};
-ghost use Rattle.warp_server.specs.Repairing.{replayed_by};
+ghost use Rattle.site_hooks.specs.Table.{table_page, signals_in};
+ghost use Rattle.warp_server.specs.inside.ReplayedVisits.{replayed_by};
 
 use client_log::Visit;
 use page_tree::{NoMemory, Page};
@@ -25,7 +25,7 @@ pub(crate) fn repair(
     patch: &Patch,
     visits: &[Visit],
 ) -> Result<Vec<Replayed>, NoMemory>
-    ensures { IfOk result (λ replayed. replayed.items ≡ map (replayed_by (page_in table.now) (λ _. signals_in table.now) patch.now) visits.now) }
+    ensures { IfOk result (λ replayed. replayed.items ≡ map (replayed_by (table_page table.now) (λ _. signals_in table.now) patch.now) visits.now) }
 {
     let make = |address: &str| table.make(address);
     let tell = |address: &str, old: &Page, new: &Page| table.signals(address, old, new);
@@ -42,10 +42,10 @@ fn repair_by<F: PageMaker + Sync + Drop, C: ConflictTeller + Sync + Drop>(
     visits: &[Visit],
 ) -> Result<Vec<Replayed>, NoMemory>
     requires callable_maker { AtAddresses (F.can_make make) }
-    requires lawful_maker { MakesBy (page_in table.now) (F.may_make make) }
+    requires lawful_maker { MakesBy (table_page table.now) (F.may_make make) }
     requires callable_teller { AtPages (C.can_tell tell) }
     requires lawful_teller { TellsBy (λ _. signals_in table.now) (C.may_tell tell) }
-    ensures { IfOk result (λ replayed. replayed.items ≡ map (replayed_by (page_in table.now) (λ _. signals_in table.now) patch.now) visits.now) }
+    ensures { IfOk result (λ replayed. replayed.items ≡ map (replayed_by (table_page table.now) (λ _. signals_in table.now) patch.now) visits.now) }
 {
     let hooks = Closures::new(make, tell, table);
     replay_all(alloc, &hooks, patch, visits)

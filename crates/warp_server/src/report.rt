@@ -1,21 +1,20 @@
 //! The text of a report.
-ghost use Rattle.std.specs.Prelude.{◌≡◌, [], ◌∷◌, ◌++◌, length, map, IfOk, OnOk, string_bytes, decimal};
+ghost use Rattle.std.specs.Prelude.{◌≡◌, [], ◌∷◌, ◌++◌, length, map, IfOk, OnOk, string_bytes};
 ghost use Rattle.std.specs.List.{flat_map};
 ghost use Rattle.client_log.specs.Log.{cost_of};
 ghost use Rattle.warp_server.specs.Report as plain;
 ghost use Rattle.warp_server.specs.Report.{visit_report, report_text};
-ghost use Rattle.warp_server.specs.Gathering.{stop_of, end_of};
-ghost use Rattle.warp_server.specs.Repairing.{report_of_visit, report_of_lane};
+ghost use Rattle.warp_server.specs.inside.Gathering.{stop_of, end_of};
+ghost use Rattle.warp_server.specs.inside.ReplayedVisits.{report_of_visit, report_of_lane};
 
 use crate::gathering::{Gathered, Stopped};
 use crate::repairing::Replayed;
 use client_log::ClientLog;
-use page_tree::{NoMemory, PageFault};
+use page_tree::NoMemory;
 use serde_json::Value;
 use std::alloc::Global;
-use upload_reader::{LaneEnd, LaneFault, SessionFault};
-use visit_replay::{ConflictKind, Method, Outcome, Request};
-use xpath_child::PathFaultKind;
+use upload_reader::LaneEnd;
+use visit_replay::{Method, Outcome, Request};
 
 /// The report on one client, whose visits were replayed so.
 pub(crate) fn compose(
@@ -84,76 +83,7 @@ fn lane_word(alloc: Global, end: LaneEnd) -> Result<String, NoMemory>
 {
     match end {
         LaneEnd::Bye => String::from_str(alloc, "bye"),
-        LaneEnd::Fault { line, kind } => {
-            let fault = fault_word(alloc, kind)?;
-            format!(in alloc; "{fault}@{line}")
-        }
-    }
-}
-
-// A fault by its number, and by that of the page's, the path's or the session's fault in it.
-fn fault_word(alloc: Global, fault: LaneFault) -> Result<String, NoMemory>
-    ensures { IfOk result (λ word. string_bytes word ≡ plain.fault_word fault) }
-{
-    match fault {
-        LaneFault::ReadFailed => String::from_str(alloc, "E1"),
-        LaneFault::TooManyReads => String::from_str(alloc, "E2"),
-        LaneFault::Truncated => String::from_str(alloc, "E3"),
-        LaneFault::LineTooLong => String::from_str(alloc, "E4"),
-        LaneFault::NotJson => String::from_str(alloc, "E5"),
-        LaneFault::BadMessage => String::from_str(alloc, "E6"),
-        LaneFault::BadPage(fault) => numbered(alloc, "E7.P", page_number(fault)),
-        LaneFault::BadTarget(fault) => numbered(alloc, "E8.X", path_number(fault.kind)),
-        LaneFault::BadSession(fault) => numbered(alloc, "E9.S", session_number(fault)),
-        LaneFault::LaneFull => String::from_str(alloc, "E10"),
-    }
-}
-
-fn numbered(alloc: Global, word: &str, number: u32) -> Result<String, NoMemory>
-    ensures { IfOk result (λ text. string_bytes text ≡ word.now ++ decimal number) }
-{
-    format!(in alloc; "{word}{number}")
-}
-
-fn page_number(fault: PageFault) -> u32
-    ensures { result ≡ plain.page_number fault }
-{
-    match fault {
-        PageFault::NotAnElement => 1,
-        PageFault::BadName => 2,
-        PageFault::BadAttribute => 3,
-        PageFault::BadChildren => 4,
-        PageFault::TooDeep => 5,
-        PageFault::TooMany => 6,
-        PageFault::NoMemory => 7,
-    }
-}
-
-fn path_number(kind: PathFaultKind) -> u32
-    ensures { result ≡ plain.path_number kind }
-{
-    match kind {
-        PathFaultKind::NotAbsolute => 1,
-        PathFaultKind::EmptyStep => 2,
-        PathFaultKind::BadName => 3,
-        PathFaultKind::BadIndex => 4,
-        PathFaultKind::TooManySteps => 5,
-        PathFaultKind::NoMemory => 6,
-    }
-}
-
-fn session_number(fault: SessionFault) -> u32
-    ensures { result ≡ plain.session_number fault }
-{
-    match fault {
-        SessionFault::VisitOrder => 1,
-        SessionFault::NoParent => 2,
-        SessionFault::NoVisit => 3,
-        SessionFault::AfterEnd => 4,
-        SessionFault::RequestOrder => 5,
-        SessionFault::VisitFull => 6,
-        SessionFault::TooManyOpen => 7,
-        SessionFault::NoMemory => 8,
+        LaneEnd::Fault { line, kind } => format!(in alloc; "{kind}@{line}"),
     }
 }
 
@@ -187,25 +117,8 @@ fn add_standing(text: &mut String, visit: u64, outcome: &Outcome) -> Result<(), 
         Outcome::Untouched => write!(text, "visit {visit} untouched\n"),
         Outcome::Done { .. } => write!(text, "visit {visit} done\n"),
         Outcome::Conflict { at, kind, .. } => {
-            let kind = kind_number(*kind);
-            write!(text, "visit {visit} waiting K{kind} at {at}\n")
+            write!(text, "visit {visit} waiting {kind} at {at}\n")
         }
-    }
-}
-
-fn kind_number(kind: ConflictKind) -> u32
-    ensures { result ≡ plain.kind_number kind }
-{
-    match kind {
-        ConflictKind::NoPage => 1,
-        ConflictKind::NoTarget => 2,
-        ConflictKind::ManyTargets => 3,
-        ConflictKind::NotAField => 4,
-        ConflictKind::BaseChanged => 5,
-        ConflictKind::NotALink => 6,
-        ConflictKind::NotAForm => 7,
-        ConflictKind::LogCut => 8,
-        ConflictKind::Ui => 9,
     }
 }
 

@@ -1,9 +1,9 @@
 use crate::{Status, Told, run};
+use byte_streams::Fed;
 use std::alloc::{AllocError, Global};
 use std::process::Abort;
 use std::test::Fail;
 use stream_fakes::{Drip, Refusal, Sips};
-use upload_reader::Fed;
 
 const SITE: &str =
     r#"{"patched":["/a"],"pages":{"/a":{"n":"html","c":[{"n":"body","c":[{"n":"a","a":{"href":"/b"},"c":["go"]}]}]}}}"#;

@@ -2,26 +2,24 @@
 ghost use Rattle.std.specs.Prelude.{◌≡◌, IfOk};
 ghost use Rattle.warp_server.specs.Report.{report_text};
 ghost use Rattle.warp_server.specs.Run.{Meets};
-ghost use Rattle.warp_server.specs.Running.{status_of, lane_report};
+ghost use Rattle.warp_server.specs.inside.Running.{status_of, lane_report};
 
 use crate::gathering::{Gathered, Stopped};
 use crate::intake::{Refused, read_input};
 use crate::repairing::repair;
 use crate::report::compose;
-use crate::sink::Sink;
 use crate::site::Site;
 use crate::status::Status;
-use crate::writing::write_text;
+use byte_streams::{Sink, Source, write_text};
 use page_tree::NoMemory;
 use std::alloc::Global;
-use upload_reader::Source;
 
 /// Reads a site line and an upload, replays what the log keeps of it on the site, and writes the report.
 ///
 /// Nothing is written unless a site and a hello were read. A fault of a later line ends the upload and stands in the report; what stands behind it, or
 /// behind the bye, is not looked at.
 pub fn run<T: AllocGlobal, R: Source, W: Sink>(rt: &T, reader: &mut R, writer: &mut W) -> Status
-    ensures { Meets (R.answers reader.old) (R.answers reader.new) (W.puts writer.old) (W.puts writer.new) (W.contents writer.old) (W.contents writer.new) result }
+    ensures { Meets (R.answers reader.old) (R.answers reader.new) (R.remaining reader.old) (R.remaining reader.new) (W.puts writer.old) (W.puts writer.new) (W.contents writer.old) (W.contents writer.new) result }
 {
     let alloc = rt.alloc();
     match read_input(alloc, reader) {

@@ -24,7 +24,8 @@ pub struct Site {
 }
 
 impl Site {
-    ghost use Rattle.warp_server.specs.SiteReading.{site_patch, site_table, site_quota, Stands, StandsBy};
+    ghost use Rattle.warp_server.specs.SiteReading.{site_patch, site_table, site_quota, Stands};
+    ghost use Rattle.warp_server.specs.inside.SiteMembers.{StandsBy};
 
     /// The site that a line says: a JSON object with `patched` (an array of address texts), `pages` (an object, from address to page), `watch` (an
     /// array of path texts) and `quota` (1 to 4,294,967,295 bytes, else 1,048,576), all optional. Unknown members are ignored; `decide` and

@@ -1,24 +1,36 @@
-ghost use Rattle.std.specs.Prelude.{◌≡◌};
+ghost use Rattle.std.specs.Prelude.{◌≡◌, Some};
 ghost use Rattle.warp_server.specs.declared.site_fault.SiteFault.TheVariants.{NoMemory};
-ghost use Rattle.warp_server.specs.SiteReading.{fault_of_page};
+ghost use Rattle.warp_server.specs.SiteFault.{site_fault_code, fault_of_page};
 
 use page_tree::PageFault;
 use std::alloc::{AllocError, AllocFailed};
-use thiserror::Error;
+use std::error::Error;
+use std::fmt;
 
-/// Why a line is no site. Its text is its number, as `Z1`.
-#[derive(Clone, Copy, Debug, PartialEq, Eq, Error)]
+/// Why a line is no site. Its text is its code, as `Z1`.
+#[derive(Clone, Copy, Debug, PartialEq, Eq)]
 pub enum SiteFault {
     /// The line is no JSON value.
-    #[error("Z1")]
     NotJson,
     /// The value is no object, or a member is of another form, unknown yet, or a page that is refused.
-    #[error("Z2")]
     BadMember,
     /// An allocation was refused.
-    #[error("Z3")]
     NoMemory,
 }
+
+impl fmt::Display for SiteFault {
+    ghost output = { λ fault. Some (site_fault_code fault) };
+
+    fn fmt<W: fmt::Write>(&self, f: &mut fmt::Formatter<W>) -> fmt::Result {
+        match self {
+            SiteFault::NotJson => f.write_str("Z1"),
+            SiteFault::BadMember => f.write_str("Z2"),
+            SiteFault::NoMemory => f.write_str("Z3"),
+        }
+    }
+}
+
+impl Error for SiteFault {}
 
 impl From<AllocError> for SiteFault {
     ghost from_gives = { λ _ e. e ≡ NoMemory };

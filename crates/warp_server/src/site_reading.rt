@@ -3,10 +3,10 @@ ghost use Rattle.std.specs.Prelude.{◌≡◌, IfOk, IfErr, map, option_map, opt
 ghost use Rattle.serde_json.specs.View.{view};
 ghost use Rattle.serde_json.specs.Find.{as_str};
 ghost use Rattle.xpath_child.specs.Fault.{path_in};
-ghost use Rattle.page_tree.specs.Visit.{page_in};
+ghost use Rattle.page_tree.specs.Fault.{page_in};
 ghost use Rattle.warp_server.specs.Site as plain;
 ghost use Rattle.warp_server.specs.Site.{IsJsonOf, patched_in, pages_in, watch_in, quota_in};
-ghost use Rattle.warp_server.specs.SiteReading.{entries_in, paths_in, ok_of, quota_of, IsLineFault, Gives, GivesPages, GivesWatched};
+ghost use Rattle.warp_server.specs.inside.SiteMembers.{entries_in, paths_in, ok_of, quota_of, IsLineFault, GivesSite, GivesPages, GivesWatched};
 
 use crate::site_fault::SiteFault;
 use client_log::Quota;
@@ -41,14 +41,14 @@ pub(crate) fn has_later_member(value: &Value) -> bool
 }
 
 pub(crate) fn read_patched(alloc: Global, value: &Value) -> Result<Vec<Text>, SiteFault>
-    ensures { Gives (λ texts. texts.items) result (patched_in (view value.now)) }
+    ensures { GivesSite (λ texts. texts.items) result (patched_in (view value.now)) }
 {
     read_texts(alloc, value.get("patched"))
 }
 
 // The texts of an array; none where it is absent.
 fn read_texts(alloc: Global, given: Option<&Value>) -> Result<Vec<Text>, SiteFault>
-    ensures { Gives (λ texts. texts.items) result (plain.texts_or_none (option_map (λ value. view value.now) given.entry)) }
+    ensures { GivesSite (λ texts. texts.items) result (plain.texts_or_none (option_map (λ value. view value.now) given.entry)) }
 {
     let mut texts = Vec::new(alloc);
     let Some(given) = given else {
@@ -64,7 +64,7 @@ fn read_texts(alloc: Global, given: Option<&Value>) -> Result<Vec<Text>, SiteFau
 }
 
 fn read_text(alloc: Global, value: &Value) -> Result<Text, SiteFault>
-    ensures { Gives (λ text. text) result (as_str (view value.now)) }
+    ensures { GivesSite (λ text. text) result (as_str (view value.now)) }
 {
     match value.as_str() {
         Some(text) => Ok(Text::from_str(alloc, text)?),
@@ -91,7 +91,7 @@ pub(crate) fn read_pages(alloc: Global, value: &Value) -> Result<Table, SiteFaul
 }
 
 fn read_page(alloc: Global, value: &Value) -> Result<Page, SiteFault>
-    ensures { Gives (λ page. page) result (page_in (view value.now)) }
+    ensures { GivesSite (λ page. page) result (page_in (view value.now)) }
 {
     Ok(Page::from_value(alloc, value)?)
 }
@@ -108,7 +108,7 @@ pub(crate) fn read_watched(alloc: Global, value: &Value, table: &mut Table) -> R
 }
 
 fn read_path(alloc: Global, text: &str) -> Result<Path, SiteFault>
-    ensures { Gives (λ path. path) result (ok_of (path_in text.now)) }
+    ensures { GivesSite (λ path. path) result (ok_of (path_in text.now)) }
 {
     match Path::read(alloc, text) {
         Ok(path) => Ok(path),
@@ -120,7 +120,7 @@ fn read_path(alloc: Global, text: &str) -> Result<Path, SiteFault>
 }
 
 pub(crate) fn read_quota(value: &Value) -> Result<Quota, SiteFault>
-    ensures { Gives (λ quota. quota) result (option_and_then quota_of (quota_in (view value.now))) }
+    ensures { GivesSite (λ quota. quota) result (option_and_then quota_of (quota_in (view value.now))) }
 {
     let bytes = match value.get("quota") {
         None => DEFAULT_QUOTA,

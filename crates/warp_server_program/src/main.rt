@@ -1,36 +1,27 @@
 //! The program of the replay server: standard input is a site line and an upload, standard output the report.
 #![tactic(auto)]
 
-use std::io;
-use std::io::ErrorKind;
 use std::process::ExitCode;
+use std::{env, io};
 use upload_reader::Fed;
-use warp_server::{Status, Told, run};
-use words::{are_understood, words_of};
-
-mod words;
-
-const USAGE: &str = "usage: warp_server [listen PORT LANES SITEFILE]";
+use warp_server::{Told, accept_call, run};
 
 fn main(rt: HostRuntime) -> ExitCode {
-    match words_of(&rt) {
-        Ok(words) if are_understood(words.as_slice()) => {
+    match accept_call(env::args(&rt)) {
+        Err(fault) => ended(&rt, fault.code(), Some(fault.line())),
+        Ok(()) => {
             let mut reader = Fed::new(rt.stdin());
             let mut writer = Told::new(io::writer(&rt));
-            ended(&rt, run(&rt, &mut reader, &mut writer))
-        }
-        Err(error) if error.kind() == ErrorKind::OutOfMemory => ended(&rt, Status::OutOfMemory),
-        _ => {
-            let _ = rt.eprintln(USAGE);
-            ExitCode::from(2)
+            let status = run(&rt, &mut reader, &mut writer);
+            ended(&rt, status.code(), status.line())
         }
     }
 }
 
 // Says on standard error how it ended, and gives the exit status.
-fn ended(rt: &impl Eprint, status: Status) -> ExitCode {
-    if let Some(line) = status.line() {
+fn ended(rt: &impl Eprint, code: u8, line: Option<&'static str>) -> ExitCode {
+    if let Some(line) = line {
         let _ = rt.eprintln(line);
     }
-    ExitCode::from(status.code())
+    ExitCode::from(code)
 }

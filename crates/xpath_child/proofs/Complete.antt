@@ -13,9 +13,10 @@ use Rattle.std.proofs.lemmas.Slice.Eq.{bytes_eq-Decides}
 use Rattle.std.proofs.lemmas.Fmt.{decimal_nonempty, length-decimal-le, first_decimal, digits_decimal, digits_value-decimal}
 use Rattle.page_tree.specs.Name.{is_name, is_name_start, is_name_part}
 use Rattle.xpath_child.specs.Path.{Test, any, named, Step, IsTest, IsStep, IsPath, max_steps, max_index, test_text, index_text, step_text, path_text}
-use Rattle.xpath_child.specs.Fault.{is_slash, is_bracket, test_part, index_part, is_test, is_index, front, is_closed_index, text_fault, first_fault, written_steps, path_fault, test_in, step_in, unless_fault, path_in}
+use Rattle.page_tree.specs.FirstFault.{ok_unless}
+use Rattle.xpath_child.specs.Fault.{is_slash, is_bracket, test_part, index_part, is_test, is_index, front, is_closed_index, text_fault, first_step_fault, written_steps, path_fault, test_in, step_in, path_in}
 use Rattle.xpath_child.proofs.Index.{own, front-close, is_closed_index-close}
-use Rattle.xpath_child.proofs.Sound.{none_unless, none_or_later}
+use Rattle.page_tree.proofs.FirstFault.{none-unless, none-option_or}
 
 -- ---- bytes that don't stand in a step
 
@@ -134,9 +135,9 @@ module _ (step : Step) (is : IsStep step) where
 
   pub step_complete : (start : ℕ) → text_fault start (step_text step) ≡ None
   step_complete start =
-      none_unless _ _ _ _ (lt-ltb 0 (length (step_text step)) (omega (arith, length-append (test_text step.test) (index_text step.index), some_test step.test is.test)))
-      (none_unless _ _ _ _ (ap is_test cut_test ∙ (test_complete step.test is.test).0)
-      (none_unless _ _ _ _ (ap (λ o. option_map_or is_closed_index o true) cut_index ∙ (part_complete step.index is.index).0) refl))
+      none-unless _ _ _ (lt-ltb 0 (length (step_text step)) (omega (arith, length-append (test_text step.test) (index_text step.index), some_test step.test is.test)))
+      (none-unless _ _ _ (ap is_test cut_test ∙ (test_complete step.test is.test).0)
+      (none-unless _ _ _ (ap (λ o. option_map_or is_closed_index o true) cut_index ∙ (part_complete step.index is.index).0) refl))
 
   pub step_back : step_in (step_text step) ≡ step
   step_back =
@@ -153,10 +154,10 @@ written_back step (next ∷ path) h =
     slice_split_at is_slash (step_text step) 47 (step_text next ++ path_text path) (All-from_recursion _ _ (step_lacks step h.0)) refl
     ∙ ap (λ ts. step_text step ∷ ts) (written_back next path h.1)
 
-texts_complete : (before start : ℕ) (path : List Step) → AllByRecursion IsStep path → before + length path ≤ max_steps → first_fault before start (map step_text path) ≡ None
+texts_complete : (before start : ℕ) (path : List Step) → AllByRecursion IsStep path → before + length path ≤ max_steps → first_step_fault before start (map step_text path) ≡ None
 texts_complete before start [] each few = refl
 texts_complete before start (step ∷ path) each few =
-    none_or_later _ _ (none_unless _ _ _ _ (lt-ltb before max_steps (omega (arith, few))) (step_complete step each.0 start))
+    none-option_or _ _ (none-unless _ _ _ (lt-ltb before max_steps (omega (arith, few))) (step_complete step each.0 start))
     (texts_complete (suc before) (start + length (step_text step) + 1) path each.1 (omega (arith, few)))
 
 steps_back : (path : List Step) → AllByRecursion IsStep path → map step_in (map step_text path) ≡ path
@@ -168,5 +169,5 @@ path_complete [] h = absurd (omega (arith, h.some))
 path_complete (step ∷ path) h =
     let rest = step_text step ++ path_text path in
     let texts = written_back step path h.each in
-    let none : path_fault (47 ∷ rest) ≡ None = ap (first_fault 0 1) texts ∙ texts_complete 0 1 (step ∷ path) h.each (omega (arith, h.few)) in
-    ap (λ f. unless_fault f (map step_in (written_steps rest))) none ∙ ap Ok (ap (map step_in) texts ∙ steps_back (step ∷ path) h.each)
+    let none : path_fault (47 ∷ rest) ≡ None = ap (first_step_fault 0 1) texts ∙ texts_complete 0 1 (step ∷ path) h.each (omega (arith, h.few)) in
+    ap (λ f. ok_unless f (map step_in (written_steps rest))) none ∙ ap Ok (ap (map step_in) texts ∙ steps_back (step ∷ path) h.each)

@@ -6,7 +6,9 @@ use Rattle.std.specs.List.{slice_split, onto_first}
 use Rattle.std.proofs.lemmas.List.{at_drop_more, take_more, map-append}
 use Rattle.std.proofs.lemmas.List.Splits.{length-slice_split}
 use Rattle.xpath_child.specs.Path.{max_steps}
-use Rattle.xpath_child.specs.Fault.{unless, is_test, is_closed_index, test_part, index_part, text_fault, or_later, first_fault, step_in, unless_fault, Fails}
+use Rattle.std.specs.Option.{option_or}
+use Rattle.page_tree.specs.FirstFault.{unless, ok_unless}
+use Rattle.xpath_child.specs.Fault.{fault_at, is_test, is_closed_index, test_part, index_part, text_fault, first_step_fault, step_in, PathFails}
 use Rattle.xpath_child.specs.declared.fault.PathFault.{PathFault}
 use Rattle.xpath_child.specs.declared.fault.PathFaultKind.{PathFaultKind}
 use Rattle.xpath_child.specs.declared.fault.PathFaultKind.TheVariants.{NotAbsolute, EmptyStep, BadName, BadIndex, TooManySteps, NoMemory}
@@ -25,10 +27,10 @@ else_none false y h = refl
 
 -- the chain of the checks, with the tests as variables
 abbrev chain : ℕ → ℕ → Bool → Bool → Bool → Option PathFault
-chain start bracket a b c = unless a EmptyStep start (unless b BadName start (unless c BadIndex bracket None))
+chain start bracket a b c = unless a (fault_at start EmptyStep) (unless b (fault_at start BadName) (unless c (fault_at bracket BadIndex) None))
 
 pub index_fault : (start : ℕ) (text rest : List ℕ) → eqb (length text) 0 ≡ false → is_test (test_part text) ≡ true → index_part text ≡ Some rest → is_closed_index rest ≡ false
-    → unless_fault (text_fault start text) (step_in text) ≡ Err (record { at = start + length (test_part text); kind = BadIndex })
+    → ok_unless (text_fault start text) (step_in text) ≡ Err (record { at = start + length (test_part text); kind = BadIndex })
 index_fault start text rest some test part broken =
     let at = start + length (test_part text) in
     let a : nat_lt 0 (length text) ≡ true = let ne = eqb-false _ _ some in lt-ltb 0 (length text) (omega arith) in
@@ -36,21 +38,21 @@ index_fault start text rest some test part broken =
     let all : text_fault start text ≡ chain start at true true false =
     ap (λ x. chain start at x (is_test (test_part text)) (option_map_or is_closed_index (index_part text) true)) a
     ∙ ap (λ x. chain start at true x (option_map_or is_closed_index (index_part text) true)) test ∙ ap (chain start at true true) c in
-    ap (λ f. unless_fault f (step_in text)) all
+    ap (λ f. ok_unless f (step_in text)) all
 
 -- ---- from one answer to another
 
-pub unless_ok : {A : Type 0} (fault : Option PathFault) (x y : A) → unless_fault fault x ≡ Ok y → (fault ≡ None) × (x ≡ y)
+pub unless_ok : {A : Type 0} (fault : Option PathFault) (x y : A) → ok_unless fault x ≡ Ok y → (fault ≡ None) × (x ≡ y)
 unless_ok None x y h = (refl, cc)
 unless_ok (Some e) x y h = cc
 
-unless_err : {A B : Type 0} (first whole : Option PathFault) (x : A) (y : B) (e : PathFault) → ((f : PathFault) → first ≡ Some f → whole ≡ Some f) → unless_fault first x ≡ Err e → unless_fault whole y ≡ Err e
+unless_err : {A B : Type 0} (first whole : Option PathFault) (x : A) (y : B) (e : PathFault) → ((f : PathFault) → first ≡ Some f → whole ≡ Some f) → ok_unless first x ≡ Err e → ok_unless whole y ≡ Err e
 unless_err None whole x y e same h = cc
 unless_err (Some f) whole x y e same h =
     let is : f ≡ e = cc in
-    ap (λ w. unless_fault w y) (same f refl) ∙ ap Err is
+    ap (λ w. ok_unless w y) (same f refl) ∙ ap Err is
 
-pub fails_along : {A B : Type 0} (first whole : Option PathFault) (x : A) (y : B) (at : ℕ) (kind : PathFaultKind) → ((f : PathFault) → first ≡ Some f → whole ≡ Some f) → Fails at kind (unless_fault first x) → Fails at kind (unless_fault whole y)
+pub fails_along : {A B : Type 0} (first whole : Option PathFault) (x : A) (y : B) (at : ℕ) (kind : PathFaultKind) → ((f : PathFault) → first ≡ Some f → whole ≡ Some f) → PathFails at kind (ok_unless first x) → PathFails at kind (ok_unless whole y)
 fails_along first whole x y at NotAbsolute same h = unless_err first whole x y _ same h
 fails_along first whole x y at EmptyStep same h = unless_err first whole x y _ same h
 fails_along first whole x y at BadName same h = unless_err first whole x y _ same h
@@ -89,22 +91,22 @@ module _ (texts : List (List ℕ)) (k : ℕ) (text : List ℕ) (inside : k < len
   steps_next = ap (map step_in) (take_more texts k text inside ∙ ap (λ t. take k texts ++ t ∷ []) (sym is)) ∙ map-append step_in (take k texts) (text ∷ [])
 
   -- one step too many
-  pub too_many : (start : ℕ) → max_steps ≤ k → first_fault k start (drop k texts) ≡ Some (record { at = start; kind = TooManySteps })
+  pub too_many : (start : ℕ) → max_steps ≤ k → first_step_fault k start (drop k texts) ≡ Some (record { at = start; kind = TooManySteps })
   too_many start h =
-      ap (first_fault k start) drop_next
-      ∙ ap (λ b. or_later (unless b TooManySteps start (text_fault start text)) (first_fault (suc k) (start + length text + 1) (drop (k + 1) texts))) (le-ltb k max_steps h)
+      ap (first_step_fault k start) drop_next
+      ∙ ap (λ b. option_or (unless b (fault_at start TooManySteps) (text_fault start text)) (first_step_fault (suc k) (start + length text + 1) (drop (k + 1) texts))) (le-ltb k max_steps h)
 
   abbrev stepped : (start : ℕ) → Bool → Option PathFault → Option PathFault
-  stepped start b own = or_later (unless b TooManySteps start own) (first_fault (suc k) (start + length text + 1) (drop (k + 1) texts))
+  stepped start b own = option_or (unless b (fault_at start TooManySteps) own) (first_step_fault (suc k) (start + length text + 1) (drop (k + 1) texts))
 
-  within : (start : ℕ) → k < max_steps → first_fault k start (drop k texts) ≡ stepped start true (text_fault start text)
-  within start h = ap (first_fault k start) drop_next ∙ ap (λ b. stepped start b (text_fault start text)) (lt-ltb k max_steps h)
+  within : (start : ℕ) → k < max_steps → first_step_fault k start (drop k texts) ≡ stepped start true (text_fault start text)
+  within start h = ap (first_step_fault k start) drop_next ∙ ap (λ b. stepped start b (text_fault start text)) (lt-ltb k max_steps h)
 
   -- the step has a fault of its own
-  pub own_fault : (start : ℕ) → k < max_steps → (f : PathFault) → text_fault start text ≡ Some f → first_fault k start (drop k texts) ≡ Some f
+  pub own_fault : (start : ℕ) → k < max_steps → (f : PathFault) → text_fault start text ≡ Some f → first_step_fault k start (drop k texts) ≡ Some f
   own_fault start h f e = within start h ∙ ap (stepped start true) e
 
   -- the step has none
-  pub no_fault : (start : ℕ) → k < max_steps → text_fault start text ≡ None → first_fault k start (drop k texts) ≡ first_fault (k + 1) (start + length text + 1) (drop (k + 1) texts)
+  pub no_fault : (start : ℕ) → k < max_steps → text_fault start text ≡ None → first_step_fault k start (drop k texts) ≡ first_step_fault (k + 1) (start + length text + 1) (drop (k + 1) texts)
   no_fault start h e =
-      within start h ∙ ap (stepped start true) e ∙ ap (λ n. first_fault n (start + length text + 1) (drop (k + 1) texts)) (sym (add-one k))
+      within start h ∙ ap (stepped start true) e ∙ ap (λ n. first_step_fault n (start + length text + 1) (drop (k + 1) texts)) (sym (add-one k))

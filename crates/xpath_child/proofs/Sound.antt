@@ -13,31 +13,12 @@ use Rattle.std.proofs.lemmas.Str.Parse.{digits_value_short}
 use Rattle.std.proofs.lemmas.Fmt.{decimal-digits_value, decimal_digit}
 use Rattle.page_tree.specs.Name.{is_name}
 use Rattle.xpath_child.specs.Path.{any, named, Step, IsTest, IsStep, IsPath, max_steps, max_index, test_text, index_text, step_text, path_text}
-use Rattle.xpath_child.specs.Fault.{unless, is_slash, is_bracket, test_part, index_part, is_test, front, is_closed_index, text_fault, or_later, first_fault, written_steps, path_fault, test_in, step_in, unless_fault, path_in}
+use Rattle.page_tree.specs.FirstFault.{ok_unless}
+use Rattle.xpath_child.specs.Fault.{fault_at, is_slash, is_bracket, test_part, index_part, is_test, front, is_closed_index, text_fault, first_step_fault, written_steps, path_fault, test_in, step_in, path_in}
 use Rattle.xpath_child.specs.declared.fault.PathFault.{PathFault}
-use Rattle.xpath_child.specs.declared.fault.PathFaultKind.{PathFaultKind}
 use Rattle.xpath_child.specs.declared.fault.PathFaultKind.TheVariants.{NotAbsolute}
+use Rattle.page_tree.proofs.FirstFault.{unless-none, option_or-none}
 use Rattle.xpath_child.proofs.Index.{own, IsIndex, index_parts}
-
--- ---- the checks
-
-module _ (test : Bool) (kind : PathFaultKind) (at : ℕ) (later : Option PathFault) where
-  pub unless_none : unless test kind at later ≡ None → (test ≡ true) × (later ≡ None)
-  unless_none h = by test h
-    where
-      by : (b : Bool) → unless b kind at later ≡ None → (b ≡ true) × (later ≡ None)
-      by true h = (refl, h)
-      by false h = cc
-
-  pub none_unless : test ≡ true → later ≡ None → unless test kind at later ≡ None
-  none_unless h l = ap (λ b. unless b kind at later) h ∙ l
-
-pub or_later_none : (first later : Option PathFault) → or_later first later ≡ None → (first ≡ None) × (later ≡ None)
-or_later_none None later h = (refl, h)
-or_later_none (Some f) later h = cc
-
-pub none_or_later : (first later : Option PathFault) → first ≡ None → later ≡ None → or_later first later ≡ None
-none_or_later first later f l = ap (λ o. or_later o later) f ∙ l
 
 -- ---- where a step is cut
 
@@ -115,9 +96,9 @@ module _ (text : List ℕ) where
 
   pub step_sound : (start : ℕ) → text_fault start text ≡ None → IsStep (step_in text) × (step_text (step_in text) ≡ text)
   step_sound start h =
-      let some = unless_none _ _ _ _ h in
-      let name = unless_none _ _ _ _ some.1 in
-      let index = unless_none _ _ _ _ name.1 in
+      let some = unless-none _ _ _ h in
+      let name = unless-none _ _ _ some.1 in
+      let index = unless-none _ _ _ name.1 in
       let test = test_sound (test_part text) name.0 in
       let part = part_sound (index_part text) index.0 in (
         record { test = test.0; index = part.0 },
@@ -126,19 +107,19 @@ module _ (text : List ℕ) where
 
 -- ---- a text without a fault
 
-texts_sound : (before start : ℕ) (texts : List (List ℕ)) → first_fault before start texts ≡ None → AllByRecursion IsStep (map step_in texts) × (path_text (map step_in texts) ≡ flat_map (λ t. 47 ∷ t) texts)
+texts_sound : (before start : ℕ) (texts : List (List ℕ)) → first_step_fault before start texts ≡ None → AllByRecursion IsStep (map step_in texts) × (path_text (map step_in texts) ≡ flat_map (λ t. 47 ∷ t) texts)
 texts_sound before start [] h = (tt, refl)
 texts_sound before start (text ∷ texts) h =
-    let both = or_later_none _ _ h in
-    let here = step_sound text start (unless_none _ _ _ _ both.0).1 in
+    let both = option_or-none _ _ h in
+    let here = step_sound text start (unless-none _ _ _ both.0).1 in
     let there = texts_sound (suc before) (start + length text + 1) texts both.1 in
     ((here.0, there.0), ap (λ t. 47 ∷ t ++ path_text (map step_in texts)) here.1 ∙ ap (λ ts. 47 ∷ text ++ ts) there.1)
 
-texts_few : (before start : ℕ) (texts : List (List ℕ)) → before ≤ max_steps → first_fault before start texts ≡ None → before + length texts ≤ max_steps
+texts_few : (before start : ℕ) (texts : List (List ℕ)) → before ≤ max_steps → first_step_fault before start texts ≡ None → before + length texts ≤ max_steps
 texts_few before start [] few h = omega (arith, few)
 texts_few before start (text ∷ texts) few h =
-    let both = or_later_none _ _ h in
-    let room = ltb-true before max_steps (unless_none _ _ _ _ both.0).0 in
+    let both = option_or-none _ _ h in
+    let room = ltb-true before max_steps (unless-none _ _ _ both.0).0 in
     omega (arith, texts_few (suc before) (start + length text + 1) texts (omega (arith, room)) both.1)
 
 joined : (texts : List (List ℕ)) → 0 < length texts → flat_map (λ t. 47 ∷ t) texts ≡ 47 ∷ join_with_byte 47 texts
@@ -154,7 +135,7 @@ pub path_sound : (text : List ℕ) → path_fault text ≡ None → IsPath (map 
 path_sound [] h = cc
 path_sound (c ∷ rest) h =
     let texts = written_steps rest in
-    let both = unless_none (is_slash c) NotAbsolute 0 (first_fault 0 1 texts) h in
+    let both = unless-none (is_slash c) (fault_at 0 NotAbsolute) (first_step_fault 0 1 texts) h in
     let some : 0 < length texts = omega (arith, length-slice_split is_slash rest) in
     let sound = texts_sound 0 1 texts both.1 in
     let few = texts_few 0 1 texts (omega arith) both.1 in (
@@ -165,6 +146,6 @@ path_sound (c ∷ rest) h =
 pub path_in-sound : (text : List ℕ) (path : List Step) → path_in text ≡ Ok path → IsPath path × (path_text path ≡ text)
 path_in-sound text path h = by (path_fault text) refl h
   where
-    by : (o : Option PathFault) → path_fault text ≡ o → unless_fault o (map step_in (written_steps (drop 1 text))) ≡ Ok path → IsPath path × (path_text path ≡ text)
+    by : (o : Option PathFault) → path_fault text ≡ o → ok_unless o (map step_in (written_steps (drop 1 text))) ≡ Ok path → IsPath path × (path_text path ≡ text)
     by None e h = let same : map step_in (written_steps (drop 1 text)) ≡ path = cc in subst (λ p. IsPath p × (path_text p ≡ text)) same (path_sound text e)
     by (Some f) e h = cc

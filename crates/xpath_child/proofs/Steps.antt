@@ -11,7 +11,8 @@ use Rattle.page_tree.specs.Tree.{Tree}
 use Rattle.page_tree.specs.Look.{name_at, child_count_at}
 use Rattle.xpath_child.specs.Path.{Test, Step}
 use Rattle.xpath_child.specs.Reaches.{matches, matches_at, matching_before}
-use Rattle.xpath_child.specs.Targets.{is_nth, is_past, selects, selected, places_below, places, target_of, target_in, note}
+use Rattle.xpath_child.specs.Targets.{is_nth, selects, selected, places_below, places, target_of, target_in}
+use Rattle.xpath_child.specs.inside.Search.{is_past, note}
 use Rattle.xpath_child.specs.declared.target.Target.{Target}
 use Rattle.xpath_child.specs.declared.target.Target.TheVariants.{Missing, One, Several}
 

@@ -1,20 +1,20 @@
 -- Which path a text has, and which fault a text has that no path has: this project's own rule. The text is cut at each `/`, each step has at
 -- most one fault of its own, by the order of the checks there, and the fault of the text is that of the first step that has one.
 use Rattle.std.specs.Prelude.{ℕ, suc, ◌+◌, ◌-◌, ◌≡◌, List, [], ◌∷◌, ◌++◌, map, length, take, drop, slice_index, Bool, true, ◌&&◌, ◌||◌, not, ◌==◌, if◌then◌else◌, nat_lt, nat_le, Option, Some, None, option_map, Result, Ok, Err, codes}
-use Rattle.std.specs.Option.{option_map_or}
+use Rattle.std.specs.Option.{option_or, option_map_or}
 use Rattle.std.specs.List.{list_all, slice_split, before_first, position}
 use Rattle.std.specs.Char.{is_ascii_digit}
 use Rattle.std.specs.Str.{bytes_eq}
 use Rattle.std.specs.Str.Parse.{digits_value}
 use Rattle.page_tree.specs.Name.{is_name}
+use Rattle.page_tree.specs.FirstFault.{unless, ok_unless}
 use Rattle.xpath_child.specs.Path.{Test, any, named, Step, max_steps}
 use Rattle.xpath_child.specs.declared.fault.PathFault.{PathFault}
 use Rattle.xpath_child.specs.declared.fault.PathFaultKind.{PathFaultKind}
 use Rattle.xpath_child.specs.declared.fault.PathFaultKind.TheVariants.{NotAbsolute, EmptyStep, BadName, BadIndex, TooManySteps, NoMemory}
 
--- the fault of that kind unless the test holds, and then what comes after it
-abbrev pub unless : Bool → PathFaultKind → ℕ → Option PathFault → Option PathFault
-unless test kind at later = if test then later else Some (record { at = at; kind = kind })
+abbrev pub fault_at : ℕ → PathFaultKind → PathFault
+fault_at at kind = record { at = at; kind = kind }
 
 -- ---- one step as it is written
 
@@ -50,24 +50,20 @@ is_closed_index text = is_index (front text) && bytes_eq text (front text ++ cod
 -- the fault of a step's own text, which begins at that byte
 abbrev pub text_fault : ℕ → List ℕ → Option PathFault
 text_fault start text =
-    unless (nat_lt 0 (length text)) EmptyStep start
-    (unless (is_test (test_part text)) BadName start
-    (unless (option_map_or is_closed_index (index_part text) true) BadIndex (start + length (test_part text)) None))
+    unless (nat_lt 0 (length text)) (fault_at start EmptyStep)
+    (unless (is_test (test_part text)) (fault_at start BadName)
+    (unless (option_map_or is_closed_index (index_part text) true) (fault_at (start + length (test_part text)) BadIndex) None))
 
 -- the fault of a step before which so many stand
 abbrev pub step_fault : ℕ → ℕ → List ℕ → Option PathFault
-step_fault before start text = unless (nat_lt before max_steps) TooManySteps start (text_fault start text)
+step_fault before start text = unless (nat_lt before max_steps) (fault_at start TooManySteps) (text_fault start text)
 
 -- ---- a text
 
-abbrev pub or_later : Option PathFault → Option PathFault → Option PathFault
-or_later None later = later
-or_later (Some fault) later = Some fault
-
 -- the first fault of steps, of which so many stand before them and the first begins at that byte
-abbrev pub first_fault : ℕ → ℕ → List (List ℕ) → Option PathFault
-first_fault before start [] = None
-first_fault before start (text ∷ rest) = or_later (step_fault before start text) (first_fault (suc before) (start + length text + 1) rest)
+abbrev pub first_step_fault : ℕ → ℕ → List (List ℕ) → Option PathFault
+first_step_fault before start [] = None
+first_step_fault before start (text ∷ rest) = option_or (step_fault before start text) (first_step_fault (suc before) (start + length text + 1) rest)
 
 -- what stands after a `/`, cut at each further one
 abbrev pub written_steps : List ℕ → List (List ℕ)
@@ -75,8 +71,8 @@ written_steps rest = slice_split is_slash rest
 
 -- the fault of a text that no path has
 abbrev pub path_fault : List ℕ → Option PathFault
-path_fault [] = Some (record { at = 0; kind = NotAbsolute })
-path_fault (c ∷ rest) = unless (is_slash c) NotAbsolute 0 (first_fault 0 1 (written_steps rest))
+path_fault [] = Some (fault_at 0 NotAbsolute)
+path_fault (c ∷ rest) = unless (is_slash c) (fault_at 0 NotAbsolute) (first_step_fault 0 1 (written_steps rest))
 
 -- ---- the path that a text without a fault has
 
@@ -86,19 +82,25 @@ test_in text = if bytes_eq text (codes "*") then any else named text
 abbrev pub step_in : List ℕ → Step
 step_in text = record { test = test_in (test_part text); index = option_map (λ rest. digits_value 10 (front rest)) (index_part text) }
 
-abbrev pub unless_fault : {A : Type 0} → Option PathFault → A → Result A PathFault
-unless_fault None x = Ok x
-unless_fault (Some fault) x = Err fault
-
 abbrev pub path_in : List ℕ → Result (List Step) PathFault
-path_in text = unless_fault (path_fault text) (map step_in (written_steps (drop 1 text)))
+path_in text = ok_unless (path_fault text) (map step_in (written_steps (drop 1 text)))
 
 -- ---- what the code answers: that, or want of memory, which stands at 0
 
-abbrev pub Fails : {A : Type 0} → ℕ → PathFaultKind → Result A PathFault → Type 0
-Fails at NoMemory read = at ≡ 0
-Fails at kind read = read ≡ Err (record { at = at; kind = kind })
+abbrev pub PathFails : {A : Type 0} → ℕ → PathFaultKind → Result A PathFault → Type 0
+PathFails at NoMemory read = at ≡ 0
+PathFails at kind read = read ≡ Err (fault_at at kind)
 
-abbrev pub Gives : {X Y : Type 0} → (X → Y) → Result X PathFault → Result Y PathFault → Type 0
-Gives view (Ok x) read = read ≡ Ok (view x)
-Gives view (Err e) read = Fails e.at e.kind read
+abbrev pub GivesPath : {X Y : Type 0} → (X → Y) → Result X PathFault → Result Y PathFault → Type 0
+GivesPath view (Ok x) read = read ≡ Ok (view x)
+GivesPath view (Err e) read = PathFails e.at e.kind read
+
+-- ---- its code
+
+abbrev pub path_fault_code : PathFaultKind → List ℕ
+path_fault_code NotAbsolute = codes "X1"
+path_fault_code EmptyStep = codes "X2"
+path_fault_code BadName = codes "X3"
+path_fault_code BadIndex = codes "X4"
+path_fault_code TooManySteps = codes "X5"
+path_fault_code NoMemory = codes "X6"

@@ -3,3 +3,4 @@ pub mod Seen
 pub mod Fault
 pub mod Reaches
 pub mod Targets
+pub mod inside

@@ -1,6 +1,7 @@
 -- Which places of a page a path reaches, and its target (XPath 1.0, sections 2 to 2.4). A page is known here by its public words alone: the
 -- name of the element at a place, and how many children stand there.
-use Rattle.std.specs.Prelude.{◌≡◌, ◌≢◌, ℕ, suc, List, [], ◌∷◌, ◌++◌, Bool, true, false, IsTrue, Option, Some, None, count_by}
+use Rattle.std.specs.Prelude.{◌≡◌, ◌≢◌, ℕ, suc, List, [], ◌∷◌, ◌++◌, Bool, true, false, IsTrue, Option, IfSome, count_by}
+use Rattle.std.specs.Option.{option_map_or}
 use Rattle.std.specs.List.{range_with_len}
 use Rattle.std.specs.Str.{bytes_eq}
 use Rattle.page_tree.specs.Tree.{Tree}
@@ -18,8 +19,7 @@ matches_name (named wanted) name = bytes_eq wanted name
 
 -- a text, or a place with no node, has no name
 abbrev pub matches : Test → Option (List ℕ) → Bool
-matches test None = false
-matches test (Some name) = matches_name test name
+matches test name = option_map_or (matches_name test) name false
 
 -- whether the child at that position matches
 abbrev pub matches_at : Tree → Test → List ℕ → ℕ → Bool
@@ -31,8 +31,7 @@ matching_before page test at i = count_by (matches_at page test at) (range_with_
 
 -- section 2.4: `[n]` keeps the n-th, in document order, of those that match under one parent
 abbrev pub IsNth : Option ℕ → ℕ → Type 0
-IsNth None before = Unit {0}
-IsNth (Some n) before = n ≡ suc before
+IsNth index before = IfSome index (λ n. n ≡ suc before)
 
 -- the step selects the child at that position
 abbrev pub Selects : Tree → Step → List ℕ → ℕ → Type 0

@@ -1,5 +1,6 @@
 -- The places that a path reaches, as a list in document order, and its target as a function of path and page.
-use Rattle.std.specs.Prelude.{ℕ, suc, List, [], ◌∷◌, ◌++◌, Bool, true, false, nat_le, ◌&&◌, ◌==◌, if◌then◌else◌, Option, Some, None, flat_map, filter}
+use Rattle.std.specs.Prelude.{ℕ, suc, List, [], ◌∷◌, ◌++◌, Bool, true, ◌&&◌, ◌==◌, if◌then◌else◌, Option, Some, None, flat_map, filter}
+use Rattle.std.specs.Option.{option_map_or}
 use Rattle.std.specs.List.{range_with_len}
 use Rattle.page_tree.specs.Tree.{Tree}
 use Rattle.page_tree.specs.Look.{name_at, child_count_at}
@@ -9,8 +10,7 @@ use Rattle.xpath_child.specs.declared.target.Target.{Target}
 use Rattle.xpath_child.specs.declared.target.Target.TheVariants.{Missing, One, Several}
 
 abbrev pub is_nth : Option ℕ → ℕ → Bool
-is_nth None before = true
-is_nth (Some n) before = n == suc before
+is_nth index before = option_map_or (λ n. n == suc before) index true
 
 abbrev pub selects : Tree → Step → List ℕ → ℕ → Bool
 selects page step at i = matches_at page step.test at i && is_nth step.index (matching_before page step.test at i)
@@ -37,13 +37,7 @@ target_of (a ∷ b ∷ rest) = Several
 abbrev pub target_in : List Step → Tree → Target
 target_in path page = target_of (places path page)
 
--- a target and one place more
-abbrev pub note : Target → List ℕ → Target
-note Missing place = One place
-note (One other) place = Several
-note Several place = Several
-
--- no match before which so many or more stand is the n-th
-abbrev pub is_past : Option ℕ → ℕ → Bool
-is_past None before = false
-is_past (Some n) before = nat_le n before
+-- the place of a target that is one place
+abbrev pub only_place : Target → Option (List ℕ)
+only_place (One place) = Some place
+only_place other = None

@@ -1,12 +1,13 @@
-ghost use Rattle.std.specs.Prelude.{◌≡◌};
+ghost use Rattle.std.specs.Prelude.{◌≡◌, Some};
+ghost use Rattle.xpath_child.specs.Fault.{path_fault_code};
 ghost use Rattle.xpath_child.specs.declared.fault.PathFaultKind.TheVariants.{NoMemory};
 
 use std::alloc::{AllocError, AllocFailed};
-use thiserror::Error;
+use std::error::Error;
+use std::fmt;
 
-/// Why a text is no path. Its text is the kind's number, as `X4`.
-#[derive(Clone, Copy, Debug, PartialEq, Eq, Error)]
-#[error("{kind}")]
+/// Why a text is no path. Its text is the kind's code, as `X4`.
+#[derive(Clone, Copy, Debug, PartialEq, Eq)]
 pub struct PathFault {
     /// The byte offset in the text; 0 for want of memory.
     pub at: usize,
@@ -14,25 +15,19 @@ pub struct PathFault {
 }
 
 /// What is wrong. Of a step's own faults the first counts, in the order `TooManySteps`, `EmptyStep`, `BadName`, `BadIndex`.
-#[derive(Clone, Copy, Debug, PartialEq, Eq, Error)]
+#[derive(Clone, Copy, Debug, PartialEq, Eq)]
 pub enum PathFaultKind {
     /// The text is empty or doesn't begin with `/`; at 0.
-    #[error("X1")]
     NotAbsolute,
     /// Nothing stands between a `/` and the next one or the end; at the step's start.
-    #[error("X2")]
     EmptyStep,
     /// What stands before the first `[`, or the whole step, is neither `*` nor a name; at the step's start.
-    #[error("X3")]
     BadName,
     /// What stands from the first `[` on is no `[n]` with 1 to 9 digits, the first not 0; at the `[`.
-    #[error("X4")]
     BadIndex,
     /// There is a step 49; at its start.
-    #[error("X5")]
     TooManySteps,
     /// An allocation was refused; at 0.
-    #[error("X6")]
     NoMemory,
 }
 
@@ -43,6 +38,34 @@ impl PathFaultKind {
         PathFault { at, kind: self }
     }
 }
+
+impl fmt::Display for PathFaultKind {
+    ghost output = { λ fault. Some (path_fault_code fault) };
+
+    fn fmt<W: fmt::Write>(&self, f: &mut fmt::Formatter<W>) -> fmt::Result {
+        match self {
+            PathFaultKind::NotAbsolute => f.write_str("X1"),
+            PathFaultKind::EmptyStep => f.write_str("X2"),
+            PathFaultKind::BadName => f.write_str("X3"),
+            PathFaultKind::BadIndex => f.write_str("X4"),
+            PathFaultKind::TooManySteps => f.write_str("X5"),
+            PathFaultKind::NoMemory => f.write_str("X6"),
+        }
+    }
+}
+
+impl Error for PathFaultKind {}
+
+impl fmt::Display for PathFault {
+    ghost output = { λ fault. Some (path_fault_code fault.kind) };
+
+    fn fmt<W: fmt::Write>(&self, f: &mut fmt::Formatter<W>) -> fmt::Result {
+        let kind = self.kind;
+        write!(f, "{kind}")
+    }
+}
+
+impl Error for PathFault {}
 
 impl From<AllocError> for PathFault {
     ghost from_gives = { λ _ e. e ≡ record { at = 0; kind = NoMemory } };

@@ -1,6 +1,6 @@
 ghost use Rattle.std.specs.Prelude.{◌≡◌, ◌≢◌, List, Some, None, IfOk, IfErr, MatchResult};
 ghost use Rattle.xpath_child.specs.Path.{Step, IsPath, path_text};
-ghost use Rattle.xpath_child.specs.Fault.{path_fault, path_in, Gives};
+ghost use Rattle.xpath_child.specs.Fault.{path_fault, path_in, GivesPath};
 ghost use Rattle.xpath_child.specs.Reaches.{IsTarget};
 ghost use Rattle.xpath_child.specs.Targets.{target_in};
 ghost use Rattle.xpath_child.specs.declared.fault.PathFaultKind.TheVariants.{NoMemory};
@@ -46,7 +46,7 @@ impl Path {
         ensures memory { IfErr result (λ e. e.kind ≡ NoMemory → e.at ≡ 0) }
 
         // The same as a function of the text.
-        ensures exact { Gives (λ path. path) result (path_in text.now) }
+        ensures exact { GivesPath (λ path. path) result (path_in text.now) }
     {
         let Some(rest) = text.strip_prefix('/') else {
             return Err(PathFaultKind::NotAbsolute.at(0));

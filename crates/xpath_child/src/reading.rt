@@ -3,7 +3,8 @@ ghost use Rattle.std.specs.List.{list_all};
 ghost use Rattle.std.specs.Char.{is_ascii_digit};
 ghost use Rattle.std.specs.Str.Parse.{digits_value};
 ghost use Rattle.xpath_child.specs.Seen.{test_seen, step_seen, steps_seen};
-ghost use Rattle.xpath_child.specs.Fault.{test_part, index_part, is_test, test_in, is_index, is_closed_index, front, text_fault, step_in, first_fault, written_steps, unless_fault, Gives};
+ghost use Rattle.page_tree.specs.FirstFault.{ok_unless};
+ghost use Rattle.xpath_child.specs.Fault.{test_part, index_part, is_test, test_in, is_index, is_closed_index, front, text_fault, step_in, first_step_fault, written_steps, GivesPath};
 
 use crate::fault::{PathFault, PathFaultKind};
 use crate::limits::{MAX_INDEX_DIGITS, MAX_STEPS};
@@ -14,7 +15,7 @@ use std::alloc::Global;
 /// The steps of what stands after the first `/` of a text.
 pub(crate) fn read_steps(alloc: Global, rest: &str) -> Result<Vec<Step>, PathFault>
     requires { length rest.now + 1 < 2 ^ 64 }
-    ensures { Gives (λ steps. steps_seen steps.items) result (unless_fault (first_fault 0 1 (written_steps rest.now)) (map step_in (written_steps rest.now))) }
+    ensures { GivesPath (λ steps. steps_seen steps.items) result (ok_unless (first_step_fault 0 1 (written_steps rest.now)) (map step_in (written_steps rest.now))) }
 {
     let mut steps = Vec::new(alloc);
     let mut slash = 0;
@@ -32,7 +33,7 @@ pub(crate) fn read_steps(alloc: Global, rest: &str) -> Result<Vec<Step>, PathFau
 // The step of a text that begins at that byte.
 fn read_step(alloc: Global, start: usize, text: &str) -> Result<Step, PathFault>
     requires { start + length text.now < 2 ^ 64 }
-    ensures { Gives step_seen result (unless_fault (text_fault start text.now) (step_in text.now)) }
+    ensures { GivesPath step_seen result (ok_unless (text_fault start text.now) (step_in text.now)) }
 {
     if text.is_empty() {
         return Err(PathFaultKind::EmptyStep.at(start));

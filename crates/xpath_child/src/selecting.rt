@@ -2,7 +2,8 @@ ghost use Rattle.std.specs.Prelude.{◌≡◌, ◌&&◌, [], if◌then◌else◌
 ghost use Rattle.page_tree.specs.Look.{name_at};
 ghost use Rattle.xpath_child.specs.Seen.{test_seen, steps_seen};
 ghost use Rattle.xpath_child.specs.Reaches.{matches};
-ghost use Rattle.xpath_child.specs.Targets.{is_nth, places_below, note};
+ghost use Rattle.xpath_child.specs.Targets.{is_nth, places_below};
+ghost use Rattle.xpath_child.specs.inside.Search.{note};
 
 use crate::step::Step;
 use crate::target::Target;

@@ -2,7 +2,8 @@ ghost use Rattle.std.specs.Prelude.{◌≡◌, ◌++◌, IfOk, OnOk, option_map,
 ghost use Rattle.xpath_child.specs.Path.{test_text, step_text};
 ghost use Rattle.xpath_child.specs.Seen.{test_seen, step_seen};
 ghost use Rattle.xpath_child.specs.Reaches.{matches};
-ghost use Rattle.xpath_child.specs.Targets.{is_nth, is_past};
+ghost use Rattle.xpath_child.specs.Targets.{is_nth};
+ghost use Rattle.xpath_child.specs.inside.Search.{is_past};
 
 use page_tree::{NoMemory, Text};
 

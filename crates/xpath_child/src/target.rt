@@ -1,5 +1,6 @@
-ghost use Rattle.std.specs.Prelude.{◌≡◌, ◌↔◌, IsTrue};
-ghost use Rattle.xpath_child.specs.Targets.{note};
+ghost use Rattle.std.specs.Prelude.{◌≡◌, ◌↔◌, IsTrue, option_map};
+ghost use Rattle.xpath_child.specs.Targets.{only_place};
+ghost use Rattle.xpath_child.specs.inside.Search.{note};
 
 use page_tree::Place;
 
@@ -15,6 +16,16 @@ pub enum Target {
 }
 
 impl Target {
+    /// The place, where it is the only one.
+    pub fn only(&self) -> Option<&Place>
+        ensures { option_map (λ place. place.now) result ≡ only_place self.now }
+    {
+        match self {
+            Target::One(place) => Some(place),
+            Target::Missing | Target::Several => None,
+        }
+    }
+
     /// Takes in one place more.
     pub(crate) fn note(&mut self, place: Place)
         ensures { self.new ≡ note self.old place }

@@ -1,5 +1,5 @@
 use crate::{Path, PathFault, Target};
-use page_tree::{NoMemory, Page};
+use page_tree::{NoMemory, Page, Place};
 use serde_json::Value;
 use std::alloc::Global;
 use std::test::Fail;
@@ -131,5 +131,27 @@ fn selects_none_one_or_several(rt: HostRuntime) -> Result<(), Fail> {
         let target = selected(alloc, &page, text)?;
         assert_eq!(rt; target.as_str(), want, "target of {text}");
     }
+    Ok(())
+}
+
+// The place that `only` gives of what a text's path selects.
+fn only(alloc: Global, page: &Page, text: &str) -> Result<Option<Place>, Fail> {
+    let target = Path::read(alloc, text)?.select(page)?;
+    match target.only() {
+        None => Ok(None),
+        Some(place) => Ok(Some(place.copy()?)),
+    }
+}
+
+#[test]
+fn only_is_the_place_of_one(rt: HostRuntime) -> Result<(), Fail> {
+    let alloc = rt.alloc();
+    let page = Page::from_value(alloc, &Value::from_str(alloc, TWO_LINKS)?)?;
+    let link = only(alloc, &page, "/html/body/div[2]/a")?.ok_or("a link")?;
+    assert_eq!(rt; link.as_slice(), [0, 2, 0].as_slice());
+    let root = only(alloc, &page, "/html")?.ok_or("a root")?;
+    assert_eq!(rt; root.as_slice().len(), 0);
+    assert!(rt; only(alloc, &page, "/html/body/div")?.is_none(), "several");
+    assert!(rt; only(alloc, &page, "/html/head")?.is_none(), "missing");
     Ok(())
 }

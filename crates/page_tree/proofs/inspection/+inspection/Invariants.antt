@@ -1,6 +1,6 @@
 use Rattle.std.proofs.Common.{◌≡◌, drop}
 use Rattle.page_tree.specs.Seen.{all_seen}
-use Rattle.page_tree.specs.Visit.{inspect_all}
+use Rattle.page_tree.specs.inside.Walk.{inspect_all}
 use Rattle.page_tree.proofs.inspection.+inspection.Given as goal
 
 abbrev pub invariant-inspect_nodes-loop-tree : goal.invariant-inspect_nodes-loop-tree

@@ -1,7 +1,7 @@
 use Rattle.std.proofs.Common.{◌≡◌, ◌+◌, ◌*◌, drop, map}
 use Rattle.serde_json.specs.View.{items_view}
 use Rattle.page_tree.specs.Seen.{seen}
-use Rattle.page_tree.specs.Visit.{visit, visit_all}
+use Rattle.page_tree.specs.inside.Walk.{walk, walk_all}
 use Rattle.page_tree.proofs.Found.{added}
 use Rattle.page_tree.proofs.reading.+reading.Given as goal
 
@@ -22,4 +22,4 @@ decreases-read_items l = 5 * l.levels + 3
 
 abbrev pub invariant-read_items-loop-item : goal.invariant-read_items-loop-item
 invariant-read_items-loop-item l =
-    added (map seen l.found.items) (visit_all (visit l.levels) l.count (items_view (drop l.item-index l.items))) ≡ visit_all (visit l.levels) l.before (items_view l.items)
+    added (map seen l.found.items) (walk_all (walk l.levels) l.count (items_view (drop l.item-index l.items))) ≡ walk_all (walk l.levels) l.before (items_view l.items)

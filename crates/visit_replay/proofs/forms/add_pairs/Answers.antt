@@ -1,7 +1,7 @@
 use Rattle.std.proofs.Common.{◌∙◌, ◌+◌, ap, drop}
 use Rattle.std.specs.List.{filter_map}
 use Rattle.form_urlencoded.specs.Form.{extend_pairs}
-use Rattle.visit_replay.specs.Now.{pair_now}
+use Rattle.visit_replay.specs.inside.FieldsNow.{pair_now}
 use Rattle.visit_replay.proofs.OnePlaceMore.{extend_place}
 use Rattle.visit_replay.proofs.forms.add_pairs.Goals as goal
 

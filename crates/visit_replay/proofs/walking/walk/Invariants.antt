@@ -2,7 +2,7 @@ use Rattle.std.proofs.Common.{◌≡◌, take, drop}
 use Rattle.std.specs.List.{position_from}
 use Rattle.visit_replay.specs.Outcome.{is_bad, first_bad}
 use Rattle.visit_replay.specs.Requests.{requests_before}
-use Rattle.visit_replay.specs.Standing.{Keeps}
+use Rattle.visit_replay.specs.inside.KeptFields.{Keeps}
 use Rattle.visit_replay.proofs.walking.walk.Given as goal
 
 abbrev pub invariant-loop-i : goal.invariant-loop-i

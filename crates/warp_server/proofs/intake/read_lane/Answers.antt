@@ -1,26 +1,23 @@
-use Rattle.std.proofs.Common.{◌-◌}
-use Rattle.upload_reader.specs.Lines.{lines_answers, lines_place, lines_fault, lines_reader}
-use Rattle.upload_reader.specs.Upload.{upload_answers, upload_client, upload_lane, upload_reader, upload_start}
-use Rattle.warp_server.proofs.LaneLaws.{lane_read, lane_short, hello_refused}
+use Rattle.std.proofs.Common.{◌∙◌}
+use Rattle.warp_server.specs.inside.Intake.{no_hello}
+use Rattle.warp_server.proofs.IntakeLaws.{refused_out, gathered_out, hello_refused, lane_gathered}
+use Rattle.warp_server.proofs.NeededLaws.{hello_needed, lane_needed}
 use Rattle.warp_server.proofs.intake.read_lane.Goals as goal
 
-pub returns-in-Err-clause-lane : goal.returns-in-Err-clause-lane
-returns-in-Err-clause-lane g c =
-    let refused = c.in-Err.refused in let before = c.args.lines in
-    rw (c.into_reader.ensures.reader, c.no_hello.ensures)
-    (hello_refused (lines_answers before) (lines_answers refused.lines) (g.R.Source.answers (lines_reader before)) (g.R.Source.answers (lines_reader refused.lines)) c.in-Err.ensures.reads c.into_reader.ensures.ends
-    (lines_fault before) (lines_place before) (lines_place refused.lines - lines_place before) refused.fault c.requires c.in-Err.ensures.needed c.in-Err.ensures.refused)
+pub returns-in-Err-clause-both : goal.returns-in-Err-clause-both
+returns-in-Err-clause-both g c =
+    let lines = c.args.lines in let site = c.args.site in let behind = c.requires.behind in
+    let new = c.in-Err.refused.lines in let fault = c.in-Err.refused.fault in let why = c.in-Err.ensures.refused in
+    rw c.no_hello.ensures
+    (refused_out g.R.Source.answers g.R.Read.remaining lines.first c.into_reader.result new why.reads.first c.into_reader.ensures.read
+    (hello_needed lines site behind new c.requires.needed why.reads) c.into_reader.ensures.ends (no_hello fault) (hello_refused lines site behind new fault why))
 
-pub returns-in-Ok-gathered-clause-lane : goal.returns-in-Ok-gathered-clause-lane
-returns-in-Ok-gathered-clause-lane g c =
-    let before = c.args.lines in let u = c.in-Ok.upload in let v = c.gather-gathered.new.upload in
-    rw c.into_reader-reader.ensures.reader
-    (lane_read (lines_answers before) (upload_answers u) (upload_answers v) (g.R.Source.answers (lines_reader before)) (g.R.Source.answers (upload_reader u)) (g.R.Source.answers (upload_reader v)) c.in-Ok.ensures.reads c.gather-gathered.ensures.reads c.into_reader-reader.ensures.ends
-    (lines_fault before) (lines_place before) (upload_start u) (upload_client u) (upload_lane u) c.requires c.in-Ok.ensures.client c.in-Ok.ensures.place.1 c.in-Ok.ensures.lane.0 c.in-Ok.ensures.lane.1 c.in-Ok.ensures.needed c.gather-gathered.ensures.needed c.args.quota c.in-Ok-gathered.gathered (rw c.in-Ok-gathered.is at c.gather-gathered.ensures.client) (rw c.in-Ok-gathered.is at c.gather-gathered.ensures.gathers))
-
-pub returns-in-Err-gathered-clause-lane : goal.returns-in-Err-gathered-clause-lane
-returns-in-Err-gathered-clause-lane g c =
-    let before = c.args.lines in let u = c.in-Ok.upload in let v = c.gather-gathered.new.upload in
-    rw c.into_reader-reader.ensures.reader
-    (lane_short (lines_answers before) (upload_answers u) (upload_answers v) (g.R.Source.answers (lines_reader before)) (g.R.Source.answers (upload_reader u)) (g.R.Source.answers (upload_reader v)) c.in-Ok.ensures.reads c.gather-gathered.ensures.reads c.into_reader-reader.ensures.ends
-    (lines_fault before) (lines_place before) (upload_start u) (upload_client u) (upload_lane u) c.requires c.in-Ok.ensures.client c.in-Ok.ensures.place.1 c.in-Ok.ensures.lane.0 c.in-Ok.ensures.lane.1 c.in-Ok.ensures.needed c.gather-gathered.ensures.needed)
+pub returns-in-Ok-gathered-clause-both : goal.returns-in-Ok-gathered-clause-both
+returns-in-Ok-gathered-clause-both g c =
+    let lines = c.args.lines in let site = c.args.site in let behind = c.requires.behind in
+    let begun = c.in-Ok.upload in let begins = c.in-Ok.ensures.begins in
+    let new = c.gather-gathered.new.upload in let before = c.gather-gathered.ensures.reads in
+    let gathered = c.in-Ok-gathered.gathered in
+    gathered_out g.R.Source.answers g.R.Read.remaining lines.first c.into_reader-reader.result new.lines (before.reads.first ∙ begins.reads.first)
+    c.into_reader-reader.ensures.read (lane_needed lines site behind begun begins new.lines c.requires.needed before.reads) c.into_reader-reader.ensures.ends site gathered
+    (lane_gathered lines site behind begun new begins before gathered c.in-Ok-gathered.ensures.client (rw c.quota.ensures at c.in-Ok-gathered.ensures.records))

@@ -1,5 +1,5 @@
 use Rattle.serde_json.specs.View.{members_view}
-use Rattle.warp_server.specs.SiteReading.{entries_in}
+use Rattle.warp_server.specs.inside.SiteMembers.{entries_in}
 use Rattle.warp_server.proofs.SiteSteps.{PagesSoFar}
 use Rattle.warp_server.proofs.site_reading.read_pages.Given as goal
 

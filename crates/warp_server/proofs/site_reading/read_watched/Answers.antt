@@ -2,7 +2,7 @@ use Rattle.std.proofs.Common.{◌≡◌, Some, option_and_then, sym, ◌∙◌, 
 use Rattle.std.proofs.lemmas.Result.{err_from_is_err_and}
 use Rattle.serde_json.specs.View.{view}
 use Rattle.warp_server.specs.Site.{texts_or_none, watch_in}
-use Rattle.warp_server.specs.SiteReading.{paths_in, Fails}
+use Rattle.warp_server.specs.inside.SiteMembers.{paths_in, SiteFails}
 use Rattle.warp_server.proofs.SiteSteps.{paths_start, path_next, path_missed, paths_end}
 use Rattle.warp_server.proofs.site_reading.read_watched.Goals as goal
 
@@ -13,7 +13,7 @@ pub returns-in_err-read_path : goal.returns-in_err-read_path
 returns-in_err-read_path c =
     let texts : watch_in (view c.args.value.now) ≡ Some c.in_ok-texts.texts.items = ap texts_or_none (sym c.get.ensures) ∙ c.in_ok-texts.ensures in
     let whole : option_and_then paths_in (watch_in (view c.args.value.now)) ≡ paths_in c.deref-text-items.result.now = ap (option_and_then paths_in) texts ∙ ap paths_in (sym c.deref-text-items.ensures.value) in
-    let fails : Fails c.in_err-read_path.field-0.0 (paths_in c.deref-text-items.result.now) =
+    let fails : SiteFails c.in_err-read_path.field-0.0 (paths_in c.deref-text-items.result.now) =
     path_missed c.in_err-read_path.field-0.0 c.args.table.now c.loop-text.table c.text-item.result c.deref-text-items.result.now c.loop-text.text-index _ c.loop-text-test.true c.text-item.is
     (rw (← c.as_str.ensures) c.in_err-read_path.ensures) c.loop-text.invariant in
     let p = err_from_is_err_and c.from_residual-in_err-read_path.result c.from_residual-in_err-read_path.ensures.1 in

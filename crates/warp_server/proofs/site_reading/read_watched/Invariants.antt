@@ -1,5 +1,5 @@
 use Rattle.std.proofs.Common.{drop}
-use Rattle.warp_server.specs.SiteReading.{paths_in}
+use Rattle.warp_server.specs.inside.SiteMembers.{paths_in}
 use Rattle.warp_server.proofs.SiteSteps.{PathsSoFar}
 use Rattle.warp_server.proofs.site_reading.read_watched.Given as goal
 

@@ -1,6 +1,6 @@
 use Rattle.std.proofs.Common.{arith, ap, sym, ◌∙◌}
 use Rattle.xpath_child.specs.Seen.{step_seen, steps_seen}
-use Rattle.xpath_child.specs.Targets.{is_past}
+use Rattle.xpath_child.specs.inside.Search.{is_past}
 use Rattle.xpath_child.proofs.Steps.{counted, not_counted, noted, settled_several, settled_past}
 use Rattle.xpath_child.proofs.selecting.+visit.Goals as goal
 use Rattle.xpath_child.proofs.selecting.+visit.Goals.{visit-then-is_several-via-then-is_several, visit-then-is_several-via-else-is_several+then-is_past, visit-then-branch, visit-else-branch}

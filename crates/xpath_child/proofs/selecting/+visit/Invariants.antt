@@ -1,7 +1,8 @@
 use Rattle.std.proofs.Common.{◌≡◌, ◌+◌, ◌*◌, ◌≤◌, [], ◌∷◌, ◌++◌, length, fold, flat_map}
 use Rattle.xpath_child.specs.Seen.{step_seen, steps_seen}
 use Rattle.xpath_child.specs.Reaches.{matching_before}
-use Rattle.xpath_child.specs.Targets.{selected, places_below, note}
+use Rattle.xpath_child.specs.Targets.{selected, places_below}
+use Rattle.xpath_child.specs.inside.Search.{note}
 use Rattle.xpath_child.proofs.selecting.+visit.Given as goal
 
 abbrev pub decreases-visit : goal.decreases-visit

@@ -1,81 +1,48 @@
-use Rattle.std.proofs.Common.{is_some, ap}
-use Rattle.upload_reader.specs.Cutting.{ending_of}
-use Rattle.upload_reader.specs.Lines.{lines_answers, lines_place, lines_input}
-use Rattle.upload_reader.specs.Taking.{lane_of, taken_of}
-use Rattle.upload_reader.proofs.UploadLaws.{stands_then, ended_then, needed_then, first_then, first_by, not_ended, over_told, real_told, longest_told}
+use Rattle.std.proofs.Common.{◌∷◌, [], None, Some, subst}
+use Rattle.byte_streams.specs.Reading.{ReadsWhile}
+use Rattle.upload_reader.specs.Upload.{UploadState, GivesFirst, NothingMore}
+use Rattle.upload_reader.specs.inside.Taken.{lane_of, taken_of, LaneTaken}
+use Rattle.upload_reader.proofs.UploadLaws.{gives_first, real_again, state_is, over_now, lane_kept, gives_none, ends_by_it}
 use Rattle.upload_reader.proofs.upload.Upload.next.Goals as goal
 
+pub returns-in-Some-clause-first : goal.returns-in-Some-clause-first
+returns-in-Some-clause-first g c = subst GivesFirst c.self.view_is (gives_first _ _ _ _ _ c.self.invariant)
+
 pub returns-in-Some-clause-real : goal.returns-in-Some-clause-real
-returns-in-Some-clause-real g c =
-    let u = c.args.self.now in
-    rw c.of.ensures
-    (real_told (lane_of u.progress) (lines_place u.first_lines.value) (taken_of u.progress).given (lines_input u.lines) (ending_of (lines_answers u.lines)) c.in-Some.ending (rw c.in-Some.is at u.ended))
+returns-in-Some-clause-real g c = rw c.of.ensures (real_again c.in-Some.ending (rw c.in-Some.is at c.self.invariant.real))
 
-pub returns-in-Some-clause-longest : goal.returns-in-Some-clause-longest
-returns-in-Some-clause-longest g c =
-    let u = c.args.self.now in
-    rw c.of.ensures
-    (longest_told (lane_of u.progress) (lines_place u.first_lines.value) (taken_of u.progress).given (lines_input u.lines) (ending_of (lines_answers u.lines)) c.in-Some.ending (rw c.in-Some.is at u.ended))
+pub returns-in-Ok-clause-reads : goal.returns-in-Ok-clause-reads
+returns-in-Ok-clause-reads g c =
+    let stands : LaneTaken (lane_of c.self.inside.progress) c.self.inside.start.value.place c.self.inside.lines (taken_of c.self.inside.progress) None = rw c.in-None.is at c.self.invariant in
+    subst (λ (upload : UploadState _). ReadsWhile (NothingMore upload) upload.lines c.next_message.new.lines) c.self.view_is (c.next_message.ensures.takes _ stands).reads
 
-pub invariant_of-self : goal.invariant_of-self
-invariant_of-self g c =
-    let u = c.args.self.now in let v = c.next_message.new in
-    let stands =
-    stands_then (lane_of u.progress) (lane_of v.progress) (lines_place u.first_lines.value) (taken_of u.progress) (lines_place u.lines) (lines_answers u.lines) (lines_answers v.lines) c.next_message.ensures.reads.more
-    c.next_message.ensures.lane (u.stands (ap is_some c.in-None.is)) c.next_message.ensures.reads.here_is (taken_of v.progress) (lines_place v.lines) c.in-Ok.ensures.goes in
-    record {
-      numbered = c.next_message.ensures.numbered;
-      going = λ none. c.in-Ok.ensures.going;
-      stands = λ none. stands;
-      first = first_by (lane_of v.progress) (lines_place u.first_lines.value) (lines_place v.lines) (taken_of v.progress) (lines_input v.lines) stands;
-      ended = λ last is. absurd (not_ended u.ending last c.in-None.is is);
-    }
+pub returns-in-Ok-clause-given : goal.returns-in-Ok-clause-given
+returns-in-Ok-clause-given g c =
+    let stands : LaneTaken (lane_of c.self.inside.progress) c.self.inside.start.value.place c.self.inside.lines (taken_of c.self.inside.progress) None = rw c.in-None.is at c.self.invariant in
+    rw c.in-None.is (state_is _ c.next_message.new.lines _ _ ((c.in-Ok.message, c.in-Ok.cost) ∷ []) None c.args.self.now c.self.view_is c.next_message.ensures.lane (c.in-Ok.ensures.takes _ stands).given)
 
-pub invariant_of-self-in-Err : goal.invariant_of-self-in-Err
-invariant_of-self-in-Err g c =
-    let u = c.args.self.now in let v = c.next_message.new in
-    record {
-      numbered = c.next_message.ensures.numbered;
-      going = λ none. cc;
-      stands = λ none. cc;
-      first = first_then (lane_of u.progress) (lane_of v.progress) (lines_place u.first_lines.value) (taken_of u.progress) (lines_place u.lines) (lines_answers u.lines) (lines_answers v.lines) c.next_message.ensures.reads.more
-          c.next_message.ensures.lane (u.stands (ap is_some c.in-None.is)) c.next_message.ensures.reads.here_is (taken_of u.progress).given (taken_of v.progress).given u.first c.in-Err.ensures.none;
-      ended = ended_then (lane_of u.progress) (lane_of v.progress) (lines_place u.first_lines.value) (taken_of u.progress) (lines_place u.lines) (lines_answers u.lines) (lines_answers v.lines) c.next_message.ensures.reads.more
-          c.next_message.ensures.lane (u.stands (ap is_some c.in-None.is)) c.next_message.ensures.reads.here_is (taken_of v.progress).given (ending_of (lines_answers v.lines)) c.in-Err.ending c.in-Err.ensures.none c.in-Err.ensures.ends;
-    }
+pub returns-in-Ok-clause-first : goal.returns-in-Ok-clause-first
+returns-in-Ok-clause-first g c =
+    let stands : LaneTaken (lane_of c.self.inside.progress) c.self.inside.start.value.place c.self.inside.lines (taken_of c.self.inside.progress) None = rw c.in-None.is at c.self.invariant in
+    gives_first _ _ _ _ _ (lane_kept _ _ _ _ _ _ c.next_message.ensures.lane (c.next_message.ensures.takes _ stands).stands)
 
-pub returns-in-Ok-clause-needed : goal.returns-in-Ok-clause-needed
-returns-in-Ok-clause-needed g c none =
-    let u = c.args.self.now in let v = c.next_message.new in
-    needed_then (lane_of u.progress) (lane_of v.progress) (lines_place u.first_lines.value) (taken_of u.progress) (lines_place u.lines) (lines_answers u.lines) (lines_answers v.lines) c.next_message.ensures.reads.more
-    c.next_message.ensures.lane (u.stands (ap is_some c.in-None.is)) c.next_message.ensures.reads.here_is c.next_message.ensures.needed
+pub returns-in-Err-clause-reads : goal.returns-in-Err-clause-reads
+returns-in-Err-clause-reads g c =
+    let stands : LaneTaken (lane_of c.self.inside.progress) c.self.inside.start.value.place c.self.inside.lines (taken_of c.self.inside.progress) None = rw c.in-None.is at c.self.invariant in
+    subst (λ (upload : UploadState _). ReadsWhile (NothingMore upload) upload.lines c.next_message.new.lines) c.self.view_is (c.next_message.ensures.takes _ stands).reads
 
-pub returns-in-Err-clause-needed : goal.returns-in-Err-clause-needed
-returns-in-Err-clause-needed g c none =
-    let u = c.args.self.now in let v = c.next_message.new in
-    needed_then (lane_of u.progress) (lane_of v.progress) (lines_place u.first_lines.value) (taken_of u.progress) (lines_place u.lines) (lines_answers u.lines) (lines_answers v.lines) c.next_message.ensures.reads.more
-    c.next_message.ensures.lane (u.stands (ap is_some c.in-None.is)) c.next_message.ensures.reads.here_is c.next_message.ensures.needed
+pub returns-in-Err-clause-given : goal.returns-in-Err-clause-given
+returns-in-Err-clause-given g c =
+    let stands : LaneTaken (lane_of c.self.inside.progress) c.self.inside.start.value.place c.self.inside.lines (taken_of c.self.inside.progress) None = rw c.in-None.is at c.self.invariant in
+    rw (c.of-in-Err.ensures, gives_none c.in-Err.ending, ends_by_it c.in-Err.ending)
+    (state_is _ c.next_message.new.lines _ _ [] (Some c.in-Err.ending) c.args.self.now c.self.view_is c.next_message.ensures.lane (c.in-Err.ensures.takes _ stands).given)
+
+pub returns-in-Err-clause-first : goal.returns-in-Err-clause-first
+returns-in-Err-clause-first g c =
+    let stands : LaneTaken (lane_of c.self.inside.progress) c.self.inside.start.value.place c.self.inside.lines (taken_of c.self.inside.progress) None = rw c.in-None.is at c.self.invariant in
+    gives_first _ _ _ _ _ (lane_kept _ _ _ _ _ _ c.next_message.ensures.lane (c.next_message.ensures.takes _ stands).stands)
 
 pub returns-in-Err-clause-over : goal.returns-in-Err-clause-over
 returns-in-Err-clause-over g c =
-    let u = c.args.self.now in let v = c.next_message.new in
-    rw c.of-in-Err.ensures
-    (over_told (lane_of v.progress) (lines_place u.first_lines.value) (taken_of v.progress).given (lines_input v.lines) (ending_of (lines_answers v.lines)) c.in-Err.ending
-    (ended_then (lane_of u.progress) (lane_of v.progress) (lines_place u.first_lines.value) (taken_of u.progress) (lines_place u.lines) (lines_answers u.lines) (lines_answers v.lines) c.next_message.ensures.reads.more
-    c.next_message.ensures.lane (u.stands (ap is_some c.in-None.is)) c.next_message.ensures.reads.here_is (taken_of v.progress).given (ending_of (lines_answers v.lines)) c.in-Err.ending c.in-Err.ensures.none c.in-Err.ensures.ends))
-
-pub returns-in-Err-clause-real : goal.returns-in-Err-clause-real
-returns-in-Err-clause-real g c =
-    let u = c.args.self.now in let v = c.next_message.new in
-    rw c.of-in-Err.ensures
-    (real_told (lane_of v.progress) (lines_place u.first_lines.value) (taken_of v.progress).given (lines_input v.lines) (ending_of (lines_answers v.lines)) c.in-Err.ending
-    (ended_then (lane_of u.progress) (lane_of v.progress) (lines_place u.first_lines.value) (taken_of u.progress) (lines_place u.lines) (lines_answers u.lines) (lines_answers v.lines) c.next_message.ensures.reads.more
-    c.next_message.ensures.lane (u.stands (ap is_some c.in-None.is)) c.next_message.ensures.reads.here_is (taken_of v.progress).given (ending_of (lines_answers v.lines)) c.in-Err.ending c.in-Err.ensures.none c.in-Err.ensures.ends))
-
-pub returns-in-Err-clause-longest : goal.returns-in-Err-clause-longest
-returns-in-Err-clause-longest g c =
-    let u = c.args.self.now in let v = c.next_message.new in
-    rw c.of-in-Err.ensures
-    (longest_told (lane_of v.progress) (lines_place u.first_lines.value) (taken_of v.progress).given (lines_input v.lines) (ending_of (lines_answers v.lines)) c.in-Err.ending
-    (ended_then (lane_of u.progress) (lane_of v.progress) (lines_place u.first_lines.value) (taken_of u.progress) (lines_place u.lines) (lines_answers u.lines) (lines_answers v.lines) c.next_message.ensures.reads.more
-    c.next_message.ensures.lane (u.stands (ap is_some c.in-None.is)) c.next_message.ensures.reads.here_is (taken_of v.progress).given (ending_of (lines_answers v.lines)) c.in-Err.ending c.in-Err.ensures.none c.in-Err.ensures.ends))
+    let stands : LaneTaken (lane_of c.self.inside.progress) c.self.inside.start.value.place c.self.inside.lines (taken_of c.self.inside.progress) None = rw c.in-None.is at c.self.invariant in
+    rw c.of-in-Err.ensures (over_now _ _ _ _ c.in-Err.ending (lane_kept _ _ _ _ _ _ c.next_message.ensures.lane (c.in-Err.ensures.takes _ stands).stands))

@@ -1,0 +1,12 @@
+pub mod Steps
+pub mod Sent
+pub mod Scanning
+pub mod Cutting
+pub mod ReadLaws
+pub mod ReadingLaws
+pub mod Keeping
+pub mod Searching
+pub mod Advancing
+pub mod LineLaws
+pub mod CutLaws
+pub mod TextWriting

@@ -1,0 +1,19 @@
+use Rattle.std.proofs.Common.{◌≡◌, ◌+◌, ◌-◌, ◌≤◌, length, take, position, None}
+use Rattle.byte_streams.specs.Cutting.{is_line_feed}
+use Rattle.byte_streams.specs.Limits.{max_reads}
+use Rattle.byte_streams.specs.Reading.{uncut, ReadsWhile, NoLineYet}
+use Rattle.byte_streams.proofs.lines.Lines.find_line.Given as goal
+
+-- the bytes that were searched hold no line feed
+abbrev pub invariant-loop-count : goal.invariant-loop-count
+invariant-loop-count g l = record {
+  reads : ReadsWhile (NoLineYet l.limit l.fn.self.place) l.fn.self l.self;
+  place : l.self.place ≡ l.fn.self.place;
+  fault : l.self.fault ≡ None;
+  none : position is_line_feed (take l.scanned (uncut l.self)) ≡ None;
+  within : l.scanned ≤ length (uncut l.self);
+  below : l.scanned ≤ l.limit;
+}
+
+abbrev pub decreases-loop-count : goal.decreases-loop-count
+decreases-loop-count g l = max_reads + 1 - length l.self.answers

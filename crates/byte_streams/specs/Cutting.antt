@@ -1,0 +1,39 @@
+-- How a stream of bytes is cut into lines: this project's own rule. The reads by which the bytes came don't occur in it.
+use Rattle.std.specs.Prelude.{◌≡◌, ℕ, ◌+◌, ◌<◌, List, length, take, Bool, ◌==◌, if◌then◌else◌, nat_lt, nat_le, position, find, option_map, Option, Some, None, Result, Ok, Err}
+use Rattle.byte_streams.specs.Answers.{Answer, moves_nothing}
+use Rattle.byte_streams.specs.Limits.{max_reads}
+use Rattle.byte_streams.specs.declared.fault.LineFault.{LineFault}
+use Rattle.byte_streams.specs.declared.fault.LineFault.TheVariants.{ReadFailed, TooManyReads, Truncated, LineTooLong}
+
+abbrev pub is_line_feed : ℕ → Bool
+is_line_feed byte = byte == 10
+
+-- How long the next line is, where the bytes hold its end: a line feed within the limit and one byte more.
+unfoldable pub line_length : ℕ → List ℕ → Option ℕ
+line_length limit bytes = position is_line_feed (take (limit + 1) bytes)
+
+abbrev pub cut_by : Option ℕ → ℕ → List ℕ → Option LineFault → Option (Result (List ℕ) LineFault)
+cut_by (Some n) limit bytes ending = Some (Ok (take n bytes))
+cut_by None limit bytes ending = if nat_lt limit (length bytes) then Some (Err LineTooLong) else option_map Err ending
+
+-- The next line of these bytes, which end so: the bytes up to a line feed within the limit and one byte more. Else a fault: the line is too
+-- long where there are more bytes than the limit, and otherwise the ending. With no ending there is no answer yet.
+unfoldable pub cut : ℕ → List ℕ → Option LineFault → Option (Result (List ℕ) LineFault)
+cut limit bytes ending = cut_by (line_length limit bytes) limit bytes ending
+
+-- what a read that gave nothing means
+abbrev pub fault_of : Answer → LineFault
+fault_of None = ReadFailed
+fault_of (Some bytes) = Truncated
+
+abbrev end_by_count : Option Answer → ℕ → Option LineFault
+end_by_count (Some answer) reads = Some (fault_of answer)
+end_by_count None reads = if nat_le max_reads reads then Some TooManyReads else None
+
+-- How the input of these reads ends: with the first one that failed or gave nothing, else with the last one that may be made, else not yet.
+abbrev pub ending_of : List Answer → Option LineFault
+ending_of answers = end_by_count (find moves_nothing answers) (length answers)
+
+-- No read was made once the input had ended.
+abbrev pub StopsAtEnd : List Answer → Type 0
+StopsAtEnd answers = (n : ℕ) → n < length answers → ending_of (take n answers) ≡ None

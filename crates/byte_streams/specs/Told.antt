@@ -1,0 +1,12 @@
+-- What clauses see of a Told.
+use Rattle.std.specs.Prelude.{List}
+use Rattle.byte_streams.specs.Answers.{Answer}
+use Rattle.byte_streams.specs.declared.told.Told.{Told}
+
+-- the writer that it was made of
+abbrev pub told_writer : {W : Type 0} → Told W → W
+told_writer told = told.writer
+
+-- what its writes answered
+abbrev pub told_puts : {W : Type 0} → Told W → List Answer
+told_puts told = told.history.answers

@@ -1,0 +1,36 @@
+ghost use Rattle.std.specs.Prelude.{Some};
+ghost use Rattle.byte_streams.specs.LineFaultCode.{line_fault_code};
+
+use std::error::Error;
+use std::fmt;
+
+/// Why there is no next line. Its text is its code, as `E1`.
+#[derive(Clone, Copy, Debug, PartialEq, Eq)]
+pub enum LineFault {
+    /// A read failed.
+    ReadFailed,
+    /// As many reads were made as may be.
+    TooManyReads,
+    /// The input ended, and the line had no line end.
+    Truncated,
+    /// There are more bytes than the limit before a line end.
+    LineTooLong,
+    /// An allocation was refused.
+    NoMemory,
+}
+
+impl fmt::Display for LineFault {
+    ghost output = { λ fault. Some (line_fault_code fault) };
+
+    fn fmt<W: fmt::Write>(&self, f: &mut fmt::Formatter<W>) -> fmt::Result {
+        match self {
+            LineFault::ReadFailed => f.write_str("E1"),
+            LineFault::TooManyReads => f.write_str("E2"),
+            LineFault::Truncated => f.write_str("E3"),
+            LineFault::LineTooLong => f.write_str("E4"),
+            LineFault::NoMemory => f.write_str("no memory"),
+        }
+    }
+}
+
+impl Error for LineFault {}

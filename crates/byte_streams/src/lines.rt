@@ -1,0 +1,212 @@
+//! Lines that are cut from a source, each when it is asked for.
+ghost use Rattle.std.specs.Prelude.{◌≡◌, ◌+◌, ◌<◌, ◌≤◌, [], length, take, position, Some, None, IfSome, IfOk, IfErr, OnOk, MatchResult};
+ghost use Rattle.std.specs.Borrow.{sem};
+ghost use Rattle.std.specs.Io.BufRead.{Rests};
+ghost use Rattle.byte_streams.specs.Answers.{failures_of};
+ghost use Rattle.byte_streams.specs.Cutting.{cut, line_length, ending_of, is_line_feed, StopsAtEnd};
+ghost use Rattle.byte_streams.specs.Reading.{input, uncut, WasRead, ReadsWhile, NoLineYet, StopsLine, Advances, failures_told};
+ghost use Rattle.byte_streams.specs.inside.Kept.{EndsAs};
+
+use crate::fault::LineFault;
+use crate::history::History;
+use crate::limits::{MAX_READS, READ_BYTES};
+use crate::source::Source;
+use crate::window::Window;
+use std::alloc::{AllocError, Global};
+use std::marker::Model;
+use std::snapshot::Snapshot;
+
+/// A source that is read line by line. It reads only where the bytes that it has don't decide. Contracts see what was read of which reader, how far
+/// that is cut, the last line, and the fault that is given for good.
+#[derive(Drop)]
+pub struct Lines<R: Source> {
+    reader: R,
+    first: Snapshot<R>,
+    window: Window,
+    chunk: Vec<u8>,
+    reads: u32,
+    fault: Option<LineFault>,
+    history: History,
+}
+
+impl<R: Source> Model for Lines<R> {
+    ghost use Rattle.std.specs.Prelude.{◌≡◌, ◌-◌, length, vec_len};
+    ghost use Rattle.byte_streams.specs.Answers.{bytes_of};
+    ghost use Rattle.byte_streams.specs.Limits.{read_bytes};
+    ghost use Rattle.byte_streams.specs.Reading.{Reading, WasRead};
+    ghost use Rattle.byte_streams.specs.inside.Kept.{IsKept};
+
+    ghost Value = { Reading R };
+
+    ghost view = { λ l. record {
+      first = l.first.value;
+      answers = l.history.answers;
+      place = length (bytes_of l.history.answers) - length l.window.kept;
+      line = l.window.line;
+      fault = l.fault;
+    } };
+
+    ghost invariant = { λ l. (vec_len l.chunk ≡ read_bytes)
+        × IsKept l.history.answers l.window.kept l.reads l.fault
+        × WasRead R.answers R.remaining l.first.value l.reader l.history.answers
+        × (R.lender l.reader ≡ R.lender l.first.value) };
+}
+
+impl<R: Source> Lines<R> {
+    ghost use Rattle.byte_streams.specs.Giving.{GivesNext};
+    ghost use Rattle.byte_streams.specs.contracts.lines.Lines.{the_row};
+
+    /// The lines of what the source gives from here on.
+    pub fn over(alloc: Global, reader: R) -> Result<Lines<R>, AllocError>
+    where
+        R: Drop,
+        ensures { IfOk result (λ lines. lines ≡ record { first = reader; answers = []; place = 0; line = []; fault = None }) }
+    {
+        let chunk = vec![in alloc; 0; READ_BYTES]?;
+        Ok(Lines {
+            first: Snapshot::of(&reader),
+            reader,
+            window: Window::new(alloc),
+            chunk,
+            reads: 0,
+            fault: None,
+            history: History::new(),
+        })
+    }
+
+    /// The source, without what was read of it. No read was made after the input's end.
+    pub fn into_reader(self) -> R
+        ensures read { WasRead R.answers R.remaining self.first result self.answers }
+        ensures same { R.lender result ≡ R.lender self.first }
+        ensures ends { StopsAtEnd self.answers }
+        ensures failures { failures_of self.answers ≡ failures_told self.fault }
+    {
+        self.reader
+    }
+
+    /// The allocator of the lines.
+    pub fn allocator(&self) -> Global {
+        *self.chunk.allocator()
+    }
+
+    /// The fault that it gives for good, if it had one.
+    pub fn fault(&self) -> Option<LineFault>
+        ensures { result ≡ self.now.fault }
+    {
+        self.fault
+    }
+
+    /// The line that the last call of `advance` cut, without its line end. Before the first call, and after a refused one, what it gives is left open.
+    pub fn line(&self) -> &[u8]
+        ensures { result.now ≡ self.now.line }
+    {
+        self.window.line()
+    }
+
+    /// Cuts the next line, of at most `limit` bytes without its line end. A fault is given for good.
+    pub fn advance(&mut self, limit: usize) -> Result<(), LineFault>
+        ensures { Advances limit self.old self.new result }
+    {
+        if let Some(fault) = self.fault {
+            return Err(fault);
+        }
+        let count = self.find_line(limit)?;
+        self.window.cut(count);
+        Ok(())
+    }
+
+    /// The next line, of at most `limit` bytes without its line end.
+    pub fn next_line(&mut self, limit: usize) -> Result<&[u8], LineFault>
+        ensures* after_borrow { sem 𝓛 (Rests (the_row R.row (record { answers = R.answers; lender = R.lender }) (record { remaining = R.remaining })) self.entry (λ new. GivesNext limit self.old new result)) }
+    {
+        self.advance(limit)?;
+        Ok(self.line())
+    }
+
+    // Reads until the bytes that aren't cut hold the next line, and tells its length.
+    fn find_line(&mut self, limit: usize) -> Result<usize, LineFault>
+        requires going { self.old.fault ≡ None }
+        ensures reads { ReadsWhile (NoLineYet limit self.old.place) self.old self.new }
+        ensures place { self.new.place ≡ self.old.place }
+        ensures length { IfOk result (λ count. line_length limit (uncut self.new) ≡ Some count) }
+        ensures tells { IfErr result (λ fault. StopsLine fault (cut limit (uncut self.new) (ending_of self.new.answers))) }
+        ensures fault { MatchResult result (λ _. self.new.fault ≡ None) (λ fault. self.new.fault ≡ Some fault) }
+    {
+        let mut scanned = 0;
+        loop {
+            if let Some(count) = line_feed_from(self.window.kept(), scanned, limit) {
+                return Ok(count);
+            }
+            scanned = self.window.kept().len();
+            if scanned > limit {
+                return Err(keep(&mut self.fault, LineFault::LineTooLong));
+            }
+            self.fill()?;
+        }
+    }
+
+    // One read more, behind the bytes that aren't cut.
+    fn fill(&mut self) -> Result<(), LineFault>
+        requires going { self.old.fault ≡ None }
+        ensures reads { ReadsWhile (λ answers. answers ≡ self.old.answers) self.old self.new }
+        ensures place { self.new.place ≡ self.old.place }
+        ensures grows { OnOk result (length self.old.answers < length self.new.answers) }
+        ensures ends { IfErr result (λ fault. (input self.new ≡ input self.old) × EndsAs fault (ending_of self.new.answers)) }
+        ensures fault { MatchResult result (λ _. self.new.fault ≡ None) (λ fault. self.new.fault ≡ Some fault) }
+    {
+        if self.reads == MAX_READS {
+            return Err(keep(&mut self.fault, LineFault::TooManyReads));
+        }
+        if let Err(_) = self.window.reserve(READ_BYTES) {
+            return Err(keep(&mut self.fault, LineFault::NoMemory));
+        }
+        self.reads += 1;
+        match self.reader.draw(&mut self.chunk) {
+            Ok(0) => {
+                self.history.moved(&[]);
+                Err(keep(&mut self.fault, LineFault::Truncated))
+            }
+            Ok(count) => {
+                let more = &self.chunk[..count];
+                self.history.moved(more);
+                self.window.append(more);
+                Ok(())
+            }
+            Err(_) => {
+                self.history.failed();
+                Err(keep(&mut self.fault, LineFault::ReadFailed))
+            }
+        }
+    }
+}
+
+// Keeps a fault, and gives it.
+fn keep(place: &mut Option<LineFault>, fault: LineFault) -> LineFault
+    ensures kept { place.new ≡ Some fault }
+    ensures given { result ≡ fault }
+{
+    *place = Some(fault);
+    fault
+}
+
+// Where the line ends, if the bytes hold its end. None ends it in the first `from` bytes.
+fn line_feed_from(bytes: &[u8], from: usize, limit: usize) -> Option<usize>
+    requires within { from ≤ length bytes.now }
+    requires below { from ≤ limit }
+    requires none_before { position is_line_feed (take from bytes.now) ≡ None }
+    ensures length { result ≡ line_length limit bytes.now }
+    ensures within { IfSome result (λ count. count < length bytes.now) }
+    ensures short { IfSome result (λ count. count ≤ limit) }
+{
+    match line_feed(&bytes[from..]) {
+        Some(count) if count <= limit - from => Some(from + count),
+        _ => None,
+    }
+}
+
+// Where the first line feed stands.
+fn line_feed(bytes: &[u8]) -> Option<usize>
+    ensures { result ≡ position is_line_feed bytes.now }
+{
+    bytes.iter().position(|byte| *byte == b'\n')
+}

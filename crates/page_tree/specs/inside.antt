@@ -1,0 +1,2 @@
+pub mod TreeCode
+pub mod Walk

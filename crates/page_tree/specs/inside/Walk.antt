@@ -1,0 +1,92 @@
+-- The course of the two walks in the code: the tree or the first fault, with the number of nodes up to there. `proofs/ValueLaws` and `TreeLaws` tie
+-- them to the first fault in document order, and to the tree that a value stands for.
+use Rattle.std.specs.Prelude.{ℕ, zero, suc, ◌-◌, List, [], ◌∷◌, map, if◌then◌else◌, nat_lt, Option, Some, None, ok_or, option_and_then, Result, Ok, Err, Vec}
+use Rattle.std.specs.declared.alloc.Global.{Global}
+use Rattle.serde_json.specs.Data.{Data, string, object, Items, no_items, item}
+use Rattle.serde_json.specs.Find.{as_object}
+use Rattle.page_tree.specs.Name.{is_name}
+use Rattle.page_tree.specs.Tree.{Attribute, Tree, element, words, Trees, no_trees, tree}
+use Rattle.page_tree.specs.Seen.{trees_of, seen}
+use Rattle.page_tree.specs.Limits.{max_depth, max_nodes, names_of, is_ascending}
+use Rattle.page_tree.specs.Value.{name_in, attributes_in, children_in}
+use Rattle.page_tree.specs.FirstFault.{◌>>=◌}
+use Rattle.page_tree.specs.declared.tree.Tree as code
+use Rattle.page_tree.specs.declared.fault.PageFault.{PageFault}
+use Rattle.page_tree.specs.declared.fault.PageFault.TheVariants.{NotAnElement, BadName, BadAttribute, BadChildren, TooDeep, TooMany}
+
+-- ---- over a value
+
+abbrev pub if_name : List ℕ → Option (List ℕ)
+if_name name = if is_name name then Some name else None
+
+abbrev pub if_ascending : List Attribute → Option (List Attribute)
+if_ascending attributes = if is_ascending (names_of attributes) then Some attributes else None
+
+abbrev pub Walk : Type 0
+Walk = ℕ → Data → Result (Tree × ℕ) PageFault
+
+abbrev pub walk_all : Walk → ℕ → Items → Result (List Tree × ℕ) PageFault
+walk_all one before no_items = Ok ([], before)
+walk_all one before (item d ds) = one before d >>= λ t. walk_all one t.1 ds >>= λ ts. Ok (t.0 ∷ ts.0, ts.1)
+
+abbrev pub walk_children : Walk → ℕ → Data → Result (List Tree × ℕ) PageFault
+walk_children below before d = ok_or (children_in d) BadChildren >>= λ ds. walk_all below before ds
+
+abbrev pub walk_element : Walk → Walk
+walk_element below before d =
+    ok_or (option_and_then if_name (name_in d)) BadName >>= λ name.
+    ok_or (option_and_then if_ascending (attributes_in d)) BadAttribute >>= λ attributes.
+    walk_children below (suc before) d >>= λ ts.
+    Ok (element name attributes (trees_of ts.0), ts.1)
+
+abbrev pub walk_kind : Walk → Walk
+walk_kind on_object before (string text) = Ok (words text, suc before)
+walk_kind on_object before (object ms) = on_object before (object ms)
+walk_kind on_object before other = Err BadChildren
+
+abbrev pub walk_node : Walk → Walk
+walk_node on_object before d = if nat_lt before max_nodes then walk_kind on_object before d else Err TooMany
+
+abbrev pub too_deep : Walk
+too_deep before d = Err TooDeep
+
+-- an object for which so many levels of elements are left
+unfoldable pub walk_object : ℕ → Walk
+walk_object zero = too_deep
+walk_object (suc levels) = walk_element (walk_node (walk_object levels))
+
+abbrev pub walk : ℕ → Walk
+walk levels = walk_node (walk_object levels)
+
+abbrev pub walk_page : Data → Result Tree PageFault
+walk_page d = ok_or (as_object d) NotAnElement >>= λ ms. walk max_depth 0 d >>= λ t. Ok t.0
+
+-- ---- over a tree
+
+abbrev mutual
+  pub inspect : ℕ → ℕ → Tree → Result ℕ PageFault
+  inspect levels before (words text) = if nat_lt before max_nodes then Ok (suc before) else Err TooMany
+  inspect levels before (element name attributes children) =
+      if nat_lt before max_nodes then
+      (if nat_lt 0 levels then
+      (if is_name name then
+      (if is_ascending (names_of attributes) then inspect_all (levels - 1) (suc before) children else Err BadAttribute)
+      else Err BadName)
+      else Err TooDeep)
+      else Err TooMany
+
+  pub inspect_all : ℕ → ℕ → Trees → Result ℕ PageFault
+  inspect_all levels before no_trees = Ok before
+  inspect_all levels before (tree t ts) = inspect levels before t >>= λ n. inspect_all levels n ts
+
+abbrev pub inspect_page : Tree → Result ℕ PageFault
+inspect_page (words text) = Err NotAnElement
+inspect_page (element name attributes children) = inspect max_depth 0 (element name attributes children)
+
+-- ---- what the code gives: a tree, or trees, beside the number of nodes up to there
+
+abbrev pub seen_and_count : code.Tree × ℕ → Tree × ℕ
+seen_and_count r = (seen r.0, r.1)
+
+abbrev pub all_seen_and_count : Vec code.Tree Global × ℕ → List Tree × ℕ
+all_seen_and_count r = (map seen r.0.items, r.1)

@@ -1,0 +1,6 @@
+pub mod Counting
+pub mod Ended
+pub mod Greeted
+pub mod Taken
+pub mod Text
+pub mod Unread

@@ -1,0 +1,3 @@
+pub mod FieldsNow
+pub mod KeptFields
+pub mod OneEvent

@@ -1,0 +1,5 @@
+pub mod SiteMembers
+pub mod Gathering
+pub mod ReplayedVisits
+pub mod Intake
+pub mod Running

@@ -1,0 +1,74 @@
+-- What reading the site line and the lane behind it gives.
+use Rattle.std.specs.Prelude.{◌≡◌, ℕ, ◌+◌, List, [], length, Option, None, Result, Ok, Err}
+use Rattle.byte_streams.specs.Answers.{Answer}
+use Rattle.byte_streams.specs.Cutting.{ending_of}
+use Rattle.byte_streams.specs.Reading.{Reading, input}
+use Rattle.byte_streams.specs.declared.fault.LineFault.{LineFault}
+use Rattle.byte_streams.specs.declared.fault.LineFault.TheVariants as line_fault
+use Rattle.upload_reader.specs.declared.hello_fault.HelloFault.{HelloFault}
+use Rattle.upload_reader.specs.declared.hello_fault.HelloFault.TheVariants as hello_fault
+use Rattle.warp_server.specs.Site.{Site as PlainSite}
+use Rattle.warp_server.specs.SiteReading.{Stands, site_quota}
+use Rattle.warp_server.specs.Run.{HasBadSite, HasBadHello, HasFailedRead, HasSite, Opening, OpensBy, lane_behind, lane_place, Reads}
+use Rattle.warp_server.specs.inside.Gathering.{Records}
+use Rattle.warp_server.specs.declared.gathering.Gathered.{Gathered}
+use Rattle.warp_server.specs.declared.site.Site.{Site}
+use Rattle.warp_server.specs.declared.site_fault.SiteFault.{SiteFault}
+use Rattle.warp_server.specs.declared.site_fault.SiteFault.TheVariants as site_fault
+use Rattle.warp_server.specs.declared.intake.Refused.{Refused}
+use Rattle.warp_server.specs.declared.intake.Refused.TheVariants.{ReadFailed, NoSite, NoHello, NoMemory}
+
+-- lines of which nothing was read yet
+pub record IsFresh {R : Type 0} (lines : Reading R) : Type 0 where
+  pub answers : lines.answers ≡ []
+  pub place : lines.place ≡ 0
+  pub fault : lines.fault ≡ None
+
+-- the last line is the site line, and this is the site that it says
+pub record IsBehindSite {R : Type 0} (lines : Reading R) (site : Site) : Type 0 where
+  pub plain : PlainSite
+  pub site_is : HasSite (input lines) (ending_of lines.answers) lines.line plain
+  pub stands : Stands site plain
+  pub place : lines.place ≡ length lines.line + 1
+  pub fault : lines.fault ≡ None
+
+-- what was taken of the lane behind the site line, under the site's quota
+pub record HasGathered (input : List ℕ) (ending : Option LineFault) (site : Site) (gathered : Gathered) : Type 0 where
+  pub opening : Opening
+  pub opens : OpensBy input ending opening
+  pub stands : Stands site opening.site
+  pub client : gathered.log.client ≡ opening.client
+  pub records : Records (lane_behind opening) (lane_place opening input) input ending (site_quota site) gathered.log.log gathered.taken gathered.stopped
+
+-- why there is nothing to report
+abbrev pub IsRefused : Refused → List ℕ → Option LineFault → Type 0
+IsRefused ReadFailed input ending = HasFailedRead input ending
+IsRefused NoSite input ending = HasBadSite input ending
+IsRefused NoHello input ending = HasBadHello input ending
+IsRefused NoMemory input ending = Unit {0}
+
+module _ (reads reads' : List Answer) (left left' : Option (List ℕ)) where
+  abbrev pub Intakes : Result (Site × Gathered) Refused → Type 0
+  Intakes (Ok both) = Reads reads reads' left left' (λ input ending. HasGathered input ending both.0 both.1)
+  Intakes (Err NoMemory) = Unit {0}
+  Intakes (Err refused) = Reads reads reads' left left' (IsRefused refused)
+
+-- ---- what a fault of a line, of a site or of a hello means here
+
+abbrev pub no_site : LineFault → Refused
+no_site line_fault.ReadFailed = ReadFailed
+no_site line_fault.TooManyReads = NoSite
+no_site line_fault.Truncated = NoSite
+no_site line_fault.LineTooLong = NoSite
+no_site line_fault.NoMemory = NoMemory
+
+abbrev pub bad_site : SiteFault → Refused
+bad_site site_fault.NotJson = NoSite
+bad_site site_fault.BadMember = NoSite
+bad_site site_fault.NoMemory = NoMemory
+
+abbrev pub no_hello : HelloFault → Refused
+no_hello hello_fault.BadClient = NoHello
+no_hello hello_fault.NoHello = NoHello
+no_hello (hello_fault.Line line fault) = NoHello
+no_hello hello_fault.NoMemory = NoMemory
