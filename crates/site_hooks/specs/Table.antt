@@ -1,6 +1,7 @@
 -- What clauses see of a Table, and its law: this project's own rule.
-use Rattle.std.specs.Prelude.{ℕ, List, Bool, true, false, not, Option, Some, None, option_map}
+use Rattle.std.specs.Prelude.{ℕ, List, Bool, not, Option, option_map}
 use Rattle.std.specs.List.{list_any}
+use Rattle.std.specs.Option.{option_eq}
 use Rattle.std.specs.BTreeMap.{get_by_text}
 use Rattle.std.specs.Str.{bytes_eq}
 use Rattle.page_tree.specs.Tree.{Tree}
@@ -21,14 +22,9 @@ watched_in table = table.watched.items
 abbrev pub watched_text : Tree → List Step → Option (List ℕ)
 watched_text page path = option_map (λ place. text_at place page) (only_place (target_in path page))
 
--- equal texts, or none twice; none differs from every text, the empty one too
-abbrev pub is_same_text : Option (List ℕ) → Option (List ℕ) → Bool
-is_same_text None None = true
-is_same_text (Some a) (Some b) = bytes_eq a b
-is_same_text one other = false
-
+-- whether it has another text on one page than on the other; none is the same as none, and another than every text, the empty one too
 abbrev pub is_changed : Tree → Tree → List Step → Bool
-is_changed old new path = not (is_same_text (watched_text old path) (watched_text new path))
+is_changed old new path = not (option_eq bytes_eq (watched_text old path) (watched_text new path))
 
 -- some watched path has another text on the old page than on the new
 abbrev pub signals_in : Table → Tree → Tree → Bool

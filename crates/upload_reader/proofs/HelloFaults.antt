@@ -1,10 +1,10 @@
 -- What a hello's line has wrong leaves its lines with no fault.
-use Rattle.std.proofs.Common.{ℕ, List, Bool, true, false, if◌then◌else◌, Option, Some, None, Result, Ok, Err, inl, refl, codes}
+use Rattle.std.proofs.Common.{◌≡◌, ℕ, List, Bool, true, false, if◌then◌else◌, Option, Some, None, Result, Ok, Err, inl, refl, codes}
 use Rattle.std.specs.Result.{IfErr}
 use Rattle.serde_json.specs.Data.{Data}
 use Rattle.upload_reader.specs.Client.{is_client}
-use Rattle.upload_reader.specs.Hello.{is_hello, client_said, greeting_said, hello_by, hello_said}
-use Rattle.upload_reader.specs.Member.{text_in, or_not_json, value_in}
+use Rattle.upload_reader.specs.Hello.{is_hello, client_said, greeting_said, hello_said}
+use Rattle.upload_reader.specs.Member.{text_in, value_in}
 use Rattle.upload_reader.specs.Upload.{LeavesFault}
 use Rattle.upload_reader.specs.inside.Greeted.{SaysHello}
 use Rattle.upload_reader.specs.declared.hello_fault.HelloFault.{HelloFault}
@@ -29,15 +29,12 @@ greeting_calm : (d : Data) → Calm (greeting_said d)
 unfolding greeting_said
 greeting_calm d = by_type (is_hello (text_in (codes "t") d)) (client_said (text_in (codes "client") d)) (said (text_in (codes "client") d))
 
-by_json : (number : ℕ) (o : Option Data) → Calm (hello_by number (or_not_json o))
-by_json number None = refl
-by_json number (Some d) = greeting_calm d
-
-hello_calm : (number : ℕ) (line : List ℕ) → Calm (hello_said number line)
-hello_calm number line = by_json number (value_in line)
+hello_calm : (number : ℕ) (line : List ℕ) (o : Option Data) → value_in line ≡ o → Calm (hello_said number line)
+hello_calm number line None is = rw is refl
+hello_calm number line (Some d) is = rw is (greeting_calm d)
 
 pub leaves_none : (number : ℕ) (line : List ℕ) (fault : HelloFault) → SaysHello (Err fault) (hello_said number line) → LeavesFault fault None
 leaves_none number line BadClient says = refl
 leaves_none number line NoHello says = refl
 leaves_none number line NoMemory says = inl refl
-leaves_none number line (Line at kind) says = rw says at (hello_calm number line)
+leaves_none number line (Line at kind) says = rw says at (hello_calm number line (value_in line) refl)

@@ -1,6 +1,6 @@
 -- A message that a line says has a cost and the number of a visit, both at least 1.
 use Rattle.std.proofs.Common.{◌≡◌, ℕ, ◌≤◌, List, [], ◌∷◌, length, codes, Bool, true, false, ◌&&◌, nat_le, if◌then◌else◌, Option, Some, None, option_and_then, Result, Ok, Err, refl, ap, ◌∙◌, arith}
-use Rattle.std.specs.Option.{IfSome}
+use Rattle.std.specs.Option.{ok_or}
 use Rattle.std.specs.Result.{IfOk}
 use Rattle.std.proofs.lemmas.Bool.Decides.{nat_tests}
 use Rattle.std.proofs.lemmas.Result.{IfOk-at_ok}
@@ -8,35 +8,32 @@ use Rattle.serde_json.specs.Data.{Data}
 use Rattle.serde_json.specs.Find.{get, as_number, as_u64}
 use Rattle.upload_reader.specs.Limits.{max_number}
 use Rattle.page_tree.specs.FirstFault.{◌>>=◌}
-use Rattle.upload_reader.specs.Member.{or_bad, if_within, number_in, json_said}
+use Rattle.upload_reader.specs.Member.{if_within, number_in, json_said}
 use Rattle.upload_reader.specs.Message.{visit_in, load_in, input_in, click_in, submit_in, ended_in, says, kind_said, value_said, is_blank, line_said}
 use Rattle.upload_reader.specs.Positive.{IsPositive}
 use Rattle.upload_reader.specs.declared.lane_fault.LaneFault.{LaneFault}
+use Rattle.upload_reader.specs.declared.lane_fault.LaneFault.TheVariants.{BadMessage}
 use Rattle.upload_reader.specs.declared.line.Line.{Line}
 use Rattle.upload_reader.specs.declared.line.Line.TheVariants.{Says, Bye}
 use Rattle.upload_reader.specs.declared.message.Message.{Message}
 
 -- ---- the number of a visit
 
-if_least : (test : Bool) (least n : ℕ) → (test ≡ true → least ≤ n) → IfSome (if test then Some n else None) (λ v. least ≤ v)
+if_least : (test : Bool) (least n : ℕ) → (test ≡ true → least ≤ n) → IfOk (ok_or (if test then Some n else None) BadMessage) (λ v. least ≤ v)
 if_least true least n within = within refl
 if_least false least n within = tt
 
-within_least : (least n : ℕ) → IfSome (if_within least n) (λ v. least ≤ v)
+within_least : (least n : ℕ) → IfOk (ok_or (if_within least n) BadMessage) (λ v. least ≤ v)
 within_least least n = if_least (nat_le least n && nat_le n max_number) least n (λ within. grind (arith, nat_tests))
 
-of_least : (least : ℕ) (o : Option ℕ) → IfSome (option_and_then (if_within least) o) (λ v. least ≤ v)
+of_least : (least : ℕ) (o : Option ℕ) → IfOk (ok_or (option_and_then (if_within least) o) BadMessage) (λ v. least ≤ v)
 of_least least None = tt
 of_least least (Some n) = within_least least n
 
-number_least : (least : ℕ) (o : Option Data) → IfOk (or_bad (option_and_then (number_in least) o)) (λ v. least ≤ v)
+number_least : (least : ℕ) (o : Option Data) → IfOk (ok_or (option_and_then (number_in least) o) BadMessage) (λ v. least ≤ v)
 unfolding number_in
 number_least least None = tt
-number_least least (Some d) = or_bad_least (option_and_then (if_within least) (option_and_then as_u64 (as_number d))) (of_least least (option_and_then as_u64 (as_number d)))
-  where
-    or_bad_least : (o : Option ℕ) → IfSome o (λ v. least ≤ v) → IfOk (or_bad o) (λ v. least ≤ v)
-    or_bad_least None is = tt
-    or_bad_least (Some v) is = is
+number_least least (Some d) = of_least least (option_and_then as_u64 (as_number d))
 
 -- ---- the message of a line
 
