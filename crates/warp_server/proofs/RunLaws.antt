@@ -1,5 +1,5 @@
 -- What a run does, by what was read and written.
-use Rattle.std.proofs.Common.{◌≡◌, ℕ, List, [], ◌∷◌, length, map, Bool, if◌then◌else◌, Option, refl, ◌∙◌, ap, inl, inr}
+use Rattle.std.proofs.Common.{◌≡◌, ℕ, List, [], ◌∷◌, length, map, Bool, if◌then◌else◌, Option, refl, ◌∙◌, ap, inl, inr, ◌⊎◌}
 use Rattle.std.specs.List.{list_any}
 use Rattle.byte_streams.specs.Answers.{Answer, bytes_of}
 use Rattle.byte_streams.specs.Cutting.{ending_of}
@@ -21,7 +21,7 @@ use Rattle.warp_server.specs.Report.{Stop, none, End, over, visit_report, report
 use Rattle.warp_server.specs.inside.ReplayedVisits.{replayed_by, report_of_visit}
 use Rattle.warp_server.specs.inside.Gathering.{stop_of, end_of}
 use Rattle.warp_server.specs.inside.Intake.{HasGathered}
-use Rattle.warp_server.specs.Run.{report_of, visit_of, IsReportOf, HasReport, HasShortReport, HasAnyReport, IsShort, Reads, Writes, WritesPart, Meets}
+use Rattle.warp_server.specs.Run.{report_of, visit_of, IsReportOf, HasReport, HasShortReport, IsShort, Reads, Writes, WritesPart, Meets}
 use Rattle.warp_server.specs.inside.Running.{lane_report, status_of}
 use Rattle.byte_streams.specs.Writing.{Takes, TakesPart}
 use Rattle.warp_server.specs.declared.gathering.Gathered.{Gathered}
@@ -89,7 +89,7 @@ module _ (input : List ℕ) (ending : Option LineFault) (site : Site) (gathered 
     first = held.records.first;
   }
 
-  any_by : (why : Stopped) → gathered.stopped ≡ why → HasAnyReport input ending text
+  any_by : (why : Stopped) → gathered.stopped ≡ why → HasReport input ending text ⊎ HasShortReport input ending text
   any_by (stopped.Over end) is = inl (whole end is)
   any_by stopped.GaveUp is = inr (short (rw is (inl (refl, refl))))
   any_by stopped.Memory is = inr (short (rw is (inr (refl, refl))))

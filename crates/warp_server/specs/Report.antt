@@ -1,6 +1,6 @@
 -- The text of a report: this project's own format.
-use Rattle.std.specs.Prelude.{ℕ, List, [], ◌∷◌, ◌++◌, Option, Some, None, codes, decimal}
-use Rattle.std.specs.List.{flat_map}
+use Rattle.std.specs.Prelude.{ℕ, List, [], ◌∷◌, ◌++◌, codes, decimal}
+use Rattle.std.specs.List.{flat_map, join_with_byte}
 use Rattle.serde_json.specs.Data.{string}
 use Rattle.serde_json.specs.Written.{compact_text}
 use Rattle.upload_reader.specs.LaneFaultCode.{lane_fault_code}
@@ -19,7 +19,6 @@ use Rattle.visit_replay.specs.declared.outcome.Outcome.TheVariants.{Untouched, D
 -- why recording stopped
 pub data Stop : Type 0 where
   none : Stop
-  asked : Stop
   memory : Stop
 
 -- how a lane ended, if it did
@@ -33,18 +32,6 @@ pub data Standing : Type 0 where
   untouched : Standing
   done : Standing
   waiting : ConflictKind → ℕ → Standing
-  upheld : ConflictKind → ℕ → Standing
-  cancelled : ConflictKind → ℕ → Standing
-
-pub data Choice : Type 0 where
-  cancel : Choice
-  keep : Choice
-
--- what a decision was answered; where it wasn't the front's, with the front
-pub data DecisionAnswer : Type 0 where
-  accepted : DecisionAnswer
-  no_client : DecisionAnswer
-  not_front : Option ℕ → DecisionAnswer
 
 pub record VisitReport : Type 0 where
   pub number : ℕ
@@ -59,33 +46,19 @@ pub record ClientReport : Type 0 where
   pub lost : ℕ
   pub visits : List VisitReport
 
-pub record Decision : Type 0 where
-  pub client : List ℕ
-  pub visit : ℕ
-  pub choice : Choice
-  pub answer : DecisionAnswer
-
 pub record Report : Type 0 where
   pub stop : Stop
   pub clients : List ClientReport
-  pub decisions : List Decision
 
 -- ---- words
 
 -- words parted by one space, and the line's end
 abbrev pub line : List (List ℕ) → List ℕ
-line [] = 10 ∷ []
-line (word ∷ []) = word ++ 10 ∷ []
-line (word ∷ next ∷ rest) = word ++ 32 ∷ line (next ∷ rest)
+line words = join_with_byte 32 words ++ 10 ∷ []
 
 -- the text as a JSON string (RFC 8259, section 7), as `serde_json` writes it
 abbrev pub quoted : List ℕ → List ℕ
 quoted text = compact_text (string text)
-
-abbrev pub stop_word : Stop → List ℕ
-stop_word none = codes "none"
-stop_word asked = codes "asked"
-stop_word memory = codes "memory"
 
 -- a fault stands at a line
 abbrev pub lane_word : LaneEnd → List ℕ
@@ -97,30 +70,16 @@ end_word not_yet = codes "none"
 end_word (over end) = lane_word end
 end_word gave_up = codes "gaveup"
 
-abbrev pub conflict_words : ConflictKind → ℕ → List (List ℕ)
-conflict_words kind at = conflict_code kind ∷ codes "at" ∷ decimal at ∷ []
-
 abbrev pub standing_words : Standing → List (List ℕ)
 standing_words untouched = codes "untouched" ∷ []
 standing_words done = codes "done" ∷ []
-standing_words (waiting kind at) = codes "waiting" ∷ conflict_words kind at
-standing_words (upheld kind at) = codes "kept" ∷ conflict_words kind at
-standing_words (cancelled kind at) = codes "cancelled" ∷ conflict_words kind at
-
-abbrev pub choice_word : Choice → List ℕ
-choice_word cancel = codes "cancel"
-choice_word keep = codes "keep"
-
-abbrev pub answer_words : DecisionAnswer → List (List ℕ)
-answer_words accepted = codes "ok" ∷ []
-answer_words no_client = codes "C1" ∷ []
-answer_words (not_front None) = codes "C2" ∷ codes "front" ∷ codes "none" ∷ []
-answer_words (not_front (Some visit)) = codes "C2" ∷ codes "front" ∷ decimal visit ∷ []
+standing_words (waiting kind at) = codes "waiting" ∷ conflict_code kind ∷ codes "at" ∷ decimal at ∷ []
 
 -- ---- lines
 
 abbrev pub stop_line : Stop → List ℕ
-stop_line stop = line (codes "stop" ∷ stop_word stop ∷ [])
+stop_line none = line (codes "stop" ∷ codes "none" ∷ [])
+stop_line memory = line (codes "stop" ∷ codes "memory" ∷ [])
 
 abbrev pub client_line : ClientReport → List ℕ
 client_line c =
@@ -138,9 +97,6 @@ request_words Post number address pairs = codes "post" ∷ number ∷ address �
 abbrev pub request_line : Request → List ℕ
 request_line r = line (request_words r.method (decimal r.number) (quoted r.address) (quoted r.pairs))
 
-abbrev pub decision_line : Decision → List ℕ
-decision_line d = line (codes "decide" ∷ d.client ∷ decimal d.visit ∷ choice_word d.choice ∷ answer_words d.answer)
-
 -- ---- the whole text
 
 -- each visit's line stands before those of its requests, each client's before those of its visits
@@ -151,9 +107,9 @@ abbrev pub client_text : ClientReport → List ℕ
 client_text c = client_line c ++ flat_map visit_text c.visits
 
 abbrev pub report_text : Report → List ℕ
-report_text r = stop_line r.stop ++ (flat_map client_text r.clients ++ flat_map decision_line r.decisions)
+report_text r = stop_line r.stop ++ flat_map client_text r.clients
 
--- ---- the report of an outcome that nobody decided on
+-- ---- the report of an outcome
 
 abbrev pub standing_of : Outcome → Standing
 standing_of Untouched = untouched

@@ -33,7 +33,7 @@ client_of site client taken end log =
 -- of the messages the log keeps what the site's quota leaves
 abbrev pub report_of : Site → Stop → List ℕ → List Costed → End → Report
 report_of site stop client messages end =
-    record { stop = stop; clients = client_of site client (length messages) end (kept site.quota messages) ∷ []; decisions = [] }
+    record { stop = stop; clients = client_of site client (length messages) end (kept site.quota messages) ∷ [] }
 
 -- ---- the site line
 
@@ -136,9 +136,6 @@ pub record HasShortReport (input : List ℕ) (ending : Option LineFault) (text :
   pub report : IsReportOf input ending stop messages end text
   pub first : AreFirst (lane_behind report.opening) (lane_place report.opening input) input messages
 
-abbrev pub HasAnyReport : List ℕ → Option LineFault → List ℕ → Type 0
-HasAnyReport input ending text = HasReport input ending text ⊎ HasShortReport input ending text
-
 -- ---- what a run does
 
 -- of these bytes, of which more may come, there is nothing to answer yet: no report and no refusal
@@ -169,9 +166,9 @@ pub record WritesNothing (puts puts' : List Answer) (contents contents' : Option
 abbrev pub Writes : List Answer → List Answer → Option (List ℕ) → Option (List ℕ) → (List ℕ → Option LineFault → List ℕ → Type 0) → List ℕ → Option LineFault → Type 0
 Writes puts puts' contents contents' Has input ending = (text : List ℕ) × Has input ending text × Takes puts puts' contents contents' text 0
 
--- a part from its front was written, and then a write failed or took nothing
+-- a part from the front of either report was written, and then a write failed or took nothing
 abbrev pub WritesPart : List Answer → List Answer → Option (List ℕ) → Option (List ℕ) → List ℕ → Option LineFault → Type 0
-WritesPart puts puts' contents contents' input ending = (text : List ℕ) × HasAnyReport input ending text × TakesPart puts puts' contents contents' text
+WritesPart puts puts' contents contents' input ending = (text : List ℕ) × (HasReport input ending text ⊎ HasShortReport input ending text) × TakesPart puts puts' contents contents' text
 
 module _ (reads reads' : List Answer) (left left' : Option (List ℕ)) (puts puts' : List Answer) (contents contents' : Option (List ℕ)) where
   abbrev pub Meets : Status → Type 0

@@ -56,9 +56,8 @@ has_later_member d = is_some (get (codes "decide") d) || is_some (get (codes "wo
 -- each member's value stands for the page at its name
 abbrev pub HoldPages : Members → List Entry → Type 0
 HoldPages no_members [] = Unit {0}
-HoldPages no_members (entry ∷ entries) = ⊥
-HoldPages (member address d ms) [] = ⊥
 HoldPages (member address d ms) (entry ∷ entries) = (entry.0 ≡ address) × IsPageOf d entry.1 × HoldPages ms entries
+HoldPages _ _ = ⊥
 
 -- each text is that of the path
 abbrev pub ArePaths : List (List ℕ) → List (List Step) → Type 0

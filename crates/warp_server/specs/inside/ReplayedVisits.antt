@@ -17,4 +17,4 @@ report_of_visit replayed = visit_report replayed.visit replayed.outcome
 -- the report on one client whose visits were replayed so
 abbrev pub report_of_lane : Stop → List ℕ → ℕ → End → Log → List Replayed → Report
 report_of_lane stop client taken end log replayed =
-    record { stop = stop; clients = record { client = client; taken = taken; end = end; cost = cost_of log.visits; lost = log.lost; visits = map report_of_visit replayed } ∷ []; decisions = [] }
+    record { stop = stop; clients = record { client = client; taken = taken; end = end; cost = cost_of log.visits; lost = log.lost; visits = map report_of_visit replayed } ∷ [] }
