@@ -2,7 +2,6 @@
 use Rattle.std.proofs.Common.{◌≡◌, ℕ, List, [], ◌∷◌, map, true, Option, Some, None, option_map, option_and_then, codes, String, Global, Less, string_bytes, string_cmp, nat_cmp, refl, sym, ◌∙◌, ap, Ok}
 use Rattle.std.specs.Option.{ok_or}
 use Rattle.std.specs.Cmp.Lexicographic.{slice_cmp}
-use Rattle.std.specs.List.{AllByRecursion}
 use Rattle.std.specs.List.Sorted.{IsStrictlySortedBy}
 use Rattle.std.specs.Map.{keys_of}
 use Rattle.serde_json.specs.Data.{Data}
@@ -10,7 +9,7 @@ use Rattle.serde_json.specs.Find.{get, as_str, as_object}
 use Rattle.serde_json.specs.View.{view, members_view}
 use Rattle.serde_json.specs.declared.value.Value.{Value}
 use Rattle.page_tree.specs.Tree.{Attribute}
-use Rattle.page_tree.specs.Limits.{names_of, is_ascending, is_below_first}
+use Rattle.page_tree.specs.Limits.{names_of, is_ascending}
 use Rattle.page_tree.specs.Value.{texts_of, attributes_in}
 use Rattle.page_tree.specs.inside.Walk.{if_ascending}
 use Rattle.page_tree.specs.declared.fault.PageFault.TheVariants.{BadAttribute}
@@ -34,14 +33,13 @@ names-texts_of [] found is =
 names-texts_of (e ∷ es) found is =
     names_of-next e es found (as_str (view e.1)) _ refl is (λ r there. names-texts_of es r there)
 
-below_next : (k : String Global) (ks : List (String Global)) → AllByRecursion (λ y. string_cmp k y ≡ Less) ks → is_below_first (string_bytes k) (map string_bytes ks) ≡ true
-below_next k [] all = refl
-below_next k (l ∷ ks) all = let less : slice_cmp nat_cmp (string_bytes k) (string_bytes l) ≡ Less = all.0 in rw less refl
-
 ascending-sorted : (ks : List (String Global)) → IsStrictlySortedBy string_cmp ks → is_ascending (map string_bytes ks) ≡ true
 unfolding IsStrictlySortedBy
 ascending-sorted [] sorted = refl
-ascending-sorted (k ∷ ks) sorted = rw (below_next k ks sorted.0) (ascending-sorted ks sorted.1)
+ascending-sorted (k ∷ []) sorted = refl
+ascending-sorted (k ∷ l ∷ ks) sorted =
+    let less : slice_cmp nat_cmp (string_bytes k) (string_bytes l) ≡ Less = sorted.0.0 in
+    rw less (ascending-sorted (l ∷ ks) sorted.1)
 
 -- what the code has read of an object is what the definition says
 pub attributes_read : (d given : Data) (es : List Entry) (found : List Attribute) → Some given ≡ get (codes "a") d → Some (members_view es) ≡ as_object given

@@ -32,17 +32,14 @@ unfoldable pub nodes_of : ℕ → Data → List (ℕ × Data)
 nodes_of zero d = (zero, d) ∷ []
 nodes_of (suc levels) d = (suc levels, d) ∷ option_map_or (nodes_of_all (nodes_of levels)) (children_in d) []
 
-abbrev pub element_fault : ℕ → Data → Option PageFault
-element_fault levels d =
-    unless (nat_lt 0 levels) TooDeep
-    (unless (option_map_or is_name (name_in d) false) BadName
-    (unless (option_map_or (λ attributes. is_ascending (names_of attributes)) (attributes_in d) false) BadAttribute
-    (unless (is_some (children_in d)) BadChildren None)))
-
--- a node's own fault
+-- a node's own fault: a string has none, an object is to be an element, and nothing else is a node
 abbrev pub own_fault : ℕ → Data → Option PageFault
 own_fault levels (string text) = None
-own_fault levels (object ms) = element_fault levels (object ms)
+own_fault levels (object ms) =
+    unless (nat_lt 0 levels) TooDeep
+    (unless (option_map_or is_name (name_in (object ms)) false) BadName
+    (unless (option_map_or (λ attributes. is_ascending (names_of attributes)) (attributes_in (object ms)) false) BadAttribute
+    (unless (is_some (children_in (object ms))) BadChildren None)))
 own_fault levels other = Some BadChildren
 
 abbrev pub value_faults : ℕ → Data → List (Option PageFault)

@@ -1,5 +1,5 @@
 -- Which trees are pages: this project's own limits.
-use Rattle.std.specs.Prelude.{ℕ, suc, max, ◌+◌, ◌≤◌, List, [], ◌∷◌, map, Bool, true, false, ◌&&◌, IsTrue}
+use Rattle.std.specs.Prelude.{ℕ, suc, max, ◌+◌, ◌≤◌, List, ◌∷◌, map, Bool, true, false, ◌&&◌, IsTrue}
 use Rattle.std.specs.Ordering.{nat_cmp, is_lt}
 use Rattle.std.specs.Cmp.Lexicographic.{slice_cmp}
 use Rattle.page_tree.specs.Name.{is_name}
@@ -16,14 +16,10 @@ max_nodes = 4096
 abbrev pub names_of : List Attribute → List (List ℕ)
 names_of attributes = map (λ a. a.0) attributes
 
-abbrev pub is_below_first : List ℕ → List (List ℕ) → Bool
-is_below_first name [] = true
-is_below_first name (next ∷ rest) = is_lt (slice_cmp nat_cmp name next)
-
 -- each name is below the next one, in byte order
 abbrev pub is_ascending : List (List ℕ) → Bool
-is_ascending [] = true
-is_ascending (name ∷ rest) = is_below_first name rest && is_ascending rest
+is_ascending (name ∷ next ∷ rest) = is_lt (slice_cmp nat_cmp name next) && is_ascending (next ∷ rest)
+is_ascending _ = true
 
 abbrev mutual
   -- elements on the longest way down

@@ -37,9 +37,8 @@ abbrev mutual
 
   pub AllStandFor : Items → Trees → Type 0
   AllStandFor no_items no_trees = Unit {0}
-  AllStandFor no_items (tree t ts) = ⊥
-  AllStandFor (item d ds) no_trees = ⊥
   AllStandFor (item d ds) (tree t ts) = StandsFor d t × AllStandFor ds ts
+  AllStandFor _ _ = ⊥
 
 -- the value stands for the tree, and the tree is a page
 pub record IsPageOf (d : Data) (t : Tree) : Type 0 where

@@ -1,6 +1,7 @@
 -- Paths and their texts: this project's own part of the location paths of XPath 1.0, in the abbreviated syntax (sections 2 and 2.5).
-use Rattle.std.specs.Prelude.{ℕ, ◌≤◌, List, [], ◌++◌, length, IsTrue, Option, Some, None, IfSome, flat_map, codes, decimal}
+use Rattle.std.specs.Prelude.{ℕ, ◌≤◌, List, [], ◌++◌, length, IsTrue, Option, IfSome, flat_map, codes, decimal}
 use Rattle.std.specs.List.{AllByRecursion}
+use Rattle.std.specs.Option.{option_map_or}
 use Rattle.page_tree.specs.Name.{is_name}
 
 -- A node test (section 2.3): `*` is every element, a name is the elements of that name.
@@ -42,8 +43,7 @@ test_text any = codes "*"
 test_text (named name) = name
 
 abbrev pub index_text : Option ℕ → List ℕ
-index_text None = []
-index_text (Some n) = codes "[" ++ decimal n ++ codes "]"
+index_text index = option_map_or (λ n. codes "[" ++ decimal n ++ codes "]") index []
 
 abbrev pub step_text : Step → List ℕ
 step_text step = test_text step.test ++ index_text step.index

@@ -1,7 +1,6 @@
 -- Which places of a page a path reaches, and its target (XPath 1.0, sections 2 to 2.4). A page is known here by its public words alone: the
 -- name of the element at a place, and how many children stand there.
-use Rattle.std.specs.Prelude.{◌≡◌, ◌≢◌, ℕ, suc, List, [], ◌∷◌, ◌++◌, Bool, true, false, IsTrue, Option, IfSome, count_by}
-use Rattle.std.specs.Option.{option_map_or}
+use Rattle.std.specs.Prelude.{◌≡◌, ◌≢◌, ℕ, suc, List, [], ◌∷◌, ◌++◌, Bool, true, false, IsTrue, Option, Some, None, IfSome, count_by}
 use Rattle.std.specs.List.{range_with_len}
 use Rattle.std.specs.Str.{bytes_eq}
 use Rattle.page_tree.specs.Tree.{Tree}
@@ -12,14 +11,11 @@ use Rattle.xpath_child.specs.declared.target.Target.TheVariants.{Missing, One, S
 
 -- ---- one step
 
--- section 2.3: the principal node type of the child axis is element, and names are compared exactly
-abbrev pub matches_name : Test → List ℕ → Bool
-matches_name any name = true
-matches_name (named wanted) name = bytes_eq wanted name
-
--- a text, or a place with no node, has no name
+-- section 2.3: the principal node type of the child axis is element, and names are compared exactly. A text, or a place with no node, has no name.
 abbrev pub matches : Test → Option (List ℕ) → Bool
-matches test name = option_map_or (matches_name test) name false
+matches test None = false
+matches any (Some name) = true
+matches (named wanted) (Some name) = bytes_eq wanted name
 
 -- whether the child at that position matches
 abbrev pub matches_at : Tree → Test → List ℕ → ℕ → Bool
