@@ -10,10 +10,7 @@ use Rattle.upload_reader.specs.Limits.{max_line_bytes}
 use Rattle.upload_reader.specs.Message.{is_blank}
 use Rattle.upload_reader.specs.inside.Text.{AreBlank}
 use Rattle.upload_reader.proofs.FrontLaws.{passes_more}
-
--- a line within the limit ends nothing by its length
-pub within : {X : Type 0} (n m : ℕ) (x y : X) → m ≤ n → (if nat_lt n m then x else y) ≡ y
-within n m x y short = grind arith
+use Rattle.upload_reader.proofs.Uncut.{within}
 
 module _ {E : Type 0} (judge : List (List ℕ) → List ℕ → Option E) (stop : List (List ℕ) → LineFault → Option E) (skips : (before : List (List ℕ)) (line : List ℕ) → is_blank line ≡ true → judge before line ≡ None) where
   -- blank lines end nothing

@@ -23,6 +23,7 @@ use Rattle.upload_reader.proofs.FrontLaws.{passes_none}
 use Rattle.upload_reader.proofs.FrontSteps.{ends_by_line, ends_by_fault, none_yet}
 use Rattle.upload_reader.proofs.HelloFaults.{leaves_none}
 use Rattle.upload_reader.proofs.LinesBetween.{between_then, between_line}
+use Rattle.upload_reader.proofs.TextLaws.{cut_one, no_line, text_going}
 
 skips : (before : List (List ℕ)) (line : List ℕ) → is_blank line ≡ true → greeting_by before line ≡ None
 unfolding greeting_by
@@ -40,12 +41,6 @@ not_greeted : (place : ℕ) (answers : List Answer) → OnlyBlanks place answers
 not_greeted place answers (to, blanks, passed, none) =
     (blanks, none_yet max_line_bytes greeting_by no_greeting place to (bytes_of answers) blanks passed.between (blanks_pass blanks (bytes_of answers) place to passed) none)
 
-abbrev cut_one : Result (Unit {0}) LineFault
-cut_one = Ok tt
-
-abbrev no_line : LineFault → Result (Unit {0}) LineFault
-no_line fault = Err fault
-
 module _ {R : Type 0} (old new : Reading R) (number : ℕ) where
   pub reads_for_hello : (result : Result (Unit {0}) LineFault) → NextText 0 old new number result → ReadsWhile (NotGreeted old.place) old new
   reads_for_hello result next = reads_where (OnlyBlanks old.place) (NotGreeted old.place) old new (not_greeted old.place) next.reads
@@ -53,12 +48,8 @@ module _ {R : Type 0} (old new : Reading R) (number : ℕ) where
   -- ---- a line that isn't blank
 
   module _ (next : NextText 0 old new number cut_one) where
-    had_none : (had : Option LineFault) → IfSome had (λ fault. IsErrOf cut_one fault × (number ≡ 0 + 1) × (new ≡ old)) → had ≡ None
-    had_none None again = refl
-    had_none (Some fault) again = let never = again.0 in cc
-
     going : old.fault ≡ None
-    going = had_none old.fault next.again
+    going = text_going next
 
     greets_line : (answer : Result (List ℕ) HelloFault) → hello_said number new.line ≡ answer → Greets old.place new (record { lines = number; answer = answer })
     greets_line answer is input' ending' goes =
@@ -67,14 +58,14 @@ module _ {R : Type 0} (old new : Reading R) (number : ℕ) where
         greets_by next.blanks new.line next.text ∙ ap (λ n. greeting n (hello_said n new.line)) number_is ∙ ap (greeting number) is in (
           next.blanks,
           ends_by_line max_line_bytes greeting_by no_greeting old.place next.at (input new) next.blanks next.passed.between (blanks_pass next.blanks (input new) old.place next.at next.passed) new.line (ending_of new.answers)
-              (record { lines = number; answer = answer }) (next.tells (rw going refl)) judged input' ending' goes,
+              (record { lines = number; answer = answer }) (next.tells going) judged input' ending' goes,
         )
       where
         greeting : ℕ → Result (List ℕ) HelloFault → Option Greeting
         greeting n answer = Some (record { lines = n; answer = answer })
 
     between : LinesBetween (input new) old.place new.place (next.blanks ++ new.line ∷ [])
-    between = rw next.place (between_then (input new) old.place next.at (next.at + length new.line + 1) next.blanks (new.line ∷ []) next.passed.between (between_line max_line_bytes next.at (input new) new.line (ending_of new.answers) (next.tells (rw going refl))))
+    between = rw next.place (between_then (input new) old.place next.at (next.at + length new.line + 1) next.blanks (new.line ∷ []) next.passed.between (between_line max_line_bytes next.at (input new) new.line (ending_of new.answers) (next.tells going)))
 
     counted : length (next.blanks ++ new.line ∷ []) ≡ number
     counted = omega (arith, length-append next.blanks (new.line ∷ []), next.number_is)
@@ -104,20 +95,16 @@ module _ {R : Type 0} (old new : Reading R) (number : ℕ) where
       lines = number;
       greets = λ none some. greets_unless fault says some;
       place = λ none some. behind;
+      behind = omega (arith, between.bytes);
       leaves = rw next.fault (leaves_none number new.line fault says);
-      again = never old.fault going;
+      again = rw going tt;
     }
-      where
-        never : (had : Option LineFault) → had ≡ None → IfSome had (λ had. (fault ≡ hello_fault_of 1 had) × (new ≡ old))
-        never None none = tt
-        never (Some had) none = cc
 
   -- ---- no line
 
   module _ (fault : LineFault) (next : NextText 0 old new number (no_line fault)) where
-    greets_fault : (kind : LaneFault) → old.fault ≡ None → kind_of fault ≡ Some kind → cut max_line_bytes (drop next.at (input new)) (ending_of new.answers) ≡ Some (Err fault)
-        → Greets old.place new (record { lines = length next.blanks; answer = Err (Line number kind) })
-    greets_fault kind none is stops input' ending' goes =
+    greets_fault : (kind : LaneFault) → kind_of fault ≡ Some kind → cut max_line_bytes (drop next.at (input new)) (ending_of new.answers) ≡ Some (Err fault) → Greets old.place new (record { lines = length next.blanks; answer = Err (Line number kind) })
+    greets_fault kind is stops input' ending' goes =
         let number_is : length next.blanks + 1 ≡ number = omega (arith, next.number_is) in
         let stopped : no_greeting next.blanks fault ≡ Some (record { lines = length next.blanks; answer = Err (Line number kind) }) = rw (is, number_is) refl in (
           next.blanks,
@@ -125,21 +112,18 @@ module _ {R : Type 0} (old new : Reading R) (number : ℕ) where
               (record { lines = length next.blanks; answer = Err (Line number kind) }) stops stopped input' ending' goes,
         )
 
--- the same, for each fault of a line
+    again_by : (had : Option LineFault) → old.fault ≡ had → IfSome had (λ had. (hello_fault_of number fault ≡ hello_fault_of 1 had) × (new ≡ old))
+    again_by None is = tt
+    again_by (Some had) is = let again = next.again had is in let same : fault ≡ had = cc again.0 in (rw (same, again.1) refl, again.2)
+
 greets_cut : {R : Type 0} (old new : Reading R) (number : ℕ) (fault : LineFault) (next : NextText 0 old new number (no_line fault)) → old.fault ≡ None → hello_fault_of number fault ≢ NoMemory
     → Greets old.place new (record { lines = length next.blanks; answer = Err (hello_fault_of number fault) })
-greets_cut old new number line.ReadFailed next none some = greets_fault old new number line.ReadFailed next _ none refl (next.tells (rw none refl))
-greets_cut old new number line.TooManyReads next none some = greets_fault old new number line.TooManyReads next _ none refl (next.tells (rw none refl))
-greets_cut old new number line.Truncated next none some = greets_fault old new number line.Truncated next _ none refl (next.tells (rw none refl))
-greets_cut old new number line.LineTooLong next none some = greets_fault old new number line.LineTooLong next _ none refl (next.tells (rw none refl))
 greets_cut old new number line.NoMemory next none some = absurd (some refl)
+greets_cut old new number fault next none some = greets_fault old new number fault next _ refl (next.tells none)
 
 leaves_cut : (number : ℕ) (fault : LineFault) (left : Option LineFault) → left ≡ Some fault → LeavesFault (hello_fault_of number fault) left
-leaves_cut number line.ReadFailed left is = is
-leaves_cut number line.TooManyReads left is = is
-leaves_cut number line.Truncated left is = is
-leaves_cut number line.LineTooLong left is = is
 leaves_cut number line.NoMemory left is = inr is
+leaves_cut number fault left is = is
 
 pub refused_cut : {R : Type 0} (old new : Reading R) (number : ℕ) (fault : LineFault) → NextText 0 old new number (no_line fault) → Refuses old new (hello_fault_of number fault)
 refused_cut old new number fault next = record {
@@ -147,10 +131,7 @@ refused_cut old new number fault next = record {
   lines = length next.blanks;
   greets = greets_cut old new number fault next;
   place = λ none some. next.place ∙ between_length (input new) old.place next.at next.blanks next.passed.between;
+  behind = omega (arith, next.place, next.passed.between.bytes);
   leaves = leaves_cut number fault new.fault next.fault;
-  again = by old.fault next.again;
+  again = again_by old new number fault next old.fault refl;
 }
-  where
-    by : (had : Option LineFault) → IfSome had (λ had. IsErrOf (no_line fault) had × (number ≡ 0 + 1) × (new ≡ old)) → IfSome had (λ had. (hello_fault_of number fault ≡ hello_fault_of 1 had) × (new ≡ old))
-    by None again = tt
-    by (Some had) again = let same : fault ≡ had = cc again.0 in (rw (same, again.1) refl, again.2)

@@ -1,5 +1,6 @@
 -- Blank lines that are passed, one after another, up to a line that isn't blank.
-use Rattle.std.proofs.Common.{◌≡◌, ℕ, ◌+◌, ◌≤◌, List, [], ◌∷◌, ◌++◌, length, true, false, Option, Some, None, Result, Ok, IsNone, IfSome, IsErrOf, OnOk, refl, sym, ap, ◌∙◌, arith, length-append}
+use Rattle.std.proofs.Common.{◌≡◌, ℕ, ◌+◌, ◌≤◌, List, [], ◌∷◌, ◌++◌, length, true, false, Option, Some, None, Result, Ok, Err, IsSome, IfSome, IsErrOf, OnOk, MatchResult, refl, sym, ap, ◌∙◌, arith, length-append}
+use Rattle.std.specs.Option.{ForSome}
 use Rattle.std.proofs.lemmas.Option.{MatchOption-at_some}
 use Rattle.byte_streams.specs.Answers.{Answer, bytes_of}
 use Rattle.byte_streams.specs.Cutting.{ending_of}
@@ -33,12 +34,23 @@ passes_none before old = record {
   passed = record { between = between_none (input old) old.place; blank = tt };
   lines_are = omega arith;
   fault = refl;
-  again = none_by old.fault;
+  again = λ fault had. (refl, refl);
 }
-  where
-    none_by : (had : Option LineFault) → IfSome had (λ _. (before ≡ before) × (old ≡ old))
-    none_by None = tt
-    none_by (Some fault) = (refl, refl)
+
+-- a line that was cut, or a fault in its place
+abbrev pub cut_one : Result (Unit {0}) LineFault
+cut_one = Ok tt
+
+abbrev pub no_line : LineFault → Result (Unit {0}) LineFault
+no_line fault = Err fault
+
+none_had : (had : Option LineFault) → ForSome had (λ _. ⊥) → had ≡ None
+none_had None never = refl
+none_had (Some fault) never = absurd (never fault refl)
+
+some_had : (had : Option LineFault) → IsSome had → (fault : LineFault) × (had ≡ Some fault)
+some_had (Some fault) some = (fault, refl)
+some_had None some = cc
 
 module _ {R : Type 0} (before lines : ℕ) (old now new : Reading R) (passes : PassesBlanks before old now lines) where
   still_reads : (result : Result (Unit {0}) LineFault) → Advances max_line_bytes now new result → ReadsWhile (OnlyBlanks old.place) old new
@@ -46,15 +58,11 @@ module _ {R : Type 0} (before lines : ℕ) (old now new : Reading R) (passes : P
       reads_then (OnlyBlanks old.place) (NoLineYet max_line_bytes now.place) old now new
       (λ rest none. (now.place, passes.blanks, blanks_read now.answers (now.answers ++ rest) rest old.place now.place passes.blanks refl passes.passed, none)) passes.reads moves.reads
 
-  again_by : (result : Result (Unit {0}) LineFault) → Advances max_line_bytes now new result → IfSome old.fault (λ fault. IsErrOf result fault × (lines + 1 ≡ before + 1) × (new ≡ old))
-  again_by result moves = by old.fault refl
-    where
-      by : (had : Option LineFault) → old.fault ≡ had → IfSome had (λ fault. IsErrOf result fault × (lines + 1 ≡ before + 1) × (new ≡ old))
-      by None is = tt
-      by (Some fault) is =
-          let first : (lines ≡ before) × (now ≡ old) = MatchOption-at_some _ (λ _. (lines ≡ before) × (now ≡ old)) fault is passes.again in
-          let then : IsErrOf result fault × (new ≡ now) = MatchOption-at_some _ (λ fault. IsErrOf result fault × (new ≡ now)) fault (passes.fault ∙ is) moves.again in
-          (then.0, ap (λ n. n + 1) first.0, then.1 ∙ first.1)
+  again_by : (result : Result (Unit {0}) LineFault) → Advances max_line_bytes now new result → ForSome old.fault (λ fault. IsErrOf result fault × (lines + 1 ≡ before + 1) × (new ≡ old))
+  again_by result moves fault had =
+      let first = passes.again fault had in
+      let then : IsErrOf result fault × (new ≡ now) = MatchOption-at_some _ (λ fault. IsErrOf result fault × (new ≡ now)) fault (passes.fault ∙ had) moves.again in
+      (then.0, ap (λ n. n + 1) first.0, then.1 ∙ first.1)
 
   -- a line that isn't blank, or no line
   pub next_by : (result : Result (Unit {0}) LineFault) → Advances max_line_bytes now new result → OnOk result (is_blank new.line ≡ false) → NextText before old new (lines + 1) result
@@ -64,7 +72,7 @@ module _ {R : Type 0} (before lines : ℕ) (old now new : Reading R) (passes : P
     blanks = passes.blanks;
     passed = blanks_read now.answers new.answers moves.reads.more old.place now.place passes.blanks moves.reads.answers passes.passed;
     number_is = omega (arith, passes.lines_are);
-    tells = λ none. moves.tells (rw passes.fault none);
+    tells = λ none. moves.tells (rw (passes.fault ∙ none) refl);
     text = text;
     place = moves.place;
     fault = moves.fault;
@@ -72,13 +80,10 @@ module _ {R : Type 0} (before lines : ℕ) (old now new : Reading R) (passes : P
     bounded = moves.bounded;
   }
 
-  abbrev cut_one : Result (Unit {0}) LineFault
-  cut_one = Ok tt
-
   -- a blank line more
   pub passes_line : Advances max_line_bytes now new cut_one → is_blank new.line ≡ true → PassesBlanks before old new (lines + 1)
   passes_line moves is =
-      let none : now.fault ≡ None = none_by now.fault refl moves.again in
+      let none : now.fault ≡ None = none_had now.fault (λ fault had. let never = (MatchOption-at_some _ (λ fault. IsErrOf cut_one fault × (new ≡ now)) fault had moves.again).0 in cc) in
       let line = moves.tells (rw none refl) in
       let passed = blanks_read now.answers new.answers moves.reads.more old.place now.place passes.blanks moves.reads.answers passes.passed in
       let one : LinesBetween (input new) now.place new.place (new.line ∷ []) = rw moves.place (between_line max_line_bytes now.place (input new) new.line (ending_of new.answers) line) in
@@ -89,28 +94,28 @@ module _ {R : Type 0} (before lines : ℕ) (old now new : Reading R) (passes : P
         passed = record { between = between_then (input new) old.place now.place new.place passes.blanks (new.line ∷ []) passed.between one; blank = blank_more passes.blanks new.line passed.blank is short };
         lines_are = omega (arith, passes.lines_are, length-append passes.blanks (new.line ∷ []));
         fault = moves.fault ∙ sym none ∙ passes.fault;
-        again = never old.fault (sym passes.fault ∙ none);
+        again = λ fault had. let same : None ≡ Some fault = sym none ∙ passes.fault ∙ had in cc;
       }
-    where
-      none_by : (had : Option LineFault) → now.fault ≡ had → IfSome had (λ fault. IsErrOf cut_one fault × (new ≡ now)) → had ≡ None
-      none_by None is again = refl
-      none_by (Some fault) is again = let never = again.0 in cc
-
-      never : (had : Option LineFault) → had ≡ None → IfSome had (λ _. (lines + 1 ≡ before) × (new ≡ old))
-      never None none = tt
-      never (Some fault) none = cc
 
   -- there are at most as many lines as bytes
   pub lines_few : before ≤ old.place → lines ≤ now.place
   lines_few few = let long = joined_long passes.blanks in let bytes = passes.passed.between.bytes in omega (arith, passes.lines_are, long, bytes, few)
 
-abbrev cut_line : Result (Unit {0}) LineFault
-cut_line = Ok tt
+-- ---- what stands behind the blank lines
 
--- a line that was cut is within the limit
-pub text_short : {R : Type 0} (before number : ℕ) (old new : Reading R) → NextText before old new number cut_line → length new.line ≤ max_line_bytes
-text_short before number old new next = cut_is_short max_line_bytes next.at (input new) new.line (ending_of new.answers) (next.tells (none_by old.fault next.again))
-  where
-    none_by : (had : Option LineFault) → IfSome had (λ fault. IsErrOf cut_line fault × (number ≡ before + 1) × (new ≡ old)) → IsNone had
-    none_by None again = refl
-    none_by (Some fault) again = let never = again.0 in cc
+module _ {R : Type 0} {before number : ℕ} {old new : Reading R} where
+  -- a line is cut only where there was no fault
+  pub text_going : NextText before old new number cut_one → old.fault ≡ None
+  text_going next = none_had old.fault (λ fault had. let never = (next.again fault had).0 in cc)
+
+  -- and it is within the limit
+  pub text_short : NextText before old new number cut_one → length new.line ≤ max_line_bytes
+  text_short next = cut_is_short max_line_bytes next.at (input new) new.line (ending_of new.answers) (next.tells (text_going next))
+
+  pub text_behind : (result : Result (Unit {0}) LineFault) (next : NextText before old new number result) → next.at ≤ new.place
+  text_behind (Ok x) next = omega (arith, next.place)
+  text_behind (Err fault) next = omega (arith, next.place)
+
+  -- lines that had a fault stay as they are
+  pub text_unread : {result : Result (Unit {0}) LineFault} → NextText before old new number result → IsSome old.fault → new ≡ old
+  text_unread next some = let (fault, had) = some_had old.fault some in (next.again fault had).2

@@ -1,5 +1,5 @@
 -- What clauses see of an upload: what was read of it, where its lane began, what was given of it and how it ended.
-use Rattle.std.specs.Prelude.{◌≡◌, ◌≢◌, ℕ, ◌+◌, List, [], ◌++◌, drop, Option, Some, None, Ok, Err, IfSome, ◌⊎◌}
+use Rattle.std.specs.Prelude.{◌≡◌, ◌≢◌, ℕ, ◌+◌, ◌≤◌, List, [], ◌++◌, drop, Option, Some, None, Ok, Err, IfSome, ◌⊎◌}
 use Rattle.byte_streams.specs.Answers.{Answer, bytes_of}
 use Rattle.byte_streams.specs.Cutting.{ending_of}
 use Rattle.byte_streams.specs.GoesOn.{GoesOn}
@@ -66,6 +66,7 @@ pub record Refuses {R : Type 0} (old new : Reading R) (fault : HelloFault) : Typ
   pub lines : ℕ
   pub greets : old.fault ≡ None → fault ≢ NoMemory → Greets old.place new (record { lines = lines; answer = Err fault })
   pub place : old.fault ≡ None → fault ≢ NoMemory → new.place ≡ old.place + lines_length lines (drop old.place (input new))
+  pub behind : old.place ≤ new.place
   pub leaves : LeavesFault fault new.fault
   pub again : IfSome old.fault (λ had. (fault ≡ hello_fault_of 1 had) × (new ≡ old))
 

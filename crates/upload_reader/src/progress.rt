@@ -34,10 +34,9 @@ pub(crate) struct Progress {
 }
 
 impl Progress {
-    ghost use Rattle.upload_reader.specs.inside.Taken.{lane_of, taken_of, TakesText, TakesMessage};
+    ghost use Rattle.upload_reader.specs.inside.Taken.{lane_of, taken_of, TakesText, TakesMessage, EndsByText};
     ghost use Rattle.upload_reader.specs.Stream.{MayFollow};
     ghost use Rattle.upload_reader.specs.Positive.{IsPositive};
-    ghost use Rattle.upload_reader.specs.Real.{IfReal};
 
     /// A lane that begins behind this session and so many lines. The fault is the one that its lines have.
     pub(crate) fn begin(session: Session, lines: u64, fault: Option<LineFault>) -> Progress
@@ -81,7 +80,7 @@ impl Progress {
         ensures takes { TakesText (lane_of self.old) number line.now (taken_of self.old) (taken_of self.new) result }
         ensures priced { IfOk result (λ costed. IsPositive costed.0 costed.1) }
         ensures lawful { IfOk result (λ costed. MayFollow (lane_of self.old) (taken_of self.old).given costed.0) }
-        ensures real { IfErr result IfReal }
+        ensures own { IfErr result EndsByText }
     {
         let cost = line.len() as u32;
         match read_line(alloc, line) {
@@ -103,7 +102,7 @@ impl Progress {
         ensures takes { TakesMessage (lane_of self.old) number message cost (taken_of self.old) (taken_of self.new) result }
         ensures priced { IfOk result (λ costed. IsPositive costed.0 costed.1) }
         ensures lawful { IfOk result (λ costed. MayFollow (lane_of self.old) (taken_of self.old).given costed.0) }
-        ensures real { IfErr result IfReal }
+        ensures own { IfErr result EndsByText }
     {
         if self.count == MAX_MESSAGES {
             return Err(Ending::at(number, LaneFault::LaneFull));

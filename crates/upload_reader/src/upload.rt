@@ -1,5 +1,5 @@
 //! The upload of one client, message by message.
-ghost use Rattle.std.specs.Prelude.{◌≡◌, ◌≢◌, ◌+◌, ◌≤◌, [], ◌++◌, length, true, Some, None, IfSome, IfOk, IfErr};
+ghost use Rattle.std.specs.Prelude.{◌≡◌, ◌≢◌, ◌+◌, ◌≤◌, [], ◌++◌, length, true, Some, None, IsSome, IfSome, IfOk, IfErr};
 ghost use Rattle.byte_streams.specs.Answers.{failures_of};
 ghost use Rattle.byte_streams.specs.Cutting.{StopsAtEnd};
 ghost use Rattle.byte_streams.specs.Reading.{WasRead, ReadsWhile};
@@ -117,8 +117,10 @@ impl<R: Source> Upload<R> {
 
     /// The next message with its cost, or how the lane ended. After the end the same answer comes again, and nothing more is read.
     pub fn next(&mut self) -> Next
-        // A read was made only where those before it told of no further message and no end. Nothing else changes but what was given.
+        // A read was made only where those before it told of no further message and no end, and none on lines that had a fault. Nothing else changes but
+        // what was given.
         ensures reads { ReadsWhile (NothingMore self.old) self.old.lines self.new.lines }
+        ensures unread { IsSome self.old.lines.fault → self.new.lines ≡ self.old.lines }
         ensures given { self.new ≡ record self.old { lines = self.new.lines; given = self.old.given ++ given_by result; ending = ending_by result } }
 
         // The messages that were given are the first ones of the stream, however the input goes on, and the end follows the last of them.

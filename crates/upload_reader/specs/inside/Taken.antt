@@ -1,5 +1,5 @@
 -- How far a lane was taken, by what the code keeps.
-use Rattle.std.specs.Prelude.{◌≡◌, ℕ, ◌+◌, ◌≤◌, List, [], ◌∷◌, ◌++◌, length, drop, true, Option, Some, None, IsNone, IsSome, option_map, Result, Ok, Err}
+use Rattle.std.specs.Prelude.{◌≡◌, ℕ, ◌+◌, ◌≤◌, List, [], ◌∷◌, ◌++◌, length, drop, Option, Some, None, IsNone, IsSome, IfSome, option_map, Result, Ok, Err}
 use Rattle.byte_streams.specs.Answers.{Answer, bytes_of}
 use Rattle.byte_streams.specs.Cutting.{ending_of}
 use Rattle.byte_streams.specs.GoesOn.{GoesOn}
@@ -8,8 +8,8 @@ use Rattle.byte_streams.specs.declared.fault.LineFault.{LineFault}
 use Rattle.upload_reader.specs.Front.{Passes, LinesBetween}
 use Rattle.upload_reader.specs.Limits.{max_line_bytes}
 use Rattle.upload_reader.specs.Message.{line_said}
-use Rattle.upload_reader.specs.Next.{failed_reads}
-use Rattle.upload_reader.specs.Real.{is_real}
+use Rattle.upload_reader.specs.Next.{next_of, failed_reads, IfOver}
+use Rattle.upload_reader.specs.Real.{IfReal}
 use Rattle.upload_reader.specs.Stream.{Costed, Lane, IsStreamOf, messages_in, message_said, message_fault, said_end, line_end, stop_end}
 use Rattle.upload_reader.specs.declared.ending.Ending.{Ending}
 use Rattle.upload_reader.specs.declared.ending.Ending.TheVariants.{Over, GaveUp}
@@ -36,19 +36,22 @@ EndsLane lane start lines given end =
     (input' : List ℕ) → (ending' : Option LineFault) → GoesOn (input lines) input' (ending_of lines.answers) ending'
     → IsStreamOf lane (drop start input') ending' (record { messages = given; end = Some end })
 
--- The lane was taken so far: the lines between its start and one place, none of which ends it, gave these messages. While it has not ended, that is
--- the place up to which its lines are cut.
-pub record LaneTaken {R : Type 0} (lane : Lane) (start : ℕ) (lines : Reading R) (taken : Taken) (ending : Option Ending) : Type 0 where
+-- Between a lane's start and this place stand lines none of which ends it, and these are their messages.
+pub record LaneFront (lane : Lane) (start : ℕ) (input : List ℕ) (at : ℕ) (given : List Costed) : Type 0 where
   pub front : List (List ℕ)
-  pub at : ℕ
-  pub between : LinesBetween (input lines) start at front
+  pub between : LinesBetween input start at front
   pub passes : Passes max_line_bytes (line_end lane) (stop_end lane) front
-  pub given : taken.given ≡ messages_in front
-  pub had : IsSome lane.fault → front ≡ []
+  pub says : given ≡ messages_in front
+
+-- The lane was taken so far. While it has not ended, its lines are cut up to where its front ends.
+pub record LaneTaken {R : Type 0} (lane : Lane) (start : ℕ) (lines : Reading R) (taken : Taken) (ending : Option Ending) : Type 0 where
+  pub at : ℕ
+  pub behind : LaneFront lane start (input lines) at taken.given
+  pub had : IsSome lane.fault → behind.front ≡ []
   pub numbered : taken.lines ≤ lines.place
-  pub here : IsNone ending → (at ≡ lines.place) × (taken.lines ≡ lane.lines + length front) × (lines.fault ≡ lane.fault)
-  pub ended : (end : LaneEnd) → ending ≡ Some (Over end) → EndsLane lane start lines taken.given end
-  pub real : (end : LaneEnd) → ending ≡ Some (Over end) → is_real end ≡ true
+  pub here : IsNone ending → (at ≡ lines.place) × (taken.lines ≡ lane.lines + length behind.front) × (lines.fault ≡ lane.fault)
+  pub ended : IfSome ending (λ ending. IfOver (next_of ending) (EndsLane lane start lines taken.given))
+  pub real : IfSome ending IfReal
   pub failures : lane.fault ≡ None → failures_told lines.fault ≡ failed_reads ending
 
 -- ---- one line
@@ -75,6 +78,10 @@ TakesMessage lane number message cost taken taken' (Ok costed) =
 TakesMessage lane number message cost taken taken' (Err (Over end)) = (option_map (Fault number) (message_fault lane.earlier taken.given message) ≡ Some end) × (taken' ≡ taken)
 TakesMessage lane number message cost taken taken' (Err GaveUp) = taken' ≡ taken
 
+-- how a text can end a lane: by a fault of its own, and by no failed read
+abbrev pub EndsByText : Ending → Type 0
+EndsByText ending = IfReal ending × (failed_reads (Some ending) ≡ 0)
+
 -- ---- one message
 
 -- what was read holds no further message and no end
@@ -85,4 +92,5 @@ SaysNoMore lane start given answers = IsStreamOf lane (drop start (bytes_of answ
 pub record TakesNext {R : Type 0} (lane : Lane) (start : ℕ) (old new : Reading R) (taken taken' : Taken) (result : Result Costed Ending) : Type 0 where
   pub given : taken'.given ≡ taken.given ++ given_if result
   pub reads : ReadsWhile (SaysNoMore lane start taken.given) old new
+  pub unread : IsSome old.fault → new ≡ old
   pub stands : LaneTaken lane start new taken' (ending_if result)

@@ -1,5 +1,6 @@
 -- What a call for the next line of an upload that isn't blank does.
-use Rattle.std.specs.Prelude.{◌≡◌, ℕ, ◌+◌, ◌*◌, ◌≤◌, List, [], ◌∷◌, length, drop, true, false, Some, None, Result, IsNone, IfSome, IsErrOf, OnOk, MatchResult}
+use Rattle.std.specs.Prelude.{◌≡◌, ℕ, ◌+◌, ◌*◌, ◌≤◌, List, [], ◌∷◌, length, drop, true, false, Some, None, Result, IsErrOf, OnOk, MatchResult}
+use Rattle.std.specs.Option.{ForSome}
 use Rattle.byte_streams.specs.Answers.{Answer, bytes_of}
 use Rattle.byte_streams.specs.Cutting.{cut, ending_of}
 use Rattle.byte_streams.specs.Limits.{max_reads, read_bytes}
@@ -30,11 +31,11 @@ pub record NextText {R : Type 0} (before : ℕ) (old new : Reading R) (number : 
   pub blanks : List (List ℕ)
   pub passed : BlanksBetween (input new) old.place at blanks
   pub number_is : number ≡ before + length blanks + 1
-  pub tells : IsNone old.fault → Tells result new.line (cut max_line_bytes (drop at (input new)) (ending_of new.answers))
+  pub tells : old.fault ≡ None → Tells result new.line (cut max_line_bytes (drop at (input new)) (ending_of new.answers))
   pub text : OnOk result (is_blank new.line ≡ false)
   pub place : MatchResult result (λ _. new.place ≡ at + length new.line + 1) (λ _. new.place ≡ at)
   pub fault : MatchResult result (λ _. new.fault ≡ None) (λ fault. new.fault ≡ Some fault)
-  pub again : IfSome old.fault (λ fault. IsErrOf result fault × (number ≡ before + 1) × (new ≡ old))
+  pub again : ForSome old.fault (λ fault. IsErrOf result fault × (number ≡ before + 1) × (new ≡ old))
   pub bounded : new.place ≤ read_bytes * max_reads
 
 -- Blank lines were passed, so that so many lines stand behind.
@@ -44,4 +45,4 @@ pub record PassesBlanks {R : Type 0} (before : ℕ) (old now : Reading R) (lines
   pub passed : BlanksBetween (input now) old.place now.place blanks
   pub lines_are : lines ≡ before + length blanks
   pub fault : now.fault ≡ old.fault
-  pub again : IfSome old.fault (λ _. (lines ≡ before) × (now ≡ old))
+  pub again : ForSome old.fault (λ _. (lines ≡ before) × (now ≡ old))
