@@ -1,8 +1,7 @@
-ghost use Rattle.std.specs.Prelude.{◌≡◌, ◌↔◌, IfOk, IsTrue, option_map};
+ghost use Rattle.std.specs.Prelude.{◌≡◌, ◌↔◌, IsTrue, option_map};
 ghost use Rattle.page_tree.specs.Look.{value_of};
 ghost use Rattle.page_tree.specs.Limits.{names_of, is_ascending};
 
-use crate::memory::NoMemory;
 use crate::text::Text;
 use std::marker::Model;
 
@@ -60,16 +59,6 @@ impl Attributes {
         ensures { IsTrue result ↔ (self.now ≡ other.now) }
     {
         are_same(self.pairs.as_slice(), other.pairs.as_slice())
-    }
-
-    pub(crate) fn copy(&self) -> Result<Attributes, NoMemory>
-        ensures { IfOk result (λ copy. copy ≡ self.now) }
-    {
-        let mut pairs = Vec::new(*self.pairs.allocator());
-        for (name, value) in &self.pairs {
-            pairs.push((name.copy()?, value.copy()?))?;
-        }
-        Ok(Attributes { pairs })
     }
 }
 

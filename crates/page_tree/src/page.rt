@@ -26,13 +26,14 @@ use crate::text::Text;
 use crate::tree::Tree;
 use crate::walking::add_places_under;
 use serde_json::Value;
-use std::alloc::Global;
+use std::alloc::{AllocError, Global};
 use std::marker::Model;
+use std::sync::Arc;
 
-/// A page: a tree whose root is an element, within the limits. Contracts see it as its plain tree.
+/// A page: a tree whose root is an element, within the limits. Contracts see it as its plain tree. Equal pages that were copied share their tree.
 #[derive(Debug, Drop)]
 pub struct Page {
-    root: Tree,
+    tree: Arc<Tree>,
 }
 
 impl Model for Page {
@@ -45,26 +46,28 @@ impl Model for Page {
 
     ghost coded = { tree_code };
 
-    ghost view = { λ p. seen p.root };
+    ghost use Rattle.std.specs.Arc.{arc_value};
 
-    ghost invariant = { λ p. IsPage (seen p.root) };
+    ghost view = { λ p. seen (arc_value p.tree) };
+
+    ghost invariant = { λ p. IsPage (seen (arc_value p.tree)) };
 }
 
 impl Page {
     ghost use Rattle.page_tree.specs.Seen.{seen};
 
-    /// The page that a tree is. It needs no memory today; a page may come to keep more than the tree.
+    /// The page that a tree is.
     ///
     /// Its faults are `NotAnElement`, `TooMany`, `TooDeep`, `BadName` and `BadAttribute` (names that don't ascend strictly, in byte order): the
     /// first in document order, and at one node the first in this order.
-    pub fn new(_alloc: Global, root: Tree) -> Result<Page, PageFault>
+    pub fn new(alloc: Global, root: Tree) -> Result<Page, PageFault>
         ensures page { IfOk result (λ page. page ≡ seen root) }
         ensures ok { IfOk result (λ page. IsPage page × (fault_of_tree page ≡ None)) }
         ensures refused { IfErr result (λ e. e ≢ NoMemory → ¬ IsPage (seen root)) }
         ensures fault { IfErr result (λ e. e ≢ NoMemory → fault_of_tree (seen root) ≡ Some e) }
     {
         inspect_root(&root)?;
-        Ok(Page { root })
+        Ok(Page::holding(alloc, root)?)
     }
 
     /// The page that a JSON value stands for: an element is an object with `n` (its name), `a` (an object of attributes whose values are texts,
@@ -84,43 +87,60 @@ impl Page {
         ensures found { MatchResult result (λ page. page_in (view value.now) ≡ Some page) (λ e. e ≢ NoMemory → page_in (view value.now) ≡ None) }
     {
         let root = read_root(alloc, value)?;
-        Ok(Page { root })
+        Ok(Page::holding(alloc, root)?)
     }
 
-    /// An equal page.
+    fn holding(alloc: Global, root: Tree) -> Result<Page, NoMemory>
+        requires { IsPage (seen root) }
+        ensures { IfOk result (λ page. page ≡ seen root) }
+    {
+        match Arc::new(alloc, root) {
+            Ok(tree) => Ok(Page { tree }),
+            Err(_) => Err(AllocError),
+        }
+    }
+
+    fn root(&self) -> &Tree
+        ensures tree { seen result.now ≡ self.now }
+        ensures page { IsPage (seen result.now) }
+    {
+        &self.tree
+    }
+
+    /// An equal page, which shares the tree: nothing of it is copied.
     pub fn copy(&self) -> Result<Page, NoMemory>
         ensures { IfOk result (λ page. page ≡ self.now) }
     {
-        let root = self.root.copy()?;
-        Ok(Page { root })
+        let tree = Arc::try_clone(&self.tree)?;
+        Ok(Page { tree })
     }
 
     /// Whether two pages are equal: their trees are.
     pub fn same(&self, other: &Page) -> bool
         ensures { IsTrue result ↔ (self.now ≡ other.now) }
     {
-        self.root.same(&other.root)
+        self.root().same(other.root())
     }
 
     /// Tells that the page is within the limits.
     pub fn within_limits(&self)
         ensures { IsPage self.now }
     {
-        let _ = &self.root;
+        let _ = &self.tree;
     }
 
     /// The name of the element there; none for a text, or where no node is.
     pub fn name(&self, place: &Place) -> Option<&str>
         ensures { option_map (λ name. name.now) result ≡ name_at place.now self.now }
     {
-        looking::name(looking::find(&self.root, place.as_slice())?)
+        looking::name(looking::find(self.root(), place.as_slice())?)
     }
 
     /// How many children the node there has, texts too; 0 where no node is.
     pub fn children(&self, place: &Place) -> u32
         ensures { result ≡ child_count_at place.now self.now }
     {
-        match looking::find(&self.root, place.as_slice()) {
+        match looking::find(self.root(), place.as_slice()) {
             None => 0,
             Some(node) => looking::children(node).len() as u32,
         }
@@ -130,14 +150,14 @@ impl Page {
     pub fn attribute(&self, place: &Place, name: &str) -> Option<&str>
         ensures { option_map (λ value. value.now) result ≡ attribute_at place.now name.now self.now }
     {
-        looking::attribute(looking::find(&self.root, place.as_slice())?, name)
+        looking::attribute(looking::find(self.root(), place.as_slice())?, name)
     }
 
     /// What the node there is to a form; Other for a text, or where no node is.
     pub fn control(&self, place: &Place) -> Control
         ensures { result ≡ control_at place.now self.now }
     {
-        match looking::find(&self.root, place.as_slice()) {
+        match looking::find(self.root(), place.as_slice()) {
             None => Control::Other,
             Some(node) => control_of(node),
         }
@@ -147,7 +167,7 @@ impl Page {
     pub fn start_text(&self, place: &Place) -> Result<Option<Text>, NoMemory>
         ensures { IfOk result (λ text. text ≡ start_text_at place.now self.now) }
     {
-        match looking::find(&self.root, place.as_slice()) {
+        match looking::find(self.root(), place.as_slice()) {
             None => Ok(None),
             Some(node) => start_text_of(node),
         }
@@ -157,7 +177,7 @@ impl Page {
     pub fn start_checked(&self, place: &Place) -> bool
         ensures { result ≡ start_checked_at place.now self.now }
     {
-        match looking::find(&self.root, place.as_slice()) {
+        match looking::find(self.root(), place.as_slice()) {
             None => false,
             Some(node) => start_checked_of(node),
         }
@@ -167,8 +187,8 @@ impl Page {
     pub fn text_under(&self, place: &Place) -> Result<Text, NoMemory>
         ensures { IfOk result (λ text. text ≡ text_at place.now self.now) }
     {
-        let mut joined = String::new(self.root.allocator());
-        if let Some(node) = looking::find(&self.root, place.as_slice()) {
+        let mut joined = String::new(self.root().allocator());
+        if let Some(node) = looking::find(self.root(), place.as_slice()) {
             add_texts(node, &mut joined)?;
         }
         Ok(Text::from(joined))
@@ -180,8 +200,8 @@ impl Page {
         ensures every { IfOk result (λ found. (q : List ℕ) → Contains found.items q ↔ (IsTrue (is_under place.now q) × IsSome (node_at q self.now))) }
         ensures order { IfOk result (λ found. IsStrictlySortedBy (slice_cmp nat_cmp) found.items) }
     {
-        let mut found = Vec::new(self.root.allocator());
-        if let Some(node) = looking::find(&self.root, place.as_slice()) {
+        let mut found = Vec::new(self.root().allocator());
+        if let Some(node) = looking::find(self.root(), place.as_slice()) {
             add_places_under(looking::children(node), place, &mut found)?;
         }
         Ok(found)

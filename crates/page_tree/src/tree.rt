@@ -1,8 +1,7 @@
-ghost use Rattle.std.specs.Prelude.{◌≡◌, ◌↔◌, IfOk, IsTrue, map};
+ghost use Rattle.std.specs.Prelude.{◌≡◌, ◌↔◌, IsTrue};
 ghost use Rattle.page_tree.specs.Seen.{seen, all_seen};
 
 use crate::attributes::Attributes;
-use crate::memory::NoMemory;
 use crate::text::Text;
 use std::alloc::Global;
 
@@ -22,30 +21,6 @@ impl Tree {
         match self {
             Tree::Element { children, .. } => *children.allocator(),
             Tree::Words(text) => text.allocator(),
-        }
-    }
-
-    /// A copy of the tree.
-    #[cycle(copying)]
-    pub(crate) fn copy(&self) -> Result<Tree, NoMemory>
-        ensures { IfOk result (λ copy. seen copy ≡ seen self.now) }
-    {
-        match self {
-            Tree::Words(text) => Ok(Tree::Words(text.copy()?)),
-            Tree::Element {
-                name,
-                attributes,
-                children,
-            } => {
-                let name = name.copy()?;
-                let attributes = attributes.copy()?;
-                let children = copy_all(children)?;
-                Ok(Tree::Element {
-                    name,
-                    attributes,
-                    children,
-                })
-            }
         }
     }
 
@@ -79,17 +54,6 @@ impl Tree {
             _ => false,
         }
     }
-}
-
-#[cycle(copying)]
-fn copy_all(trees: &Vec<Tree>) -> Result<Vec<Tree>, NoMemory>
-    ensures { IfOk result (λ copies. map seen copies.items ≡ map seen trees.now.items) }
-{
-    let mut copies = Vec::with_capacity(*trees.allocator(), trees.len())?;
-    for tree in trees {
-        copies.push(tree.copy()?)?;
-    }
-    Ok(copies)
 }
 
 #[cycle(comparing)]

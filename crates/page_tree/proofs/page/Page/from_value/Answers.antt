@@ -15,11 +15,11 @@ returns-in_err-root-clause-fault c =
     let p = err_from_is_err_and c.from_residual.result c.from_residual.ensures.1 in
     rw (p.1, p.2) (λ real. (walked_err (view c.args.value.now) c.in_err-root.field-0.0 c.in_err-root.ensures real).1)
 
-pub invariant_of-result : goal.invariant_of-result
-invariant_of-result c = (walked_ok (view c.args.value.now) (seen c.in_ok-root.root) c.in_ok-root.ensures).0.page
+pub holding-requires : goal.holding-requires
+holding-requires c = (walked_ok (view c.args.value.now) (seen c.in_ok-root.root) c.in_ok-root.ensures).0.page
 
 pub returns-clause-ok : goal.returns-clause-ok
-returns-clause-ok c = walked_ok (view c.args.value.now) (seen c.in_ok-root.root) c.in_ok-root.ensures
+returns-clause-ok c = rw c.in_ok-holding.ensures (walked_ok (view c.args.value.now) (seen c.in_ok-root.root) c.in_ok-root.ensures)
 
 pub returns-in_err-root-clause-found : goal.returns-in_err-root-clause-found
 returns-in_err-root-clause-found c =
@@ -27,7 +27,7 @@ returns-in_err-root-clause-found c =
     rw (p.1, p.2) (λ real. page_missed (view c.args.value.now) (walked_err (view c.args.value.now) c.in_err-root.field-0.0 c.in_err-root.ensures real).0)
 
 pub returns-clause-only : goal.returns-clause-only
-returns-clause-only c = λ other is. page_once (view c.args.value.now) (seen c.in_ok-root.root) other (walked_ok (view c.args.value.now) (seen c.in_ok-root.root) c.in_ok-root.ensures).0 is
+returns-clause-only c = rw c.in_ok-holding.ensures (λ other is. page_once (view c.args.value.now) (seen c.in_ok-root.root) other (walked_ok (view c.args.value.now) (seen c.in_ok-root.root) c.in_ok-root.ensures).0 is)
 
 pub returns-clause-found : goal.returns-clause-found
-returns-clause-found c = page_found (view c.args.value.now) (seen c.in_ok-root.root) (walked_ok (view c.args.value.now) (seen c.in_ok-root.root) c.in_ok-root.ensures).0
+returns-clause-found c = rw c.in_ok-holding.ensures (page_found (view c.args.value.now) (seen c.in_ok-root.root) (walked_ok (view c.args.value.now) (seen c.in_ok-root.root) c.in_ok-root.ensures).0)

@@ -14,8 +14,8 @@ returns-in_err-inspect_root-clause-fault c =
     let p = err_from_is_err_and c.from_residual.result c.from_residual.ensures.1 in
     rw (p.1, p.2) (λ real. (inspected_err (seen c.args.root) c.in_err-inspect_root.field-0.0 (sym c.in_err-inspect_root.ensures)).1)
 
-pub invariant_of-result : goal.invariant_of-result
-invariant_of-result c = (inspected_ok (seen c.args.root) c.in_ok-inspect_root.field-0 (sym c.in_ok-inspect_root.ensures)).0
+pub holding-requires : goal.holding-requires
+holding-requires c = (inspected_ok (seen c.args.root) c.in_ok-inspect_root.field-0 (sym c.in_ok-inspect_root.ensures)).0
 
 pub returns-clause-ok : goal.returns-clause-ok
-returns-clause-ok c = inspected_ok (seen c.args.root) c.in_ok-inspect_root.field-0 (sym c.in_ok-inspect_root.ensures)
+returns-clause-ok c = rw c.in_ok-holding.ensures (inspected_ok (seen c.args.root) c.in_ok-inspect_root.field-0 (sym c.in_ok-inspect_root.ensures))

@@ -7,7 +7,7 @@ use Rattle.page_tree.proofs.page.Page.places_under.Goals as goal
 
 pub add_places_under-requires : goal.add_places_under-requires
 add_places_under-requires c =
-    omega (arith, few_under c.as_slice.result.now (seen c.self.inside.root) (seen c.in-Some.node.now) c.children.result.now c.in-Some.ensures c.children.ensures c.self.invariant.many)
+    omega (arith, few_under c.as_slice.result.now (seen c.root-2.result.now) (seen c.in-Some.node.now) c.children.result.now c.in-Some.ensures c.children.ensures c.root-2.ensures.page.many)
 
 pub returns-clause-every : goal.returns-clause-every
 returns-clause-every c =
