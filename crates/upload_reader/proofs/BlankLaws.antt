@@ -1,5 +1,5 @@
 -- Blank lines that are passed: what they change of what was taken, and of what a place stands for.
-use Rattle.std.proofs.Common.{◌≡◌, ℕ, ◌+◌, ◌≤◌, List, [], ◌∷◌, ◌++◌, length, take, drop, true, nat_lt, if◌then◌else◌, Option, None, sym, ap, ◌∙◌, arith, append-nil, append_assoc, length-append}
+use Rattle.std.proofs.Common.{◌≡◌, ℕ, ◌+◌, ◌≤◌, List, [], ◌∷◌, ◌++◌, length, take, drop, true, Option, None, sym, ap, ◌∙◌, arith, append-nil, append_assoc, length-append}
 use Rattle.std.proofs.Math.Seq.{take-append_seam}
 use Rattle.byte_streams.specs.CompleteLines.{complete_lines}
 use Rattle.byte_streams.specs.declared.fault.LineFault.{LineFault}

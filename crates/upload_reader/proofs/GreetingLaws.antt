@@ -1,5 +1,5 @@
 -- How an upload begins, by the first line that isn't blank.
-use Rattle.std.proofs.Common.{◌≡◌, ◌≢◌, ℕ, ◌+◌, List, [], ◌∷◌, ◌++◌, length, drop, true, false, Option, Some, None, Result, Ok, Err, IfSome, IsErrOf, inr, refl, ap, ◌∙◌, arith, length-append}
+use Rattle.std.proofs.Common.{◌≡◌, ◌≢◌, ℕ, ◌+◌, List, [], ◌∷◌, ◌++◌, length, drop, true, false, Option, Some, None, Result, Ok, Err, IfSome, inr, refl, ap, ◌∙◌, arith, length-append}
 use Rattle.byte_streams.specs.Answers.{Answer, bytes_of}
 use Rattle.byte_streams.specs.Cutting.{cut, ending_of}
 use Rattle.byte_streams.specs.Reading.{Reading, ReadsWhile, input}

@@ -1,33 +1,24 @@
 -- What the next line that isn't blank does to a lane.
-use Rattle.std.proofs.Common.{◌≡◌, ℕ, ◌+◌, ◌≤◌, List, [], ◌∷◌, ◌++◌, length, drop, Bool, true, false, if◌then◌else◌, nat_lt, Option, Some, None, option_map, Result, Ok, Err, IsSome, refl, sym, subst, ap, ◌∙◌, arith, append-nil, length-append}
+use Rattle.std.proofs.Common.{◌≡◌, ℕ, ◌+◌, ◌≤◌, List, [], ◌∷◌, ◌++◌, length, drop, true, false, Option, Some, None, Result, Ok, Err, IsSome, refl, sym, subst, ap, ◌∙◌, arith, append-nil, length-append}
 use Rattle.std.proofs.lemmas.Grind.{flat_map-append}
 use Rattle.byte_streams.specs.Answers.{Answer, bytes_of}
-use Rattle.byte_streams.specs.Cutting.{cut, ending_of}
+use Rattle.byte_streams.specs.Cutting.{ending_of}
 use Rattle.byte_streams.specs.Reading.{Reading, ReadsWhile, input, failures_told}
 use Rattle.byte_streams.specs.declared.fault.LineFault.{LineFault}
 use Rattle.byte_streams.specs.declared.fault.LineFault.TheVariants as line
 use Rattle.byte_streams.proofs.ReadingLaws.{bytes_of-append, reads_none, reads_then}
 use Rattle.byte_streams.specs.GoesOn.{GoesOn}
-use Rattle.upload_reader.specs.Front.{Passes, IsTaken, LinesBetween}
-use Rattle.upload_reader.specs.Limits.{max_line_bytes, max_messages}
+use Rattle.upload_reader.specs.Front.{IsTaken, LinesBetween}
+use Rattle.upload_reader.specs.Limits.{max_line_bytes}
 use Rattle.upload_reader.specs.Message.{is_blank, line_said}
 use Rattle.upload_reader.specs.Next.{next_of, failed_reads, IfOver}
 use Rattle.upload_reader.specs.Real.{IfReal}
-use Rattle.upload_reader.specs.Session.{session_fault}
-use Rattle.upload_reader.specs.Stream.{Costed, Stream, Lane, IsSaid, UnlessHad, IsStreamOf, messages_in, message_in, message_said, messages_of, message_fault, said_end, next_number, line_end, stop_end, kind_of}
+use Rattle.upload_reader.specs.Stream.{Costed, Stream, Lane, IsSaid, UnlessHad, IsStreamOf, messages_in, message_in, message_said, said_end, next_number, line_end, stop_end, kind_of}
 use Rattle.upload_reader.specs.inside.Ended.{fault_ending}
 use Rattle.upload_reader.specs.inside.Taken.{Taken, EndsLane, LaneFront, LaneTaken, TakesText, EndsByText, SaysNoMore}
 use Rattle.upload_reader.specs.inside.Text.{AreBlank, BlanksBetween, OnlyBlanks, NextText}
 use Rattle.upload_reader.specs.declared.ending.Ending.{Ending}
 use Rattle.upload_reader.specs.declared.ending.Ending.TheVariants.{Over, GaveUp}
-use Rattle.upload_reader.specs.declared.lane_fault.LaneEnd.{LaneEnd}
-use Rattle.upload_reader.specs.declared.lane_fault.LaneEnd.TheVariants.{Bye, Fault}
-use Rattle.upload_reader.specs.declared.lane_fault.LaneFault.{LaneFault}
-use Rattle.upload_reader.specs.declared.lane_fault.LaneFault.TheVariants.{BadSession, LaneFull}
-use Rattle.upload_reader.specs.declared.line.Line.{Line}
-use Rattle.upload_reader.specs.declared.line.Line.TheVariants as said
-use Rattle.upload_reader.specs.declared.message.Message.{Message}
-use Rattle.upload_reader.specs.declared.session_fault.SessionFault.{SessionFault}
 use Rattle.upload_reader.proofs.BlankLaws.{passes_blanks, joined_long}
 use Rattle.upload_reader.proofs.FrontLaws.{passes_none}
 use Rattle.upload_reader.proofs.FrontSteps.{takes_line, ends_by_line, ends_by_fault, none_yet}

@@ -1,5 +1,5 @@
 -- Blank lines that are passed, one after another, up to a line that isn't blank.
-use Rattle.std.proofs.Common.{◌≡◌, ℕ, ◌+◌, ◌≤◌, List, [], ◌∷◌, ◌++◌, length, true, false, Option, Some, None, Result, Ok, Err, IsSome, IfSome, IsErrOf, OnOk, MatchResult, refl, sym, ap, ◌∙◌, arith, length-append}
+use Rattle.std.proofs.Common.{◌≡◌, ℕ, ◌+◌, ◌≤◌, List, [], ◌∷◌, ◌++◌, length, true, false, Option, Some, None, Result, Ok, Err, IsSome, IsErrOf, OnOk, refl, sym, ap, ◌∙◌, arith, length-append}
 use Rattle.std.specs.Option.{ForSome}
 use Rattle.std.proofs.lemmas.Option.{MatchOption-at_some}
 use Rattle.byte_streams.specs.Answers.{Answer, bytes_of}

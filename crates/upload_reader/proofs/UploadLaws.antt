@@ -1,6 +1,5 @@
 -- What an upload keeps from call to call.
-use Rattle.std.proofs.Common.{◌≡◌, ℕ, ◌+◌, List, [], ◌++◌, length, drop, true, Option, Some, None, Result, Ok, Err, IfErr, IfSome, IsErrOf, option_map, refl, sym, subst, ap, ◌∙◌, arith, append-nil}
-use Rattle.std.proofs.lemmas.Option.{MatchOption-at_some}
+use Rattle.std.proofs.Common.{◌≡◌, ℕ, ◌+◌, List, [], ◌++◌, length, drop, true, Option, Some, None, Result, Ok, Err, IfErr, refl, sym, subst, ap, ◌∙◌, arith, append-nil}
 use Rattle.byte_streams.specs.Reading.{Reading, input}
 use Rattle.byte_streams.specs.declared.fault.LineFault.{LineFault}
 use Rattle.byte_streams.proofs.ReadingLaws.{reads_none}
@@ -16,7 +15,6 @@ use Rattle.upload_reader.specs.inside.Text.{NextText}
 use Rattle.upload_reader.specs.declared.ending.Ending.{Ending}
 use Rattle.upload_reader.specs.declared.ending.Ending.TheVariants.{Over, GaveUp}
 use Rattle.upload_reader.specs.declared.lane_fault.LaneEnd.{LaneEnd}
-use Rattle.upload_reader.specs.declared.lane_fault.LaneEnd.TheVariants.{Fault}
 use Rattle.upload_reader.specs.declared.lane_fault.LaneFault.{LaneFault}
 use Rattle.upload_reader.proofs.FrontLaws.{said_first}
 use Rattle.upload_reader.proofs.FrontSteps.{takes_first}

@@ -1,21 +1,20 @@
 -- What reading the site line and the lane behind it gives, by how lines are cut.
-use Rattle.std.proofs.Common.{◌≡◌, ◌≢◌, ℕ, List, drop, Option, Some, None, Result, Ok, Err, refl, sym, subst, ◌∙◌, ap, inl, inr}
+use Rattle.std.proofs.Common.{◌≡◌, ℕ, List, drop, Option, Some, Result, Ok, Err, refl, sym, subst, ◌∙◌, inr}
 use Rattle.std.specs.Prelude.{IsNone}
 use Rattle.serde_json.specs.Data.{Data}
 use Rattle.byte_streams.specs.Answers.{Answer}
 use Rattle.byte_streams.specs.Cutting.{ending_of, StopsAtEnd}
 use Rattle.byte_streams.specs.Reading.{Reading, WasRead, ReadsWhile, Advances, Tells, input}
 use Rattle.byte_streams.specs.declared.fault.LineFault.{LineFault}
-use Rattle.byte_streams.specs.declared.fault.LineFault.TheVariants.{ReadFailed, TooManyReads, Truncated, LineTooLong, NoMemory}
 use Rattle.upload_reader.specs.Upload as upload
 use Rattle.upload_reader.specs.Upload.{UploadState, Begins}
 use Rattle.upload_reader.specs.declared.hello_fault.HelloFault.{HelloFault}
 use Rattle.upload_reader.specs.declared.hello_fault.HelloFault.TheVariants as hello
 use Rattle.warp_server.specs.Site.{Site as PlainSite, IsJsonOf, IsSiteOf}
-use Rattle.warp_server.specs.SiteReading.{Stands, site_quota}
+use Rattle.warp_server.specs.SiteReading.{site_quota}
 use Rattle.warp_server.specs.Run.{site_line, max_site_bytes, HasBadHello, Reads, ReadWhileUndecided}
 use Rattle.warp_server.specs.inside.Gathering.{RecordsOf, ReadsBeforeEnd}
-use Rattle.warp_server.specs.inside.Intake.{IsFresh, IsBehindSite, IsRefused, HasGathered, Intakes, no_site, bad_site, no_hello}
+use Rattle.warp_server.specs.inside.Intake.{IsFresh, IsBehindSite, IsRefused, HasGathered, Intakes, bad_site, no_hello}
 use Rattle.warp_server.specs.declared.gathering.Gathered.{Gathered}
 use Rattle.warp_server.specs.declared.intake.Refused.{Refused}
 use Rattle.warp_server.specs.declared.intake.Refused.TheVariants as refused

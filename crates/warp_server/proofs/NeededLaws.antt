@@ -1,5 +1,5 @@
 -- Each read was made where the bytes before it decided nothing: of the site line, of the hello and of the lane.
-use Rattle.std.proofs.Common.{◌≡◌, ℕ, List, [], ◌++◌, length, take, drop, Option, Some, None, Result, Ok, Err, inl, inr, refl, sym, ap, ◌∙◌, append-nil}
+use Rattle.std.proofs.Common.{◌≡◌, ℕ, List, [], ◌++◌, take, drop, Option, Some, None, Result, Ok, Err, inl, inr, refl, sym, ap, ◌∙◌, append-nil}
 use Rattle.byte_streams.specs.Answers.{Answer, bytes_of}
 use Rattle.byte_streams.specs.Cutting.{ending_of}
 use Rattle.byte_streams.specs.GoesOn.{GoesOn}
@@ -7,12 +7,12 @@ use Rattle.byte_streams.specs.Reading.{Reading, MadeWhile, ReadsWhile, NoLineYet
 use Rattle.byte_streams.specs.declared.fault.LineFault.{LineFault}
 use Rattle.byte_streams.proofs.ReadingLaws.{bytes_of-append, made_then}
 use Rattle.upload_reader.specs.Greeting.{Greeting, IsGreetingOf}
-use Rattle.upload_reader.specs.Stream.{Costed, Stream, IsStreamOf}
+use Rattle.upload_reader.specs.Stream.{Costed, IsStreamOf}
 use Rattle.upload_reader.specs.Upload.{UploadState, Begins, NotGreeted}
 use Rattle.upload_reader.specs.declared.hello_fault.HelloFault.{HelloFault}
 use Rattle.upload_reader.specs.declared.lane_fault.LaneEnd.{LaneEnd}
 use Rattle.warp_server.specs.Site.{Site as PlainSite}
-use Rattle.warp_server.specs.Run.{site_line, max_site_bytes, HasSite, HasReport, HasBadSite, HasBadHello, BeginsBy, behind, Opening, OpensBy, lane_behind, lane_place, IsUndecided, ReadWhileUndecided}
+use Rattle.warp_server.specs.Run.{site_line, max_site_bytes, HasSite, HasReport, HasBadSite, BeginsBy, behind, Opening, OpensBy, lane_behind, lane_place, IsUndecided, ReadWhileUndecided}
 use Rattle.warp_server.specs.inside.Gathering.{NotOver}
 use Rattle.warp_server.specs.inside.Intake.{IsFresh, IsBehindSite}
 use Rattle.warp_server.specs.declared.site.Site.{Site}

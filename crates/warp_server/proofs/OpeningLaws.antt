@@ -1,13 +1,13 @@
 -- What stands before a lane stays as the input goes on: the site line, and the lines of the upload up to its hello. There is no other of either.
-use Rattle.std.proofs.Common.{◌≡◌, ℕ, zero, suc, ◌+◌, ◌≤◌, List, [], ◌∷◌, ◌++◌, length, take, drop, Bool, true, false, if◌then◌else◌, nat_lt, Option, Some, None, Result, Ok, Err, refl, sym, ◌∙◌, ap, arith, append_assoc, length-append}
-use Rattle.std.specs.Prelude.{IsSome, option_map, option_and_then}
+use Rattle.std.proofs.Common.{◌≡◌, ℕ, zero, suc, ◌+◌, ◌≤◌, List, [], ◌∷◌, ◌++◌, length, take, drop, Bool, true, false, if◌then◌else◌, nat_lt, Option, Some, None, Result, Ok, Err, refl, ◌∙◌, ap, arith, append_assoc, length-append}
+use Rattle.std.specs.Prelude.{option_map, option_and_then}
 use Rattle.std.proofs.lemmas.List.{take-append-le}
 use Rattle.byte_streams.specs.CompleteLines.{complete_lines, unended}
 use Rattle.byte_streams.specs.declared.fault.LineFault.{LineFault}
 use Rattle.byte_streams.specs.declared.fault.LineFault.TheVariants.{LineTooLong}
 use Rattle.byte_streams.proofs.CutLaws.{cut_longer}
 use Rattle.byte_streams.proofs.LineLaws.{complete_lines-more}
-use Rattle.upload_reader.specs.Front.{Passes, EndsBy, rest_ends, line_ends, joined}
+use Rattle.upload_reader.specs.Front.{Passes, EndsBy, joined}
 use Rattle.upload_reader.specs.Greeting.{Greeting, IsGreetingOf, greeting_by, no_greeting, lines_length}
 use Rattle.upload_reader.specs.Hello.{hello_said}
 use Rattle.upload_reader.specs.Limits.{max_line_bytes}

@@ -1,7 +1,6 @@
 use Rattle.std.proofs.Common.{◌≡◌, ◌∷◌, [], None, Some, IsSome, subst}
 use Rattle.byte_streams.specs.Reading.{ReadsWhile}
 use Rattle.upload_reader.specs.Upload.{UploadState, GivesFirst, NothingMore}
-use Rattle.upload_reader.specs.inside.Taken.{lane_of, taken_of}
 use Rattle.upload_reader.proofs.UploadLaws.{gives_first, real_over, state_is, lane_kept, gives_none, ends_by_it}
 use Rattle.upload_reader.proofs.upload.Upload.next.Goals as goal
 
