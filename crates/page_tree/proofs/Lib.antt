@@ -11,3 +11,4 @@ pub mod ValueLaws
 pub mod PageLaws
 pub mod Once
 pub mod RealFaults
+pub mod Bisection

@@ -1,14 +1,19 @@
-ghost use Rattle.std.specs.Prelude.{◌≡◌, ◌↔◌, IsTrue, option_map};
+ghost use Rattle.std.specs.Prelude.{◌≡◌, ◌↔◌, IsTrue, true, option_map};
+ghost use Rattle.std.specs.Cmp.Lexicographic.{slice_cmp};
+ghost use Rattle.std.specs.Ordering.{nat_cmp};
 ghost use Rattle.page_tree.specs.Look.{value_of};
 ghost use Rattle.page_tree.specs.Limits.{names_of, is_ascending};
 
 use crate::text::Text;
+use std::cmp::Ordering;
 use std::marker::Model;
 
 /// The attributes of an element: pairs of a name and a value, as they were given.
 #[derive(Debug, Drop)]
 pub struct Attributes {
     pairs: Vec<(Text, Text)>,
+    // whether each name is below the next one, in byte order
+    ascending: bool,
 }
 
 impl Model for Attributes {
@@ -17,7 +22,12 @@ impl Model for Attributes {
 
     ghost Value = { List Attribute };
 
+    ghost use Rattle.std.specs.Prelude.{◌≡◌};
+    ghost use Rattle.page_tree.specs.Limits.{names_of, is_ascending};
+
     ghost view = { λ a. a.pairs.items };
+
+    ghost invariant = { λ a. a.ascending ≡ is_ascending (names_of a.pairs.items) };
 }
 
 impl Attributes {
@@ -27,8 +37,32 @@ impl Attributes {
         self.pairs
     }
 
-    /// The value of the first attribute of that name.
+    /// The value of the first attribute of that name. Where the names ascend, the time is logarithmic in their number.
     pub fn get(&self, name: &str) -> Option<&str>
+        ensures { option_map (λ value. value.now) result ≡ value_of name.now self.now }
+    {
+        if self.ascending {
+            self.bisected(name)
+        } else {
+            self.first(name)
+        }
+    }
+
+    fn bisected(&self, name: &str) -> Option<&str>
+        requires { is_ascending (names_of self.now) ≡ true }
+        ensures { option_map (λ value. value.now) result ≡ value_of name.now self.now }
+    {
+        let found = self
+            .pairs
+            .as_slice()
+            .binary_search_by(|pair| name_order(pair, name));
+        match found {
+            Ok(at) => Some(self.pairs[at].1.as_str()),
+            Err(_) => None,
+        }
+    }
+
+    fn first(&self, name: &str) -> Option<&str>
         ensures { option_map (λ value. value.now) result ≡ value_of name.now self.now }
     {
         for (key, value) in &self.pairs {
@@ -43,16 +77,7 @@ impl Attributes {
     pub(crate) fn is_ascending(&self) -> bool
         ensures { result ≡ is_ascending (names_of self.now) }
     {
-        let mut before: Option<&str> = None;
-        for (name, _) in &self.pairs {
-            if let Some(last) = before {
-                if last >= name.as_str() {
-                    return false;
-                }
-            }
-            before = Some(name.as_str());
-        }
-        true
+        self.ascending
     }
 
     pub(crate) fn same(&self, other: &Attributes) -> bool
@@ -66,8 +91,30 @@ impl From<Vec<(Text, Text)>> for Attributes {
     ghost from_gives = { λ pairs attributes. attributes ≡ pairs.items };
 
     fn from(pairs: Vec<(Text, Text)>) -> Attributes {
-        Attributes { pairs }
+        let ascending = are_ascending(pairs.as_slice());
+        Attributes { pairs, ascending }
     }
+}
+
+fn name_order(pair: &(Text, Text), name: &str) -> Ordering
+    ensures { result ≡ slice_cmp nat_cmp pair.now.0 name.now }
+{
+    pair.0.as_str().cmp(name)
+}
+
+fn are_ascending(pairs: &[(Text, Text)]) -> bool
+    ensures { result ≡ is_ascending (names_of pairs.now) }
+{
+    let mut before: Option<&str> = None;
+    for (name, _) in pairs {
+        if let Some(last) = before {
+            if last >= name.as_str() {
+                return false;
+            }
+        }
+        before = Some(name.as_str());
+    }
+    true
 }
 
 fn are_same(pairs: &[(Text, Text)], others: &[(Text, Text)]) -> bool
