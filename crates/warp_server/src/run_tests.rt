@@ -1,6 +1,7 @@
 use crate::{Status, Told, run};
 use byte_streams::Fed;
 use std::alloc::{AllocError, Global};
+use std::io::Read;
 use std::process::Abort;
 use std::test::Fail;
 use stream_fakes::{Drip, Refusal, Sips};
@@ -126,6 +127,34 @@ fn stops_at_the_bye(rt: HostRuntime) -> Result<(), Fail> {
     assert_eq!(rt; status, Status::Done);
     assert!(rt; sips.taken.as_slice() == REPORT.as_bytes());
     assert_eq!(rt; drip.reads, needed);
+    Ok(())
+}
+
+// The first read gives all that a run needs, to the bye, to a fault or to what it refuses. What the next read would give is left to the reader.
+#[test]
+fn leaves_the_bytes_behind_its_reads(rt: HostRuntime) -> Result<(), Fail> {
+    let alloc = rt.alloc();
+    let behind = "{ no more\n";
+    let cases: [(&[&str], Status); 4] = [
+        (&[SITE, HELLO, LOAD, CLICK, END, BYE], Status::Done),
+        (&[SITE, HELLO, LOAD, "["], Status::Done),
+        (&["{}", LOAD], Status::BadHello),
+        (&[r#"{"quota":0}"#], Status::BadSite),
+    ];
+    for (lines, status) in cases {
+        let mut input = joined(alloc, lines)?;
+        let needed = input.len();
+        input.push_str(behind)?;
+        let mut reader = Fed::new(Drip::new(alloc, input.as_bytes(), needed)?);
+        let mut sips = Sips::new(alloc, 4096, None);
+        assert_eq!(rt; run(&rt, &mut reader, &mut Told::new(&mut sips)), status);
+        let mut left = [0; 16];
+        let count = reader.read(&mut left)?;
+        assert!(rt;
+            left.get(..count) == Some(behind.as_bytes()),
+            "at {status:?}"
+        );
+    }
     Ok(())
 }
 
