@@ -1,40 +1,15 @@
 -- What a line that was found and cut comes to.
-use Rattle.std.proofs.Common.{◌≡◌, ℕ, ◌+◌, ◌-◌, ◌*◌, ◌<◌, ◌≤◌, List, length, take, drop, Option, Some, None, Result, Ok, Err, IfSome, IsErrOf, refl, sym, ap, ◌∙◌, arith, length-take, length-drop}
-use Rattle.std.proofs.lemmas.List.{drop-drop}
-use Rattle.byte_streams.specs.Answers.{Answer, bytes_of}
+use Rattle.std.proofs.Common.{◌≡◌, ℕ, ◌+◌, ◌-◌, ◌*◌, ◌<◌, ◌≤◌, List, length, take, drop, Option, Some, None, Result, Ok, IfSome, sym, ap, ◌∙◌, arith, length-take, length-drop}
+use Rattle.byte_streams.specs.Answers.{bytes_of}
 use Rattle.byte_streams.specs.Cutting.{cut, line_length, ending_of}
 use Rattle.byte_streams.specs.Reading.{Reading, input, uncut, ReadsWhile, NoLineYet, Advances}
-use Rattle.byte_streams.specs.inside.Kept.{IsTail, IsKept}
 use Rattle.byte_streams.specs.declared.fault.LineFault.{LineFault}
-use Rattle.byte_streams.proofs.CutLaws.{line_ends}
+use Rattle.byte_streams.proofs.Feeds.{line_ends}
 use Rattle.byte_streams.proofs.Cutting.{cut_line}
 use Rattle.byte_streams.proofs.ReadingLaws.{reads_none, reads_then}
 
 pub length_within : (limit : ℕ) (bytes : List ℕ) (n : ℕ) → line_length limit bytes ≡ Some n → n < length bytes
-length_within limit bytes n ends = let (far, inside, short) = line_ends limit n bytes ends in inside
-
--- the end of a list without its first items is still the end of it
-tail_less : (all tail tail' : List ℕ) (n : ℕ) → IsTail all tail → tail' ≡ drop n tail → n ≤ length tail → IsTail all tail'
-tail_less all tail tail' n is less within =
-    let left = length-drop n tail in
-    let whole = ap length is ∙ refl in
-    let size = length-drop (length all - length tail) all in
-    let sum : length all - length tail' ≡ (length all - length tail) + n = omega (arith, ap length less, left, whole, size, within) in
-    ap (λ k. drop k all) sum ∙ drop_further (length all - length tail) n all ∙ ap (drop n) is ∙ sym less
-  where
-    drop_further : (a b : ℕ) (xs : List ℕ) → drop (a + b) xs ≡ drop b (drop a xs)
-    drop_further a b xs = let swap : a + b ≡ a + b = refl in sym (drop-drop b a xs)
-
-pub kept_cut : (answers : List Answer) (kept kept' : List ℕ) (reads n : ℕ) (fault : Option LineFault) → IsKept answers kept reads fault → kept' ≡ drop (n + 1) kept → n < length kept → IsKept answers kept' reads fault
-kept_cut answers kept kept' reads n fault holds less within = record {
-  counted = holds.counted;
-  few = holds.few;
-  small = holds.small;
-  tail = tail_less (bytes_of answers) kept kept' (n + 1) holds.tail less (omega (arith, within));
-  going = holds.going;
-  stops = holds.stops;
-  failures = holds.failures;
-}
+length_within limit bytes n ends = let (at, inside, short) = line_ends limit n bytes ends in inside
 
 abbrev done : Result (Unit {0}) LineFault
 done = Ok tt
@@ -44,10 +19,10 @@ never None P none = tt
 never (Some fault) P none = cc
 
 -- the line that was found is the next one, and the place is behind it
-pub advanced : {R : Type 0} (limit : ℕ) (old now new : Reading R) (count : ℕ) → old.fault ≡ None → ReadsWhile (NoLineYet limit old.place) old now → now.place ≡ old.place → now.place ≤ length (input now)
+pub advanced : {R : Type 0} (limit : ℕ) (old now new : Reading R) (count : ℕ) → old.fault ≡ None → ReadsWhile (NoLineYet limit old.place) old now → now.place ≡ old.place
     → line_length limit (uncut now) ≡ Some count → new.first ≡ now.first → new.answers ≡ now.answers → new.line ≡ take count (uncut now) → new.place ≡ length (input new) - length (drop (count + 1) (uncut now)) → new.fault ≡ None
     → length (input new) ≤ 8192 * 1048576 → Advances limit old new done
-advanced limit old now new count none reads place inside found first answers line at fault bound =
+advanced limit old now new count none reads place found first answers line at fault bound =
     let within = length_within limit (uncut now) count found in
     let size = ap length line ∙ length-take count (uncut now) in
     let left = length-drop (count + 1) (uncut now) in
@@ -57,7 +32,7 @@ advanced limit old now new count none reads place inside found first answers lin
       reads = reads_then (NoLineYet limit old.place) (NoLineYet limit old.place) old now new (λ rest undecided. undecided) reads (reads_none (NoLineYet limit old.place) now new first answers);
       tells = λ _. ap (λ answers. cut limit (drop old.place (bytes_of answers)) (ending_of answers)) answers ∙ ap (λ n. cut limit (drop n (input now)) (ending_of now.answers)) (sym place)
           ∙ cut_line limit (uncut now) (ending_of now.answers) count found ∙ ap (λ line. Some (Ok line)) (sym line);
-      place = omega (arith, at, size, left, uncut_size, same_input, place, within, inside);
+      place = omega (arith, at, size, left, uncut_size, same_input, place, within);
       fault = fault;
       again = never old.fault _ none;
       bounded = omega (arith, at, bound);

@@ -1,7 +1,6 @@
 -- What the next line of some bytes is, by what they hold.
-use Rattle.std.proofs.Common.{◌≡◌, ℕ, ◌+◌, ◌<◌, ◌≤◌, List, length, take, position, option_map, Option, Some, None, Ok, Err, ap, sym, ◌∙◌, arith}
-use Rattle.std.proofs.lemmas.List.{take_all}
-use Rattle.byte_streams.specs.Cutting.{cut, cut_by, line_length, is_line_feed}
+use Rattle.std.proofs.Common.{◌≡◌, ℕ, ◌<◌, ◌≤◌, List, length, take, option_map, Option, Some, None, Ok, Err, ap, ◌∙◌, arith}
+use Rattle.byte_streams.specs.Cutting.{cut, cut_by, line_length}
 use Rattle.byte_streams.specs.declared.fault.LineFault.{LineFault}
 use Rattle.byte_streams.specs.declared.fault.LineFault.TheVariants.{LineTooLong}
 
@@ -19,8 +18,3 @@ cut_too_long limit bytes ending none long = ap (λ found. cut_by found limit byt
 pub cut_by_ending : (limit : ℕ) (bytes : List ℕ) (ending : Option LineFault) → line_length limit bytes ≡ None → length bytes ≤ limit → cut limit bytes ending ≡ option_map (λ fault. Err fault) ending
 unfolding cut
 cut_by_ending limit bytes ending none short = ap (λ found. cut_by found limit bytes ending) none ∙ grind arith
-
--- bytes within the limit that hold no line end hold no line feed
-pub none_within : (limit : ℕ) (bytes : List ℕ) → line_length limit bytes ≡ None → length bytes ≤ limit → position is_line_feed bytes ≡ None
-unfolding line_length
-none_within limit bytes none short = ap (position is_line_feed) (sym (take_all (limit + 1) bytes (omega arith))) ∙ none

@@ -1,10 +1,9 @@
 pub mod Steps
 pub mod Sent
-pub mod Scanning
+pub mod Feeds
 pub mod Cutting
 pub mod ReadLaws
 pub mod ReadingLaws
-pub mod Keeping
 pub mod Searching
 pub mod Advancing
 pub mod LineLaws

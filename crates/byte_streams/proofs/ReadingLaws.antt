@@ -1,5 +1,5 @@
 -- What several reads in turn come to.
-use Rattle.std.proofs.Common.{◌≡◌, ℕ, ◌+◌, ◌-◌, ◌<◌, ◌≤◌, List, [], ◌∷◌, ◌++◌, length, take, drop, Option, Some, None, IfSome, refl, sym, ap, ◌∙◌, arith, append-nil, append_assoc, length-append}
+use Rattle.std.proofs.Common.{◌≡◌, ℕ, ◌+◌, ◌-◌, ◌<◌, ◌≤◌, List, [], ◌∷◌, ◌++◌, length, take, Option, Some, None, refl, sym, ap, ◌∙◌, arith, append-nil, append_assoc, length-append}
 use Rattle.std.proofs.lemmas.Grind.{common_steps}
 use Rattle.std.proofs.Math.Decide.{dec_le}
 use Rattle.std.proofs.Math.Nat.{lt_of_not-le}
@@ -8,7 +8,6 @@ use Rattle.std.proofs.lemmas.List.{take_all, take-append-le}
 use Rattle.std.specs.Io.KnownBytes.{Consumes, Keeps}
 use Rattle.byte_streams.specs.Answers.{Answer, bytes_of}
 use Rattle.byte_streams.specs.Reading.{Reading, WasRead, MadeWhile, ReadsWhile}
-use Rattle.byte_streams.specs.declared.fault.LineFault.{LineFault}
 
 pub bytes_of-append : (earlier later : List Answer) → bytes_of (earlier ++ later) ≡ bytes_of earlier ++ bytes_of later
 bytes_of-append earlier later = grind (arith, common_steps)

@@ -1,8 +1,8 @@
 -- What a text that is written keeps, write by write.
-use Rattle.std.proofs.Common.{◌≡◌, ℕ, zero, suc, ◌+◌, ◌<◌, List, [], ◌∷◌, ◌++◌, length, take, drop, cond, Option, Some, None, refl, ap, sym, ◌∙◌, arith, append_assoc}
+use Rattle.std.proofs.Common.{◌≡◌, ℕ, zero, suc, ◌+◌, ◌-◌, ◌<◌, List, [], ◌∷◌, ◌++◌, length, take, drop, cond, Option, Some, None, refl, ap, sym, ◌∙◌, arith, append_assoc}
 use Rattle.std.proofs.lemmas.Grind.{common_steps}
 use Rattle.std.proofs.lemmas.List.Sums.{sum_by-append}
-use Rattle.std.specs.Io.KnownBytes.{Appends, Keeps}
+use Rattle.std.specs.Io.KnownBytes.{Appends}
 use Rattle.byte_streams.specs.Answers.{Answer, empty_of, moves_nothing}
 use Rattle.byte_streams.specs.Writing.{Takes}
 use Rattle.byte_streams.proofs.ReadLaws.{moves_some, bytes_more}
@@ -19,11 +19,9 @@ appends_then (Some x) None c xs ys p q = absurd p
 appends_then (Some x) (Some y) None xs ys p q = absurd q
 appends_then (Some x) (Some y) (Some z) xs ys p q = q ∙ ap (λ ws. ws ++ ys) p ∙ append_assoc x xs ys
 
-keeps_then : (a b c : Option (List ℕ)) (xs : List ℕ) → Appends a b xs → Keeps b c → Appends a c xs
-keeps_then None b c xs p q = tt
-keeps_then (Some x) None c xs p q = absurd p
-keeps_then (Some x) (Some y) None xs p q = absurd q
-keeps_then (Some x) (Some y) (Some z) xs p q = q ∙ p
+-- what is left of a text from one place on
+pub rest_is : (at : ℕ) (text : List ℕ) → take (length text - at) (drop at text) ≡ drop at text
+rest_is at text = grind (arith, common_steps)
 
 -- the rest's first bytes, behind those before it
 pub take_further : (at count : ℕ) (text : List ℕ) → take at text ++ take count (drop at text) ≡ take (at + count) text

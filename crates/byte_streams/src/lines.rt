@@ -1,11 +1,11 @@
 //! Lines that are cut from a source, each when it is asked for.
-ghost use Rattle.std.specs.Prelude.{◌≡◌, ◌+◌, ◌<◌, ◌≤◌, [], length, take, position, Some, None, IfSome, IfOk, IfErr, OnOk, MatchResult};
+ghost use Rattle.std.specs.Prelude.{◌≡◌, ◌+◌, ◌<◌, ◌≤◌, [], length, position, option_map, Err, Some, None, IfSome, IfOk, IfErr, OnOk, MatchResult};
+ghost use Rattle.std.specs.List.{position_or_len};
 ghost use Rattle.std.specs.Borrow.{sem};
 ghost use Rattle.std.specs.Io.BufRead.{Rests};
 ghost use Rattle.byte_streams.specs.Answers.{failures_of};
 ghost use Rattle.byte_streams.specs.Cutting.{cut, line_length, ending_of, is_line_feed, StopsAtEnd};
 ghost use Rattle.byte_streams.specs.Reading.{input, uncut, WasRead, ReadsWhile, NoLineYet, StopsLine, Advances, failures_told};
-ghost use Rattle.byte_streams.specs.inside.Kept.{EndsAs};
 
 use crate::fault::LineFault;
 use crate::history::History;
@@ -34,7 +34,7 @@ impl<R: Source> Model for Lines<R> {
     ghost use Rattle.byte_streams.specs.Answers.{bytes_of};
     ghost use Rattle.byte_streams.specs.Limits.{read_bytes};
     ghost use Rattle.byte_streams.specs.Reading.{Reading, WasRead};
-    ghost use Rattle.byte_streams.specs.inside.Kept.{IsKept};
+    ghost use Rattle.byte_streams.specs.inside.Kept.{IsTail, ReadsMade};
 
     ghost Value = { Reading R };
 
@@ -47,7 +47,8 @@ impl<R: Source> Model for Lines<R> {
     } };
 
     ghost invariant = { λ l. (vec_len l.chunk ≡ read_bytes)
-        × IsKept l.history.answers l.window.kept l.reads l.fault
+        × ReadsMade l.history.answers l.reads l.fault
+        × IsTail (bytes_of l.history.answers) l.window.kept
         × WasRead R.answers R.remaining l.first.value l.reader l.history.answers
         × (R.lender l.reader ≡ R.lender l.first.value) };
 }
@@ -134,15 +135,22 @@ impl<R: Source> Lines<R> {
     {
         let mut scanned = 0;
         loop {
-            if let Some(count) = line_feed_from(self.window.kept(), scanned, limit) {
+            if let Some(count) = line_feed_from(self.uncut(), scanned, limit) {
                 return Ok(count);
             }
-            scanned = self.window.kept().len();
+            scanned = self.uncut().len();
             if scanned > limit {
                 return Err(keep(&mut self.fault, LineFault::LineTooLong));
             }
             self.fill()?;
         }
+    }
+
+    // The bytes that aren't cut yet.
+    fn uncut(&self) -> &[u8]
+        ensures { result.now ≡ uncut self.now }
+    {
+        self.window.kept()
     }
 
     // One read more, behind the bytes that aren't cut.
@@ -151,7 +159,7 @@ impl<R: Source> Lines<R> {
         ensures reads { ReadsWhile (λ answers. answers ≡ self.old.answers) self.old self.new }
         ensures place { self.new.place ≡ self.old.place }
         ensures grows { OnOk result (length self.old.answers < length self.new.answers) }
-        ensures ends { IfErr result (λ fault. (input self.new ≡ input self.old) × EndsAs fault (ending_of self.new.answers)) }
+        ensures ends { IfErr result (λ fault. (input self.new ≡ input self.old) × StopsLine fault (option_map Err (ending_of self.new.answers))) }
         ensures fault { MatchResult result (λ _. self.new.fault ≡ None) (λ fault. self.new.fault ≡ Some fault) }
     {
         if self.reads == MAX_READS {
@@ -190,10 +198,10 @@ fn keep(place: &mut Option<LineFault>, fault: LineFault) -> LineFault
 }
 
 // Where the line ends, if the bytes hold its end. None ends it in the first `from` bytes.
+#[tactic(auto, using(crate::proofs::Feeds::feed_within))]
 fn line_feed_from(bytes: &[u8], from: usize, limit: usize) -> Option<usize>
-    requires within { from ≤ length bytes.now }
+    requires none_before { from ≤ position_or_len is_line_feed bytes.now }
     requires below { from ≤ limit }
-    requires none_before { position is_line_feed (take from bytes.now) ≡ None }
     ensures length { result ≡ line_length limit bytes.now }
     ensures within { IfSome result (λ count. count < length bytes.now) }
     ensures short { IfSome result (λ count. count ≤ limit) }

@@ -1,7 +1,7 @@
-use Rattle.std.proofs.Common.{◌≡◌, ◌+◌, ◌-◌, ◌≤◌, length, take, position, None}
-use Rattle.byte_streams.specs.Cutting.{is_line_feed}
+use Rattle.std.proofs.Common.{◌≡◌, ◌+◌, ◌-◌, ◌≤◌, length, None}
 use Rattle.byte_streams.specs.Limits.{max_reads}
 use Rattle.byte_streams.specs.Reading.{uncut, ReadsWhile, NoLineYet}
+use Rattle.byte_streams.proofs.Feeds.{before_feed}
 use Rattle.byte_streams.proofs.lines.Lines.find_line.Given as goal
 
 -- the bytes that were searched hold no line feed
@@ -10,8 +10,7 @@ invariant-loop-count g l = record {
   reads : ReadsWhile (NoLineYet l.limit l.fn.self.place) l.fn.self l.self;
   place : l.self.place ≡ l.fn.self.place;
   fault : l.self.fault ≡ None;
-  none : position is_line_feed (take l.scanned (uncut l.self)) ≡ None;
-  within : l.scanned ≤ length (uncut l.self);
+  none : l.scanned ≤ before_feed (uncut l.self);
   below : l.scanned ≤ l.limit;
 }
 
