@@ -3,7 +3,9 @@ use Rattle.std.proofs.Common.{◌≡◌, ℕ, zero, suc, ◌+◌, ◌-◌, ◌<�
 use Rattle.std.specs.List.{position_or_len}
 use Rattle.std.proofs.lemmas.List.{take-append-drop, take_all}
 use Rattle.std.proofs.lemmas.List.Folds.{prefix_len-append}
-use Rattle.std.proofs.lemmas.List.Sums.{prefix_len-le-length}
+use Rattle.std.proofs.lemmas.List.Sums.{prefix_len-le-length, position_or_len_is}
+use Rattle.std.proofs.lemmas.Bool.{false_from_ne_true}
+use Rattle.memchr.specs.Find.{IsFirstByte}
 use Rattle.byte_streams.specs.Cutting.{line_length, is_line_feed}
 
 -- how many bytes stand before the first line feed
@@ -50,9 +52,17 @@ no_feed limit bytes none short = grind (arith, line_length_is limit bytes, feed_
 pub far_feed : (limit : ℕ) (bytes : List ℕ) → line_length limit bytes ≡ None → limit < length bytes → limit < before_feed bytes
 far_feed limit bytes none long = grind (arith, line_length_is limit bytes)
 
+first_feed : (bytes : List ℕ) (found : Option ℕ) → IsFirstByte is_line_feed bytes found → found ≡ position is_line_feed bytes
+first_feed bytes None nowhere =
+    let all : before_feed bytes ≡ length bytes = position_or_len_is is_line_feed bytes (length bytes) 0 (omega arith) (λ k below. false_from_ne_true _ (nowhere k (omega arith) below)) (λ below. absurd (omega (arith, below))) in
+    grind (arith, all)
+first_feed bytes (Some n) (first, passes) =
+    let here : before_feed bytes ≡ n = position_or_len_is is_line_feed bytes n 0 (omega (arith, first.high)) (λ k below. false_from_ne_true _ (first.before k (omega arith) below)) (λ _. passes) in
+    grind (arith, here, first.high)
+
 -- a search behind the first bytes, which hold none, finds it
-pub found_behind : (from : ℕ) (bytes : List ℕ) (found : Option ℕ) → from ≤ before_feed bytes → found ≡ position is_line_feed (take (length bytes - from) (drop from bytes))
+pub found_behind : (from : ℕ) (bytes : List ℕ) (found : Option ℕ) → from ≤ before_feed bytes → IsFirstByte is_line_feed (take (length bytes - from) (drop from bytes)) found
     → found ≡ cond (nat_lt (before_feed bytes) (length bytes)) (Some (before_feed bytes - from)) None
-found_behind from bytes found none is =
+found_behind from bytes found none searched =
     let rest : take (length bytes - from) (drop from bytes) ≡ drop from bytes = take_all (length bytes - from) (drop from bytes) (omega (arith, length-drop from bytes)) in
-    grind (arith, is, rest, before_feed-drop from bytes none, length-drop from bytes, feed_within bytes)
+    grind (arith, first_feed (drop from bytes) found (rw rest at searched), before_feed-drop from bytes none, length-drop from bytes, feed_within bytes)

@@ -12,6 +12,7 @@ use crate::history::History;
 use crate::limits::{MAX_READS, READ_BYTES};
 use crate::source::Source;
 use crate::window::Window;
+use memchr::memchr;
 use std::alloc::{AllocError, Global};
 use std::marker::Model;
 use std::snapshot::Snapshot;
@@ -206,15 +207,8 @@ fn line_feed_from(bytes: &[u8], from: usize, limit: usize) -> Option<usize>
     ensures within { IfSome result (λ count. count < length bytes.now) }
     ensures short { IfSome result (λ count. count ≤ limit) }
 {
-    match line_feed(&bytes[from..]) {
+    match memchr(b'\n', &bytes[from..]) {
         Some(count) if count <= limit - from => Some(from + count),
         _ => None,
     }
-}
-
-// Where the first line feed stands.
-fn line_feed(bytes: &[u8]) -> Option<usize>
-    ensures { result ≡ position is_line_feed bytes.now }
-{
-    bytes.iter().position(|byte| *byte == b'\n')
 }
