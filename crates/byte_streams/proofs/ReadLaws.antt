@@ -65,8 +65,4 @@ tail_more all tail more is =
 
 -- a list moved to its own front, cut to what was moved, is its end
 pub moved_front : (bytes : List ℕ) (count whole n : ℕ) → whole ≡ length bytes → n ≡ whole - count → count ≤ whole → take n (copy_within bytes count whole 0) ≡ drop count bytes
-moved_front bytes count whole n all is within =
-    let left = length-drop count bytes in
-    let none : 0 + (whole - count) ≡ n = omega (arith, is) in
-    ap (λ k. take k (copy_within bytes count whole 0)) (sym none) ∙ take-paste bytes 0 (drop count bytes) (whole - count) (omega arith) (omega (arith, left, all))
-    ∙ take_all (whole - count) (drop count bytes) (omega (arith, left, all))
+moved_front bytes count whole n all is within = rw is (grind (arith, common_steps, take-paste bytes 0 (drop count bytes) (whole - count)))
