@@ -1,5 +1,5 @@
 -- What a line that was found and cut comes to.
-use Rattle.std.proofs.Common.{◌≡◌, ℕ, ◌+◌, ◌-◌, ◌*◌, ◌<◌, ◌≤◌, List, length, take, drop, Option, Some, None, Result, Ok, IfSome, sym, ap, ◌∙◌, arith, length-take, length-drop}
+use Rattle.std.proofs.Common.{◌≡◌, ℕ, ◌+◌, ◌-◌, ◌*◌, ◌≤◌, length, take, drop, Some, None, Result, Ok, sym, ap, ◌∙◌, arith, length-take, length-drop}
 use Rattle.byte_streams.specs.Answers.{bytes_of}
 use Rattle.byte_streams.specs.Cutting.{cut, line_length, ending_of}
 use Rattle.byte_streams.specs.Reading.{Reading, input, uncut, ReadsWhile, NoLineYet, Advances}
@@ -8,22 +8,15 @@ use Rattle.byte_streams.proofs.Feeds.{line_ends}
 use Rattle.byte_streams.proofs.Cutting.{cut_line}
 use Rattle.byte_streams.proofs.ReadingLaws.{reads_none, reads_then}
 
-pub length_within : (limit : ℕ) (bytes : List ℕ) (n : ℕ) → line_length limit bytes ≡ Some n → n < length bytes
-length_within limit bytes n ends = let (at, inside, short) = line_ends limit n bytes ends in inside
-
 abbrev done : Result (Unit {0}) LineFault
 done = Ok tt
-
-never : (had : Option LineFault) (P : LineFault → Type 0) → had ≡ None → IfSome had P
-never None P none = tt
-never (Some fault) P none = cc
 
 -- the line that was found is the next one, and the place is behind it
 pub advanced : {R : Type 0} (limit : ℕ) (old now new : Reading R) (count : ℕ) → old.fault ≡ None → ReadsWhile (NoLineYet limit old.place) old now → now.place ≡ old.place
     → line_length limit (uncut now) ≡ Some count → new.first ≡ now.first → new.answers ≡ now.answers → new.line ≡ take count (uncut now) → new.place ≡ length (input new) - length (drop (count + 1) (uncut now)) → new.fault ≡ None
     → length (input new) ≤ 8192 * 1048576 → Advances limit old new done
 advanced limit old now new count none reads place found first answers line at fault bound =
-    let within = length_within limit (uncut now) count found in
+    let (at_feed, within, short) = line_ends limit count (uncut now) found in
     let size = ap length line ∙ length-take count (uncut now) in
     let left = length-drop (count + 1) (uncut now) in
     let uncut_size = length-drop now.place (input now) in
@@ -34,6 +27,6 @@ advanced limit old now new count none reads place found first answers line at fa
           ∙ cut_line limit (uncut now) (ending_of now.answers) count found ∙ ap (λ line. Some (Ok line)) (sym line);
       place = omega (arith, at, size, left, uncut_size, same_input, place, within);
       fault = fault;
-      again = never old.fault _ none;
+      again = rw none tt;
       bounded = omega (arith, at, bound);
     }

@@ -1,5 +1,5 @@
 -- The lines of an input, from its front.
-use Rattle.std.proofs.Common.{◌≡◌, ℕ, zero, suc, ◌+◌, ◌-◌, ◌<◌, ◌≤◌, List, [], ◌∷◌, ◌++◌, length, take, drop, get_or, nat_lt, false, ◌⊎◌, inl, inr, refl, sym, ◌∙◌, arith, sub-one, append-nil, length-append, length-take, length-drop}
+use Rattle.std.proofs.Common.{◌≡◌, ℕ, zero, suc, ◌+◌, ◌-◌, ◌<◌, ◌≤◌, List, [], ◌∷◌, ◌++◌, length, take, drop, nat_lt, false, ◌⊎◌, inl, inr, refl, sym, ◌∙◌, arith, append-nil, length-append, length-take, length-drop}
 use Rattle.std.specs.List.{slice_split}
 use Rattle.std.proofs.Math.Nat.{eq-or-lt_of_le}
 use Rattle.std.proofs.lemmas.Bool.{ltb-false}
@@ -7,7 +7,7 @@ use Rattle.std.proofs.lemmas.List.{take-append-le, drop-append-le}
 use Rattle.std.proofs.lemmas.List.Sums.{fails_before_first}
 use Rattle.std.proofs.lemmas.List.Splits.{slice_split_none, slice_split_first, length-slice_split}
 use Rattle.byte_streams.specs.Cutting.{is_line_feed}
-use Rattle.byte_streams.specs.CompleteLines.{all_but_last, complete_lines, unended}
+use Rattle.byte_streams.specs.CompleteLines.{complete_lines, unended}
 use Rattle.byte_streams.proofs.Feeds.{before_feed, feed_within, still_before}
 
 pub at_least : (a b : ℕ) → nat_lt a b ≡ false → b ≤ a
@@ -21,13 +21,8 @@ parts bytes = slice_split is_line_feed bytes
 has_parts : (bytes : List ℕ) → 0 < length (parts bytes)
 has_parts bytes = omega (arith, length-slice_split is_line_feed bytes)
 
-all_but_last-cons : {A : Type 0} (x : A) (xs : List A) → 0 < length xs → all_but_last (x ∷ xs) ≡ x ∷ all_but_last xs
-all_but_last-cons x [] some = absurd (omega arith)
-all_but_last-cons x (y ∷ ys) some = rw (sub-one, sub-one) refl
-
-last_cons : (x : List ℕ) (xs : List (List ℕ)) → 0 < length xs → get_or (x ∷ xs) (length (x ∷ xs) - 1) [] ≡ get_or xs (length xs - 1) []
-last_cons x [] some = absurd (omega arith)
-last_cons x (y ∷ ys) some = rw (sub-one, sub-one) refl
+one_less : {A : Type 0} (x : A) (xs : List A) → 0 < length xs → length (x ∷ xs) - 1 ≡ suc (length xs - 1)
+one_less x xs some = omega (arith, some)
 
 -- the first line feed ends the first part, whatever comes later
 first_part : (bytes more : List ℕ) → before_feed bytes < length bytes → parts (bytes ++ more) ≡ take (before_feed bytes) bytes ∷ parts (drop (before_feed bytes + 1) bytes ++ more)
@@ -45,12 +40,12 @@ one_part bytes none = slice_split_none is_line_feed bytes (λ k d below. fails_b
 
 pub first_line : (bytes more : List ℕ) → before_feed bytes < length bytes → complete_lines (bytes ++ more) ≡ take (before_feed bytes) bytes ∷ complete_lines (drop (before_feed bytes + 1) bytes ++ more)
 unfolding complete_lines
-first_line bytes more inside = rw (first_part bytes more inside) (all_but_last-cons _ _ (has_parts (drop (before_feed bytes + 1) bytes ++ more)))
+first_line bytes more inside = rw (first_part bytes more inside, one_less (take (before_feed bytes) bytes) _ (has_parts (drop (before_feed bytes + 1) bytes ++ more))) refl
 
 -- what stands behind the last line feed stands behind this one
 pub behind_first : (bytes more : List ℕ) → before_feed bytes < length bytes → unended (bytes ++ more) ≡ unended (drop (before_feed bytes + 1) bytes ++ more)
 unfolding unended
-behind_first bytes more inside = rw (first_part bytes more inside) (last_cons _ _ (has_parts (drop (before_feed bytes + 1) bytes ++ more)))
+behind_first bytes more inside = rw (first_part bytes more inside, one_less (take (before_feed bytes) bytes) _ (has_parts (drop (before_feed bytes + 1) bytes ++ more))) refl
 
 -- with no line feed there is none, and all of it is unended
 pub no_line : (bytes : List ℕ) → before_feed bytes ≡ length bytes → complete_lines bytes ≡ []

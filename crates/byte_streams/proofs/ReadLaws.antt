@@ -1,9 +1,9 @@
 -- What one read more does to the answers, and to the bytes that are kept.
-use Rattle.std.proofs.Common.{◌≡◌, ℕ, ◌+◌, ◌-◌, ◌<◌, ◌≤◌, List, [], ◌∷◌, ◌++◌, length, take, drop, true, false, find, Some, None, is_none, refl, sym, ap, ◌∙◌, arith, length-append, length-drop}
+use Rattle.std.proofs.Common.{◌≡◌, ℕ, ◌+◌, ◌-◌, ◌<◌, ◌≤◌, List, [], ◌∷◌, ◌++◌, length, take, drop, true, false, find, Some, None, is_none, refl, ap, ◌∙◌, arith, length-append}
 use Rattle.std.specs.List.{copy_within}
 use Rattle.std.proofs.lemmas.List.Edits.{take-paste}
 use Rattle.std.proofs.lemmas.Grind.{common_steps}
-use Rattle.std.proofs.lemmas.List.{drop-append-le, take_all}
+use Rattle.std.proofs.lemmas.List.{drop-append-le}
 use Rattle.std.proofs.lemmas.List.Folds.{find-append}
 use Rattle.byte_streams.specs.Answers.{Answer, moves_nothing, bytes_of, failures_of}
 use Rattle.byte_streams.specs.Cutting.{fault_of, ending_of, StopsAtEnd}

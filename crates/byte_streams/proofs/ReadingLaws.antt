@@ -1,5 +1,5 @@
 -- What several reads in turn come to.
-use Rattle.std.proofs.Common.{◌≡◌, ℕ, ◌+◌, ◌-◌, ◌<◌, ◌≤◌, List, [], ◌∷◌, ◌++◌, length, take, Option, Some, None, refl, sym, ap, ◌∙◌, arith, append-nil, append_assoc, length-append}
+use Rattle.std.proofs.Common.{◌≡◌, ℕ, ◌+◌, ◌-◌, ◌<◌, List, [], ◌∷◌, ◌++◌, length, take, Option, Some, None, refl, sym, ap, ◌∙◌, arith, append-nil, append_assoc, length-append}
 use Rattle.std.proofs.lemmas.Grind.{common_steps}
 use Rattle.std.proofs.Math.Decide.{dec_le}
 use Rattle.std.proofs.Math.Nat.{lt_of_not-le}
@@ -24,18 +24,14 @@ made_one Undecided answers answer undecided n low high =
     let grown = length-append answers (answer ∷ []) in
     rw (take-append-le n answers (answer ∷ []) (omega (arith, high, grown)), take_all n answers (omega (arith, low))) undecided
 
-take_behind : (n : ℕ) (front more : List Answer) → length front ≤ n → take n (front ++ more) ≡ front ++ take (n - length front) more
-take_behind n front more behind =
-    let sum : n ≡ length front + (n - length front) = omega (arith, behind) in
-    ap (λ k. take k (front ++ more)) sum ∙ take-append-add front more (n - length front)
-
 -- Reads that were made while `Before` held, and further ones while `Then` held: what `Then` says behind the first ones has to be a case of `Before`.
 pub made_then : (Before Then : List Answer → Type 0) (earlier middle later more : List Answer) → later ≡ middle ++ more → ((rest : List Answer) → Then (middle ++ rest) → Before (middle ++ rest))
     → MadeWhile Before earlier middle → MadeWhile Then middle later → MadeWhile Before earlier later
 made_then Before Then earlier middle later more grown case before then n low high =
     elim (dec_le (length middle) n) [
       | yes behind ↦
-          let front : take n later ≡ middle ++ take (n - length middle) more = ap (take n) grown ∙ take_behind n middle more behind in
+          let sum : n ≡ length middle + (n - length middle) = omega (arith, behind) in
+          let front : take n later ≡ middle ++ take (n - length middle) more = ap (take n) grown ∙ ap (λ k. take k (middle ++ more)) sum ∙ take-append-add middle more (n - length middle) in
           rw front (case (take (n - length middle) more) (rw front at (then n behind high)))
       | no not_behind ↦
           let inside : n < length middle = lt_of_not-le not_behind in
@@ -84,11 +80,10 @@ consumes_then (Some x) None c xs ys p q = absurd p
 consumes_then (Some x) (Some y) None xs ys p q = absurd q
 consumes_then (Some x) (Some y) (Some z) xs ys p q = p ∙ ap (λ rest. xs ++ rest) q ∙ sym (append_assoc xs ys z)
 
-pub consumes_kept : (a b c : Option (List ℕ)) (xs : List ℕ) → Consumes a b xs → Keeps b c → Consumes a c xs
-consumes_kept None b c xs p q = tt
-consumes_kept (Some x) None c xs p q = absurd p
-consumes_kept (Some x) (Some y) None xs p q = absurd q
-consumes_kept (Some x) (Some y) (Some z) xs p q = p ∙ ap (λ rest. xs ++ rest) (sym q)
+keeps_is : (a b : Option (List ℕ)) → Keeps a b → Consumes a b []
+keeps_is None b same = tt
+keeps_is (Some x) None same = same
+keeps_is (Some x) (Some y) same = sym same
 
 module _ {R : Type 0} (answers : R → List Answer) (remaining : R → Option (List ℕ)) where
   pub was_none : (first : R) → WasRead answers remaining first first []
@@ -105,4 +100,4 @@ module _ {R : Type 0} (answers : R → List Answer) (remaining : R → Option (L
   was_given now new bytes told consumed = record { told = told; bytes = rw (append-nil bytes) consumed }
 
   pub was_failed : (now new : R) → answers new ≡ answers now ++ None ∷ [] → Keeps (remaining now) (remaining new) → WasRead answers remaining now new (None ∷ [])
-  was_failed now new told same = record { told = told; bytes = consumes_kept (remaining now) (remaining now) (remaining new) [] (consumes_none (remaining now)) same }
+  was_failed now new told same = record { told = told; bytes = keeps_is (remaining now) (remaining new) same }

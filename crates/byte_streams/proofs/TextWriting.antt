@@ -1,5 +1,6 @@
 -- What a text that is written keeps, write by write.
-use Rattle.std.proofs.Common.{◌≡◌, ℕ, zero, suc, ◌+◌, ◌-◌, ◌<◌, List, [], ◌∷◌, ◌++◌, length, take, drop, cond, Option, Some, None, refl, ap, sym, ◌∙◌, arith, append_assoc}
+use Rattle.std.proofs.Common.{◌≡◌, ℕ, ◌+◌, ◌-◌, ◌<◌, List, [], ◌∷◌, ◌++◌, length, take, drop, cond, Option, Some, None, refl, ap, sym, ◌∙◌, arith, append_assoc}
+use Rattle.std.proofs.Math.Seq.{take-add}
 use Rattle.std.proofs.lemmas.Grind.{common_steps}
 use Rattle.std.proofs.lemmas.List.Sums.{sum_by-append}
 use Rattle.std.specs.Io.KnownBytes.{Appends}
@@ -23,14 +24,6 @@ appends_then (Some x) (Some y) (Some z) xs ys p q = q ∙ ap (λ ws. ws ++ ys) p
 pub rest_is : (at : ℕ) (text : List ℕ) → take (length text - at) (drop at text) ≡ drop at text
 rest_is at text = grind (arith, common_steps)
 
--- the rest's first bytes, behind those before it
-pub take_further : (at count : ℕ) (text : List ℕ) → take at text ++ take count (drop at text) ≡ take (at + count) text
-take_further zero count text = grind arith
-take_further (suc at) count [] = grind (arith, common_steps)
-take_further (suc at) count (b ∷ bs) =
-    let one : suc (at + count) ≡ suc at + count = omega arith in
-    ap (λ rest. b ∷ rest) (take_further at count bs) ∙ ap (λ n. take n (b ∷ bs)) one
-
 empty_more : (answers : List Answer) (answer : Answer) → empty_of (answers ++ answer ∷ []) ≡ empty_of answers + cond (moves_nothing answer) 1 0
 empty_more answers answer = sum_by-append (λ (answer : Answer). cond (moves_nothing answer) 1 0) answers (answer ∷ []) ∙ omega arith
 
@@ -41,7 +34,7 @@ takes_more puts puts' puts'' a b c text at count before next grown some =
     record {
       more = before.more ++ Some bytes ∷ [];
       puts_are = next ∙ ap (λ puts'. puts' ++ Some bytes ∷ []) before.puts_are ∙ append_assoc puts before.more (Some bytes ∷ []);
-      bytes_are = bytes_more before.more bytes ∙ ap (λ front. front ++ bytes) before.bytes_are ∙ take_further at count text;
+      bytes_are = bytes_more before.more bytes ∙ ap (λ front. front ++ bytes) before.bytes_are ∙ sym (take-add at count text);
       empty_are = empty_more before.more (Some bytes) ∙ ap (λ empty. empty_of before.more + cond empty 1 0) (moves_some bytes some) ∙ omega (arith, before.empty_are);
-      contents_are = rw (sym (take_further at count text)) (appends_then a b c (take at text) bytes before.contents_are grown);
+      contents_are = rw (take-add at count text) (appends_then a b c (take at text) bytes before.contents_are grown);
     }

@@ -1,5 +1,5 @@
 //! Lines that are cut from a source, each when it is asked for.
-ghost use Rattle.std.specs.Prelude.{◌≡◌, ◌+◌, ◌<◌, ◌≤◌, [], length, position, option_map, Err, Some, None, IfSome, IfOk, IfErr, OnOk, MatchResult};
+ghost use Rattle.std.specs.Prelude.{◌≡◌, ◌+◌, ◌<◌, ◌≤◌, [], length, option_map, Err, Some, None, IfSome, IfOk, IfErr, OnOk, MatchResult};
 ghost use Rattle.std.specs.List.{position_or_len};
 ghost use Rattle.std.specs.Borrow.{sem};
 ghost use Rattle.std.specs.Io.BufRead.{Rests};

@@ -1,11 +1,12 @@
 use Rattle.std.proofs.Common.{◌≡◌, ◌∙◌, ap, length, take, drop, ◌+◌, ◌-◌, sym, arith}
 use Rattle.byte_streams.specs.Answers.{bytes_of}
 use Rattle.byte_streams.specs.Reading.{uncut}
-use Rattle.byte_streams.proofs.Advancing.{length_within, advanced}
+use Rattle.byte_streams.proofs.Advancing.{advanced}
+use Rattle.byte_streams.proofs.Feeds.{line_ends}
 use Rattle.byte_streams.proofs.lines.Lines.advance.Goals as goal
 
 pub cut-requires : goal.cut-requires
-cut-requires g c = rw (sym c.self-2.invariant.2, ap uncut c.self-2.view_is) (length_within c.args.limit (uncut c.find_line.new.self) c.in_ok-count.count c.in_ok-count.ensures.length)
+cut-requires g c = rw (sym c.self-2.invariant.2, ap uncut c.self-2.view_is) (line_ends c.args.limit c.in_ok-count.count (uncut c.find_line.new.self) c.in_ok-count.ensures.length).1
 
 pub returns : goal.returns
 returns g c =
