@@ -9,7 +9,7 @@ pub mod GreetingLaws
 pub mod LaneLaws
 pub mod UploadLaws
 pub mod RealLaws
-pub mod PositiveLaws
+pub mod SaidLaws
 pub mod ValueLaws
 pub mod Ascending
 pub mod Lawful

@@ -9,7 +9,7 @@ use Rattle.upload_reader.specs.declared.ending.Ending.TheVariants.{Over, GaveUp}
 use Rattle.upload_reader.specs.declared.lane_fault.LaneEnd.{LaneEnd}
 use Rattle.upload_reader.specs.declared.lane_fault.LaneEnd.TheVariants.{Bye, Fault}
 use Rattle.upload_reader.specs.declared.lane_fault.LaneFault.{LaneFault}
-use Rattle.upload_reader.specs.declared.lane_fault.LaneFault.TheVariants.{NotJson, BadMessage, BadPage, BadTarget, BadSession}
+use Rattle.upload_reader.specs.declared.lane_fault.LaneFault.TheVariants.{BadPage, BadTarget, BadSession}
 use Rattle.upload_reader.specs.declared.session_fault.SessionFault.{SessionFault}
 use Rattle.upload_reader.specs.declared.session_fault.SessionFault.TheVariants as session_fault
 
@@ -24,14 +24,6 @@ is_path_fault kind = true
 abbrev pub is_session_fault : SessionFault → Bool
 is_session_fault session_fault.NoMemory = false
 is_session_fault fault = true
-
--- what one line can say that is wrong by itself
-abbrev pub is_line_fault : LaneFault → Bool
-is_line_fault NotJson = true
-is_line_fault BadMessage = true
-is_line_fault (BadPage fault) = is_page_fault fault
-is_line_fault (BadTarget fault) = is_path_fault fault.kind
-is_line_fault kind = false
 
 -- what a whole lane can have wrong
 abbrev pub is_lane_fault : LaneFault → Bool
