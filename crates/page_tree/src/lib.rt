@@ -1,7 +1,8 @@
 //! Pages as trees: what a browser saw, and what a repaired site would show.
 //!
 //! A page is read from a JSON value (`Page::from_value`) or made of a tree (`Page::new`), and is then only looked at: by place, in time linear in
-//! the place's length and in what is looked for there (the attributes of an element, the texts or places under it). Each call's answer is proved to be its definition's, in `specs/`.
+//! the place's length and in what is looked for there (the texts or places under it; an attribute is found by bisection). Each call's answer is proved
+//! to be its definition's, in `specs/`.
 #![tactic(auto)]
 
 mod attributes;
