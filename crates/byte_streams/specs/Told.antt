@@ -1,7 +1,7 @@
 -- What clauses see of a Told.
 use Rattle.std.specs.Prelude.{List}
 use Rattle.byte_streams.specs.Answers.{Answer}
-use Rattle.byte_streams.specs.declared.told.Told.{Told}
+use Rattle.byte_streams.specs.declared.sink.Told.{Told}
 
 -- the writer that it was made of
 abbrev pub told_writer : {W : Type 0} → Told W → W

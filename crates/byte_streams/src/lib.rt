@@ -7,7 +7,6 @@ mod history;
 
 // Bytes in, and the lines that are cut from them.
 mod fault;
-mod fed;
 mod limits;
 mod lines;
 mod source;
@@ -15,18 +14,13 @@ mod window;
 
 // Bytes out.
 mod sink;
-mod told;
-mod writing;
 
 pub use fault::LineFault;
-pub use fed::Fed;
 pub use history::History;
 pub use limits::READ_BYTES;
 pub use lines::Lines;
-pub use sink::Sink;
-pub use source::{Last, Source};
-pub use told::Told;
-pub use writing::{WriteFailed, write_text};
+pub use sink::{Sink, Told, WriteFailed, write_text};
+pub use source::{Fed, Last, Source};
 
 #[cfg(test)]
 mod line_tests;

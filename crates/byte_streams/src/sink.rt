@@ -1,11 +1,14 @@
-//! Writers that remember whether their last write moved bytes.
+//! Writers that remember whether their last write moved bytes, any writer as one of them, and whole texts written to one.
 ghost use Rattle.std.specs.Prelude.{◌≡◌, ◌<◌, length, [], ◌∷◌, ◌++◌, List};
 ghost use Rattle.std.specs.Io.{WritesAtMost};
 ghost use Rattle.std.specs.Io.KnownBytes.{WriteAppends, Keeps};
 ghost use Rattle.byte_streams.specs.Answers.{Answer, answer_of, last_moved_nothing};
+ghost use Rattle.byte_streams.specs.Writing.{WritesText};
 
+use crate::history::History;
 use std::io;
 use std::io::Write;
+use thiserror::Error;
 
 /// A writer that tells whether its last write failed or took nothing. Contracts see what each of its writes answered.
 ///
@@ -36,4 +39,95 @@ impl<S: Sink> Sink for &mut S {
     fn put(&mut self, buf: &[u8]) -> io::Result<usize> {
         (**self).put(buf)
     }
+}
+
+/// Any writer as a sink. It takes no memory and keeps no bytes back.
+#[derive(Drop)]
+pub struct Told<W> {
+    writer: W,
+    failed: bool,
+    history: History,
+    ghost agrees: { failed ≡ last_moved_nothing history.answers },
+}
+
+impl<W: Write> Told<W> {
+    ghost use Rattle.byte_streams.specs.Told.{told_writer, told_puts};
+
+    /// A sink that wasn't written to yet.
+    pub fn new(writer: W) -> Told<W>
+        ensures writer { told_writer result ≡ writer }
+        ensures fresh { told_puts result ≡ [] }
+    {
+        Told {
+            writer,
+            failed: false,
+            history: History::new(),
+        }
+    }
+}
+
+impl<W: Write> Write for Told<W> {
+    ghost use Rattle.byte_streams.specs.Told.{told_writer, told_puts};
+
+    ghost contents = { λ told. W.contents (told_writer told) };
+
+    fn write(&mut self, buf: &[u8]) -> io::Result<usize>
+        ensures bound { WritesAtMost result buf.now }
+        ensures bytes { WriteAppends (W.contents (told_writer self.old)) (W.contents (told_writer self.new)) result buf.now }
+        ensures told { told_puts self.new ≡ told_puts self.old ++ answer_of result buf.now ∷ [] }
+    {
+        match self.writer.write(buf) {
+            Ok(count) => {
+                self.failed = count == 0;
+                self.history.moved(&buf[..count]);
+                Ok(count)
+            }
+            Err(error) => {
+                self.failed = true;
+                self.history.failed();
+                Err(error)
+            }
+        }
+    }
+
+    fn flush(&mut self) -> io::Result<()>
+        ensures bytes { Keeps (W.contents (told_writer self.old)) (W.contents (told_writer self.new)) }
+        ensures told { told_puts self.new ≡ told_puts self.old }
+    {
+        self.writer.flush()
+    }
+}
+
+impl<W: Write> Sink for Told<W> {
+    ghost use Rattle.byte_streams.specs.Told.{told_puts};
+
+    ghost puts = { λ told. told_puts told };
+
+    fn failed(&self) -> bool {
+        self.failed
+    }
+
+    fn put(&mut self, buf: &[u8]) -> io::Result<usize> {
+        self.write(buf)
+    }
+}
+
+/// A write failed or took nothing, so a part of the text may be missing.
+#[derive(Clone, Copy, Debug, PartialEq, Eq, Error)]
+#[error("a write failed or took nothing")]
+pub struct WriteFailed;
+
+/// Writes the text, in as many writes as it takes. An empty text is no write.
+pub fn write_text<W: Sink>(writer: &mut W, text: &[u8]) -> Result<(), WriteFailed>
+    ensures { WritesText (W.puts writer.old) (W.puts writer.new) (W.contents writer.old) (W.contents writer.new) text.now result }
+{
+    let mut at = 0;
+    while at < text.len() {
+        match writer.put(&text[at..]) {
+            Ok(0) => return Err(WriteFailed),
+            Ok(count) => at += count,
+            Err(_) => return Err(WriteFailed),
+        }
+    }
+    Ok(())
 }

@@ -1,5 +1,4 @@
-use crate::writing::write_text;
-use crate::{Sink, Told};
+use crate::{Sink, Told, write_text};
 use std::io::Write;
 use std::test::Fail;
 use stream_fakes::{Refusal, Sips};

@@ -8,7 +8,7 @@ use crate::client::Client;
 use crate::hello_fault::HelloFault;
 use crate::hello_reading::read_hello;
 use crate::lane_fault::LaneFault;
-use crate::text::next_text;
+use crate::line_reading::next_text;
 use byte_streams::{LineFault, Lines, Source};
 use std::alloc::Global;
 

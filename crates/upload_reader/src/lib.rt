@@ -26,8 +26,6 @@ mod greeting;
 mod next;
 mod progress;
 mod refused;
-mod taking;
-mod text;
 mod upload;
 
 pub use byte_streams::{Fed, Last, LineFault, Lines, Source};

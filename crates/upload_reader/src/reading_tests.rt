@@ -1,7 +1,6 @@
 use crate::hello_reading::read_hello;
 use crate::line::Line;
-use crate::line_reading::read_line;
-use crate::text::is_blank;
+use crate::line_reading::{is_blank, read_line};
 use crate::unread::Unread;
 use crate::{Client, Event, HelloFault, LaneFault, LineFault, Message, SessionFault};
 use page_tree::{NoMemory, Page, PageFault, Place};

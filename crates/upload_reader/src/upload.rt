@@ -1,23 +1,25 @@
 //! The upload of one client, message by message.
-ghost use Rattle.std.specs.Prelude.{◌≡◌, ◌≢◌, ◌+◌, ◌≤◌, [], ◌++◌, length, true, Some, None, IsSome, IfSome, IfOk, IfErr};
+ghost use Rattle.std.specs.Prelude.{ℕ, ◌≡◌, ◌≢◌, ◌+◌, ◌≤◌, [], ◌++◌, length, true, Some, None, IsSome, IfSome, IfOk, IfErr};
 ghost use Rattle.byte_streams.specs.Answers.{failures_of};
 ghost use Rattle.byte_streams.specs.Cutting.{StopsAtEnd};
 ghost use Rattle.byte_streams.specs.Reading.{WasRead, ReadsWhile};
 ghost use Rattle.upload_reader.specs.Limits.{max_messages};
 ghost use Rattle.upload_reader.specs.Next.{given_by, ending_by, next_of, failed_reads, IfGot, IfOver};
 ghost use Rattle.upload_reader.specs.Positive.{IsPositive};
-ghost use Rattle.upload_reader.specs.Real.{is_real};
+ghost use Rattle.upload_reader.specs.Real.{is_real, IfReal};
 ghost use Rattle.upload_reader.specs.Stream.{messages_of, MayFollow};
 ghost use Rattle.upload_reader.specs.Upload.{Begins, Refuses, GivesFirst, EndsBy, NothingMore};
+ghost use Rattle.upload_reader.specs.inside.Taken.{lane_of, taken_of, LaneTaken, TakesNext};
 
 use crate::client::Client;
 use crate::ending::Ending;
 use crate::greeting::greet;
+use crate::line_reading::next_text;
+use crate::message::Message;
 use crate::next::Next;
 use crate::progress::Progress;
 use crate::refused::Refused;
 use crate::session::Session;
-use crate::taking::next_message;
 use byte_streams::{Lines, Source};
 use std::alloc::Global;
 use std::marker::Model;
@@ -148,5 +150,25 @@ impl<R: Source> Upload<R> {
                 Next::of(ending)
             }
         }
+    }
+}
+
+// The next message with its cost, behind any blank lines.
+fn next_message<R: Source>(
+    alloc: Global,
+    lines: &mut Lines<R>,
+    progress: &mut Progress,
+) -> Result<(Message, u32), Ending>
+    requires numbered { (taken_of progress.old).lines ≤ lines.old.place }
+    ensures lane { lane_of progress.new ≡ lane_of progress.old }
+    ensures takes { (start : ℕ) → LaneTaken (lane_of progress.old) start lines.old (taken_of progress.old) None → TakesNext (lane_of progress.old) start lines.old lines.new (taken_of progress.old) (taken_of progress.new) result }
+    ensures priced { IfOk result (λ costed. IsPositive costed.0 costed.1) }
+    ensures lawful { IfOk result (λ costed. MayFollow (lane_of progress.old) (taken_of progress.old).given costed.0) }
+    ensures real { IfErr result IfReal }
+{
+    let (number, next) = next_text(lines, progress.lines());
+    match next {
+        Err(fault) => Err(Ending::without_line(number, fault)),
+        Ok(()) => progress.take(alloc, number, lines.line()),
     }
 }

@@ -8,9 +8,9 @@ use Rattle.upload_reader.specs.declared.lane_fault.LaneEnd.{LaneEnd}
 use Rattle.upload_reader.specs.declared.lane_fault.LaneEnd.TheVariants.{Bye, Fault}
 use Rattle.visit_replay.specs.Conflict.{conflict_code}
 use Rattle.visit_replay.specs.declared.outcome.ConflictKind.{ConflictKind}
-use Rattle.visit_replay.specs.declared.outcome.Method.{Method}
-use Rattle.visit_replay.specs.declared.outcome.Method.TheVariants.{Load, Get, Post}
-use Rattle.visit_replay.specs.declared.outcome.Request.{Request}
+use Rattle.visit_replay.specs.declared.requests.Method.{Method}
+use Rattle.visit_replay.specs.declared.requests.Method.TheVariants.{Load, Get, Post}
+use Rattle.visit_replay.specs.declared.requests.Request.{Request}
 use Rattle.visit_replay.specs.declared.outcome.Outcome.{Outcome}
 use Rattle.visit_replay.specs.declared.outcome.Outcome.TheVariants.{Untouched, Done, Conflict}
 

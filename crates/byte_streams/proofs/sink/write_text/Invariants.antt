@@ -1,6 +1,6 @@
 use Rattle.std.proofs.Common.{length, take, ◌-◌, ◌≤◌}
 use Rattle.byte_streams.specs.Writing.{Takes}
-use Rattle.byte_streams.proofs.writing.write_text.Given as goal
+use Rattle.byte_streams.proofs.sink.write_text.Given as goal
 
 abbrev pub invariant-loop-at : goal.invariant-loop-at
 invariant-loop-at g l = record {

@@ -1,6 +1,6 @@
 use Rattle.upload_reader.proofs.TextLaws.{text_short}
 use Rattle.upload_reader.proofs.UploadLaws.{next_by_line, next_by_fault}
-use Rattle.upload_reader.proofs.taking.next_message.Goals as goal
+use Rattle.upload_reader.proofs.upload.next_message.Goals as goal
 
 pub returns-in-Err-clause-takes : goal.returns-in-Err-clause-takes
 returns-in-Err-clause-takes g c start stands = rw c.without_line.ensures (next_by_fault _ start _ _ _ _ stands c.in-Err.fault (rw (c.in-Err.is, c.lines.ensures) at c.next_text-number.ensures))

@@ -1,6 +1,6 @@
 use Rattle.std.proofs.Common.{ℕ, List, drop, arith, length-take}
 use Rattle.byte_streams.proofs.TextWriting.{rest_is, takes_more}
-use Rattle.byte_streams.proofs.writing.write_text.Goals as goal
+use Rattle.byte_streams.proofs.sink.write_text.Goals as goal
 
 pub loop-at-preserved : goal.loop-at-preserved
 loop-at-preserved g c =
