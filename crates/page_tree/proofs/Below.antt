@@ -1,5 +1,7 @@
 -- What stands in the list of the places under a node, and in which order.
-use Rattle.std.proofs.Common.{◌≡◌, ℕ, zero, suc, ◌+◌, ◌<◌, length, List, [], ◌∷◌, ◌++◌, nat_eq, nat_lt, IsTrue, IsSome, Option, Some, None, option_and_then, Contains, All, ◌↔◌, Less, Equal, nat_cmp, refl, sym, ◌∙◌, ap, arith, append_assoc, append-nil, length-append, drop, true≢false}
+use Rattle.std.proofs.Common.{◌≡◌, ℕ, zero, suc, ◌+◌, ◌<◌, length, List, [], ◌∷◌, ◌++◌, nat_eq, nat_lt, IsTrue, IsSome, Option, Some, None}
+use Rattle.std.proofs.Common.{option_and_then, Contains, All, ◌↔◌, Less, Equal, nat_cmp, refl, sym, ◌∙◌, ap, arith, append_assoc, append-nil}
+use Rattle.std.proofs.Common.{length-append, drop, true≢false}
 use Rattle.std.specs.Option.{option_map_or}
 use Rattle.std.specs.List.{starts_with}
 use Rattle.std.specs.List.Sorted.{IsStrictlySortedBy}
@@ -8,7 +10,8 @@ use Rattle.std.specs.Cmp.Lexicographic.{slice_cmp}
 use Rattle.std.proofs.lemmas.Bool.{ltb-true, lt-ltb, and_parts, and_from}
 use Rattle.std.proofs.lemmas.Bool.Decides.{Decides-eqb}
 use Rattle.std.proofs.lemmas.Slice.Eq.{starts_is}
-use Rattle.std.proofs.lemmas.List.Elements.{Contains-append_left, Contains-append_right, Contains-push, All-nil, All-cons, All-head, All-tail, All-append, All-weaker, All-contains, All-from_recursion, recursion_from_All}
+use Rattle.std.proofs.lemmas.List.Elements.{Contains-append_left, Contains-append_right, Contains-push, All-nil, All-cons, All-head, All-tail}
+use Rattle.std.proofs.lemmas.List.Elements.{All-append, All-weaker, All-contains, All-from_recursion, recursion_from_All}
 use Rattle.page_tree.specs.Tree.{Tree, element, words, Trees, no_trees, tree}
 use Rattle.page_tree.specs.Look.{children_of, nth_child, node_at}
 use Rattle.page_tree.specs.Under.{is_under, places_of, places_from, places_under}
@@ -24,7 +27,7 @@ node_past : (p rest : List ℕ) (child : Option Tree) → ((t : Tree) → node_a
 node_past p rest None later = refl
 node_past p rest (Some t) later = later t
 
-node_at-append : (p rest : List ℕ) (t : Tree) → node_at (p ++ rest) t ≡ option_and_then (node_at rest) (node_at p t)
+pub node_at-append : (p rest : List ℕ) (t : Tree) → node_at (p ++ rest) t ≡ option_and_then (node_at rest) (node_at p t)
 node_at-append [] rest t = refl
 node_at-append (i ∷ p) rest t = node_past p rest (nth_child i (children_of t)) (node_at-append p rest)
 
@@ -55,7 +58,7 @@ is_under-longer p j rest =
 
 -- ---- each place in the list has its node
 
-abbrev IsOf : List ℕ → Tree → List ℕ → Type 0
+abbrev pub IsOf : List ℕ → Tree → List ℕ → Type 0
 IsOf at t q = (rest : List ℕ) × (q ≡ at ++ rest) × IsSome (node_at rest t)
 
 abbrev IsFrom : List ℕ → ℕ → Trees → List ℕ → Type 0
@@ -77,10 +80,11 @@ from_later at i t ts q (j, rest, is, there) =
     (suc j, rest, is ∙ ap (λ k. at ++ k ∷ rest) same, there)
 
 mutual
-  all_of : (at : List ℕ) (t : Tree) → All (IsOf at t) (places_of at t)
+  pub all_of : (at : List ℕ) (t : Tree) → All (IsOf at t) (places_of at t)
   all_of at (element name attributes children) =
       All-cons (IsOf at (element name attributes children)) at (places_from at 0 children) ([], sym (append-nil at), refl)
-      (All-weaker (IsFrom at 0 children) (IsOf at (element name attributes children)) (of_children at (element name attributes children)) (places_from at 0 children) (all_from at 0 children))
+      (All-weaker (IsFrom at 0 children) (IsOf at (element name attributes children)) (of_children at (element name attributes children))
+      (places_from at 0 children) (all_from at 0 children))
   all_of at (words text) = All-cons (IsOf at (words text)) at [] ([], sym (append-nil at), refl) (All-nil (IsOf at (words text)))
 
   all_from : (at : List ℕ) (i : ℕ) (ts : Trees) → All (IsFrom at i ts) (places_from at i ts)
@@ -93,22 +97,26 @@ mutual
 -- ---- each node is in the list
 
 mutual
-  has_of : (at : List ℕ) (t : Tree) (rest : List ℕ) → IsSome (node_at rest t) → Contains (places_of at t) (at ++ rest)
-  has_of at (element name attributes children) [] there = rw append-nil (Contains-append_left (at ∷ []) (places_from at 0 children) at (Contains-push [] at))
+  pub has_of : (at : List ℕ) (t : Tree) (rest : List ℕ) → IsSome (node_at rest t) → Contains (places_of at t) (at ++ rest)
+  has_of at (element name attributes children) [] there =
+      rw append-nil (Contains-append_left (at ∷ []) (places_from at 0 children) at (Contains-push [] at))
   has_of at (element name attributes children) (j ∷ rest) there =
       let same : 0 + j ≡ j = omega arith in
       Contains-append_right (at ∷ []) (places_from at 0 children) (at ++ j ∷ rest) (rw same at (has_from at 0 children j rest there))
   has_of at (words text) [] there = rw append-nil (Contains-push [] at)
   has_of at (words text) (j ∷ rest) there = cc
 
-  has_from : (at : List ℕ) (i : ℕ) (ts : Trees) (j : ℕ) (rest : List ℕ) → IsSome (node_in j rest ts) → Contains (places_from at i ts) (at ++ (i + j) ∷ rest)
+  has_from : (at : List ℕ) (i : ℕ) (ts : Trees) (j : ℕ) (rest : List ℕ) → IsSome (node_in j rest ts)
+      → Contains (places_from at i ts) (at ++ (i + j) ∷ rest)
   has_from at i no_trees j rest there = cc
   has_from at i (tree t ts) zero rest there =
       let same : i + 0 ≡ i = omega arith in
-      rw (same, ← append_assoc at (i ∷ []) rest) (Contains-append_left (places_of (at ++ i ∷ []) t) (places_from at (i + 1) ts) ((at ++ i ∷ []) ++ rest) (has_of (at ++ i ∷ []) t rest there))
+      rw (same, ← append_assoc at (i ∷ []) rest) (Contains-append_left (places_of (at ++ i ∷ []) t) (places_from at (i + 1) ts)
+      ((at ++ i ∷ []) ++ rest) (has_of (at ++ i ∷ []) t rest there))
   has_from at i (tree t ts) (suc j) rest there =
       let same : i + suc j ≡ i + 1 + j = omega arith in
-      rw same (Contains-append_right (places_of (at ++ i ∷ []) t) (places_from at (i + 1) ts) (at ++ (i + 1 + j) ∷ rest) (has_from at (i + 1) ts j rest there))
+      rw same (Contains-append_right (places_of (at ++ i ∷ []) t) (places_from at (i + 1) ts) (at ++ (i + 1 + j) ∷ rest)
+      (has_from at (i + 1) ts j rest there))
 
 listed_at : (p : List ℕ) (t : Tree) (q : List ℕ) (found : Option Tree) → node_at p t ≡ found
     → Contains (option_map_or (λ n. places_from p 0 (children_of n)) found []) q ↔ (IsTrue (is_under p q) × IsSome (node_at q t))
@@ -190,7 +198,8 @@ mutual
   sorted_from at i (tree t ts) =
       sorted-append (places_of (at ++ i ∷ []) t) (places_from at (i + 1) ts) (sorted_of (at ++ i ∷ []) t) (sorted_from at (i + 1) ts)
       (All-weaker (IsOf (at ++ i ∷ []) t) (λ x. All (IsBefore x) (places_from at (i + 1) ts))
-      (λ x is. All-weaker (IsFrom at (i + 1) ts) (IsBefore x) (λ y are. below_later at i t ts x y is are) (places_from at (i + 1) ts) (all_from at (i + 1) ts))
+      (λ x is. All-weaker (IsFrom at (i + 1) ts) (IsBefore x) (λ y are. below_later at i t ts x y is are) (places_from at (i + 1) ts)
+      (all_from at (i + 1) ts))
       (places_of (at ++ i ∷ []) t) (all_of (at ++ i ∷ []) t))
 
 in_order : (p : List ℕ) (found : Option Tree) → IsStrictlySortedBy (slice_cmp nat_cmp) (option_map_or (λ n. places_from p 0 (children_of n)) found [])

@@ -1,5 +1,6 @@
 -- A tree with no fault is a page, and the other way round; and the walk over a tree answers its first fault.
-use Rattle.std.proofs.Common.{◌≡◌, ℕ, suc, ◌+◌, ◌-◌, ◌<◌, ◌≤◌, List, [], ◌∷◌, ◌++◌, length, map, Bool, true, false, nat_lt, if◌then◌else◌, Option, Some, None, Result, Ok, Err, MatchResult, refl, sym, ◌∙◌, ap, add_assoc, arith, length-append}
+use Rattle.std.proofs.Common.{◌≡◌, ℕ, suc, ◌+◌, ◌-◌, ◌<◌, ◌≤◌, List, [], ◌∷◌, ◌++◌, length, map, Bool, true, false, nat_lt, if◌then◌else◌, Option}
+use Rattle.std.proofs.Common.{Some, None, Result, Ok, Err, MatchResult, refl, sym, ◌∙◌, ap, add_assoc, arith, length-append}
 use Rattle.std.proofs.lemmas.List.{map-append}
 use Rattle.std.proofs.lemmas.Bool.{ltb-true, lt-ltb}
 use Rattle.page_tree.specs.Name.{is_name}
@@ -44,7 +45,8 @@ record Sound (levels n : ℕ) (name : List ℕ) (attributes : List Attribute) : 
   pub ascending : is_ascending (names_of attributes) ≡ true
 
 own_none : (levels n : ℕ) (name : List ℕ) (attributes : List Attribute) (children : Trees) (rest : Option PageFault)
-    → first_at (nat_lt n max_nodes) (own_tree_fault levels (element name attributes children)) rest ≡ None → Sound levels n name attributes × (rest ≡ None)
+    → first_at (nat_lt n max_nodes) (own_tree_fault levels (element name attributes children)) rest ≡ None
+    → Sound levels n name attributes × (rest ≡ None)
 own_none levels n name attributes children rest none =
     let here = option_or-none (unless (nat_lt n max_nodes) TooMany (own_tree_fault levels (element name attributes children))) rest none in
     let few = unless-none (nat_lt n max_nodes) TooMany (own_tree_fault levels (element name attributes children)) here.0 in
@@ -54,7 +56,8 @@ own_none levels n name attributes children rest none =
     (record { few = ltb-true n max_nodes few.0; deep = ltb-true 0 levels deep.0; name_is = named.0; ascending = ascending.0 }, here.1)
 
 below : (levels : ℕ) (name : List ℕ) (attributes : List Attribute) (children : Trees) → 0 < levels
-    → tree_faults levels (element name attributes children) ≡ own_tree_fault levels (element name attributes children) ∷ all_faults (levels - 1) children
+    → tree_faults levels (element name attributes children)
+    ≡ own_tree_fault levels (element name attributes children) ∷ all_faults (levels - 1) children
 below levels name attributes children deep = rw (lt-ltb 0 levels deep) refl
 
 mutual
@@ -79,14 +82,16 @@ mutual
   all_within : (ts : Trees) (levels n : ℕ) → n ≤ max_nodes → first_fault n (all_faults levels ts) ≡ None → AllWithin levels n ts
   all_within no_trees levels n room none = record { deep = omega arith; many = omega arith; named = tt; count = refl }
   all_within (tree t ts) levels n room none =
-      let parts = option_or-none (first_fault n (tree_faults levels t)) _ (sym (ap (first_fault n) (all_faults-tree levels t ts) ∙ first_fault-append (tree_faults levels t) (all_faults levels ts) n) ∙ none) in
+      let parts = option_or-none (first_fault n (tree_faults levels t)) _
+      (sym (ap (first_fault n) (all_faults-tree levels t ts) ∙ first_fault-append (tree_faults levels t) (all_faults levels ts) n) ∙ none) in
       let here = within t levels n room parts.0 in
       let there = all_within ts levels (n + length (tree_faults levels t)) (omega (arith, here.many, here.count)) parts.1 in
       record {
         deep = omega (arith, here.deep, there.deep);
         many = omega (arith, here.count, there.many);
         named = (here.named, there.named);
-        count = ap length (all_faults-tree levels t ts) ∙ length-append (tree_faults levels t) (all_faults levels ts) ∙ omega (arith, here.count, there.count);
+        count = ap length (all_faults-tree levels t ts) ∙ length-append (tree_faults levels t) (all_faults levels ts)
+            ∙ omega (arith, here.count, there.count);
       }
 
 -- ---- within the limits, no fault
@@ -105,18 +110,22 @@ mutual
       let some : 0 < levels = omega arith in
       let there = all_faultless children (levels - 1) (suc n) (omega arith) (omega arith) named.2 in
       record {
-        none = ap (first_fault n) (below levels name attributes children some) ∙ rw (lt-ltb n max_nodes few, lt-ltb 0 levels some, named.0, named.1) there.none;
+        none = ap (first_fault n) (below levels name attributes children some)
+            ∙ rw (lt-ltb n max_nodes few, lt-ltb 0 levels some, named.0, named.1) there.none;
         count = ap length (below levels name attributes children some) ∙ ap suc there.count;
       }
 
-  all_faultless : (ts : Trees) (levels n : ℕ) → depth_of_all ts ≤ levels → n + nodes_of_all ts ≤ max_nodes → AreNamed ts → Faultless n (all_faults levels ts) (nodes_of_all ts)
+  all_faultless : (ts : Trees) (levels n : ℕ) → depth_of_all ts ≤ levels → n + nodes_of_all ts ≤ max_nodes → AreNamed ts
+      → Faultless n (all_faults levels ts) (nodes_of_all ts)
   all_faultless no_trees levels n deep many named = record { none = refl; count = refl }
   all_faultless (tree t ts) levels n deep many named =
       let here = faultless t levels n (omega arith) (omega arith) named.0 in
       let there = all_faultless ts levels (n + length (tree_faults levels t)) (omega arith) (omega (arith, here.count)) named.1 in
       record {
-        none = ap (first_fault n) (all_faults-tree levels t ts) ∙ first_fault-append (tree_faults levels t) (all_faults levels ts) n ∙ rw (here.none, there.none) refl;
-        count = ap length (all_faults-tree levels t ts) ∙ length-append (tree_faults levels t) (all_faults levels ts) ∙ omega (arith, here.count, there.count);
+        none = ap (first_fault n) (all_faults-tree levels t ts) ∙ first_fault-append (tree_faults levels t) (all_faults levels ts) n
+            ∙ rw (here.none, there.none) refl;
+        count = ap length (all_faults-tree levels t ts) ∙ length-append (tree_faults levels t) (all_faults levels ts)
+            ∙ omega (arith, here.count, there.count);
       }
 
 -- ---- pages
@@ -129,7 +138,8 @@ page_without_fault (element name attributes children) none =
 
 pub no_fault_of_page : (t : Tree) → IsPage t → fault_of_tree t ≡ None
 no_fault_of_page (words text) page = let is : false ≡ true = page.element in cc
-no_fault_of_page (element name attributes children) page = (faultless (element name attributes children) max_depth 0 page.deep (omega (arith, page.many)) page.named).none
+no_fault_of_page (element name attributes children) page =
+    (faultless (element name attributes children) max_depth 0 page.deep (omega (arith, page.many)) page.named).none
 
 -- ---- the walk over a tree
 
@@ -139,7 +149,8 @@ Always n = Unit {0}
 abbrev pub Counts : Result ℕ PageFault → ℕ → List (Option PageFault) → Type 0
 Counts r n faults = Agrees Always (λ m. m) r n faults
 
-one_more : (r : Result ℕ PageFault) (n many : ℕ) (first : Option PageFault) → AgreesAs Always (λ m. m) r (suc n) many first → AgreesAs Always (λ m. m) r n (suc many) first
+one_more : (r : Result ℕ PageFault) (n many : ℕ) (first : Option PageFault) → AgreesAs Always (λ m. m) r (suc n) many first
+    → AgreesAs Always (λ m. m) r n (suc many) first
 one_more (Ok m) n many first agrees = (tt, agrees.1, omega (arith, agrees.2))
 one_more (Err e) n many first agrees = agrees
 
@@ -151,22 +162,31 @@ element_counts : (few deep named ascending : Bool) (n : ℕ) (zs : List (ℕ × 
     → AgreesAs Always (λ m. m)
     (if few then (if deep then (if named then (if ascending then r else Err BadAttribute) else Err BadName) else Err TooDeep) else Err TooMany)
     n (suc (length (faults_of (if deep then zs else []))))
-    (first_at few (unless deep TooDeep (unless named BadName (unless ascending BadAttribute None))) (first_fault (suc n) (faults_of (if deep then zs else []))))
+    (first_at few (unless deep TooDeep (unless named BadName (unless ascending BadAttribute None)))
+    (first_fault (suc n) (faults_of (if deep then zs else []))))
 element_counts false deep named ascending n zs r agrees = refl
 element_counts true false named ascending n zs r agrees = refl
 element_counts true true false ascending n zs r agrees = refl
 element_counts true true true false n zs r agrees = refl
 element_counts true true true true n zs r agrees = one_more r n _ _ agrees
 
-joined : (s : Result ℕ PageFault) (n m : ℕ) (xs ys : List (Option PageFault)) → first_fault n xs ≡ None → m ≡ n + length xs → Counts s m ys → Counts s n (xs ++ ys)
-joined (Ok k) n m xs ys none are agrees = (tt, first_none xs ys n m none are ∙ agrees.1, agrees.2 ∙ rw are (add_assoc n (length xs) (length ys) ∙ sym (ap (λ k. n + k) (length-append xs ys))))
+joined : (s : Result ℕ PageFault) (n m : ℕ) (xs ys : List (Option PageFault)) → first_fault n xs ≡ None → m ≡ n + length xs → Counts s m ys
+    → Counts s n (xs ++ ys)
+joined (Ok k) n m xs ys none are agrees = (
+  tt,
+  first_none xs ys n m none are ∙ agrees.1,
+  agrees.2
+      ∙ rw are (add_assoc n (length xs) (length ys) ∙ sym (ap (λ k. n + k) (length-append xs ys))),
+)
 joined (Err e) n m xs ys none are agrees = first_none xs ys n m none are ∙ agrees
 
-in_turn : (r : Result ℕ PageFault) (f : ℕ → Result ℕ PageFault) (n : ℕ) (xs ys : List (Option PageFault)) → Counts r n xs → ((m : ℕ) → Counts (f m) m ys) → Counts (r >>= f) n (xs ++ ys)
+in_turn : (r : Result ℕ PageFault) (f : ℕ → Result ℕ PageFault) (n : ℕ) (xs ys : List (Option PageFault)) → Counts r n xs
+    → ((m : ℕ) → Counts (f m) m ys) → Counts (r >>= f) n (xs ++ ys)
 in_turn (Ok m) f n xs ys agrees later = joined (f m) n m xs ys agrees.1 agrees.2 (later m)
 in_turn (Err e) f n xs ys agrees later = rw (first_fault-append xs ys n, agrees) refl
 
-answered : (r : Result ℕ PageFault) (many : ℕ) (first : Option PageFault) → AgreesAs Always (λ m. m) r 0 many first → MatchResult r (λ n. first ≡ None) (λ e. first ≡ Some e)
+answered : (r : Result ℕ PageFault) (many : ℕ) (first : Option PageFault) → AgreesAs Always (λ m. m) r 0 many first
+    → MatchResult r (λ n. first ≡ None) (λ e. first ≡ Some e)
 answered (Ok m) many first agrees = agrees.1
 answered (Err e) many first agrees = agrees
 
@@ -177,14 +197,17 @@ mutual
   inspect-counts : (t : Tree) (levels n : ℕ) → Counts (inspect levels n t) n (tree_faults levels t)
   inspect-counts (words text) levels n = text_counts (nat_lt n max_nodes) n
   inspect-counts (element name attributes children) levels n =
-      element_counts (nat_lt n max_nodes) (nat_lt 0 levels) (is_name name) (is_ascending (names_of attributes)) n (tree_nodes_of_all (levels - 1) children) (inspect_all (levels - 1) (suc n) children) (inspect_all-counts children (levels - 1) (suc n))
+      element_counts (nat_lt n max_nodes) (nat_lt 0 levels) (is_name name) (is_ascending (names_of attributes)) n
+      (tree_nodes_of_all (levels - 1) children) (inspect_all (levels - 1) (suc n) children) (inspect_all-counts children (levels - 1) (suc n))
 
   inspect_all-counts : (ts : Trees) (levels n : ℕ) → Counts (inspect_all levels n ts) n (all_faults levels ts)
   inspect_all-counts no_trees levels n = none_counts levels n
   inspect_all-counts (tree t ts) levels n =
-      rw all_faults-tree (in_turn (inspect levels n t) (λ m. inspect_all levels m ts) n (tree_faults levels t) (all_faults levels ts) (inspect-counts t levels n) (λ m. inspect_all-counts ts levels m))
+      rw all_faults-tree (in_turn (inspect levels n t) (λ m. inspect_all levels m ts) n (tree_faults levels t) (all_faults levels ts)
+      (inspect-counts t levels n) (λ m. inspect_all-counts ts levels m))
 
 -- the walk answers the tree's fault
 pub inspected : (t : Tree) → MatchResult (inspect_page t) (λ n. fault_of_tree t ≡ None) (λ e. fault_of_tree t ≡ Some e)
 inspected (words text) = refl
-inspected (element name attributes children) = answered (inspect max_depth 0 (element name attributes children)) _ _ (inspect-counts (element name attributes children) max_depth 0)
+inspected (element name attributes children) = answered (inspect max_depth 0 (element name attributes children)) _ _
+    (inspect-counts (element name attributes children) max_depth 0)

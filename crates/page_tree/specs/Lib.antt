@@ -3,6 +3,7 @@ pub mod Tree
 pub mod Seen
 pub mod Limits
 pub mod Look
+pub mod Number
 pub mod Under
 pub mod Control
 pub mod Value

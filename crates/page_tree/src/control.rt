@@ -1,9 +1,10 @@
 ghost use Rattle.std.specs.Prelude.{◌≡◌, option_map};
-ghost use Rattle.page_tree.specs.Seen.{seen};
-ghost use Rattle.page_tree.specs.Control.{control_of, element_control, input_control, button_control, is_text, is_switch};
+ghost use Rattle.page_tree.specs.Look.{value_of};
+ghost use Rattle.page_tree.specs.Number.{place_numbered};
+ghost use Rattle.page_tree.specs.inside.Kept.{attributes_at};
+ghost use Rattle.page_tree.specs.Control.{control_at, element_control, input_control, button_control, is_text, is_switch};
 
-use crate::attributes::Attributes;
-use crate::tree::Tree;
+use crate::page::Page;
 
 /// What a node is to a form (HTML 4.01, section 17.13.2).
 #[derive(Clone, Copy, Debug, PartialEq, Eq)]
@@ -40,30 +41,39 @@ impl Control {
     }
 }
 
-pub(crate) fn control_of(tree: &Tree) -> Control
-    ensures { result ≡ control_of (seen tree.now) }
-{
-    match tree {
-        Tree::Words(_) => Control::Other,
-        Tree::Element {
-            name,
-            attributes,
-            ..
-        } => element_control(name.as_str(), attributes),
+impl Page {
+    /// What the node with that number is to a form; Other for a text, and past the last number.
+    #[tactic(auto, using(crate::proofs::ControlLaws::control_named, crate::proofs::ControlLaws::control_unnamed))]
+    pub fn control_of(&self, number: u32) -> Control
+        ensures { result ≡ control_at (place_numbered number self.now) self.now }
+    {
+        match self.name_of(number) {
+            None => Control::Other,
+            Some(name) => self.element_control(number, name),
+        }
     }
-}
 
-#[tactic(auto, unfolding(crate::specs::Control::element_control))]
-pub(crate) fn element_control(name: &str, attributes: &Attributes) -> Control
-    ensures { result ≡ element_control name.now attributes.now }
-{
-    match name {
-        "input" => input_control(attributes.get("type")),
-        "textarea" | "select" => Control::Text,
-        "button" => button_control(attributes.get("type")),
-        "a" | "area" if attributes.get("href").is_some() => Control::Link,
-        "form" => Control::Form,
-        _ => Control::Other,
+    // That of an element of that name.
+    #[tactic(auto, unfolding(crate::specs::Control::element_control))]
+    pub(crate) fn element_control(&self, number: u32, name: &str) -> Control
+        ensures { result ≡ element_control name.now (attributes_at (place_numbered number self.now) self.now) }
+    {
+        match name {
+            "input" => input_control(self.value_of(number, "type")),
+            "textarea" | "select" => Control::Text,
+            "button" => button_control(self.value_of(number, "type")),
+            "a" | "area" if self.value_of(number, "href").is_some() => Control::Link,
+            "form" => Control::Form,
+            _ => Control::Other,
+        }
+    }
+
+    // `attribute_of`; its contract speaks of the list of attributes.
+    #[tactic(auto, using(crate::proofs::ControlLaws::attribute_is))]
+    pub(crate) fn value_of(&self, number: u32, name: &str) -> Option<&str>
+        ensures { option_map (λ value. value.now) result ≡ value_of name.now (attributes_at (place_numbered number self.now) self.now) }
+    {
+        self.attribute_of(number, name)
     }
 }
 

@@ -4,7 +4,7 @@ ghost use Rattle.page_tree.specs.inside.Walk.{inspect, inspect_all, inspect_page
 
 use crate::fault::PageFault;
 use crate::limits::{MAX_DEPTH, MAX_NODES};
-use crate::naming::is_name;
+use crate::text::is_name;
 use crate::tree::Tree;
 
 /// How many nodes a tree has that is a page, or its first fault in document order.
@@ -17,7 +17,7 @@ pub(crate) fn inspect_root(root: &Tree) -> Result<u32, PageFault>
     }
 }
 
-// Levels of elements are left for the node, and so many nodes stand before it.
+// So many levels of elements are left for the node, and so many nodes stand before it.
 #[cycle(inspection)]
 fn inspect_node(tree: &Tree, levels: u32, before: u32) -> Result<u32, PageFault>
     ensures { result ≡ inspect levels before (seen tree.now) }

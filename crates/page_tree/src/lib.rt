@@ -1,36 +1,34 @@
 //! Pages as trees: what a browser saw, and what a repaired site would show.
 //!
-//! A page is read from a JSON value (`Page::from_value`) or made of a tree (`Page::new`), and is then only looked at: by place, in time linear in
-//! the place's length and in what is looked for there (the texts or places under it; an attribute is found by bisection). Each call's answer is proved
-//! to be its definition's, in `specs/`.
+//! A page is read from a JSON value (`Page::from_value`) or made of a tree (`Page::new`), and is then only looked at: by the numbers of its nodes,
+//! each of which is found at once, or by places, which are turned into numbers first. An attribute is found by bisection. Each call's answer is proved to be its definition's, in
+//! `specs/`.
 #![tactic(auto)]
 
-mod attributes;
+mod building;
 mod control;
 mod fault;
 mod inspection;
-mod joining;
 mod limits;
-mod looking;
 mod memory;
-mod naming;
+mod numbered;
 mod page;
 mod place;
 mod reading;
+mod siblings;
 mod starting;
+mod table;
 #[cfg(test)]
 mod tests;
 mod text;
+mod texts;
 mod tree;
-mod walking;
 
-pub use attributes::Attributes;
 pub use control::Control;
 pub use fault::PageFault;
 pub use limits::{MAX_DEPTH, MAX_NAME_BYTES, MAX_NODES};
 pub use memory::NoMemory;
-pub use naming::is_name;
 pub use page::Page;
 pub use place::Place;
-pub use text::Text;
-pub use tree::Tree;
+pub use text::{Text, is_name};
+pub use tree::{Attributes, Tree};

@@ -1,11 +1,11 @@
-ghost use Rattle.std.specs.Prelude.{ℕ, List, ◌≡◌, ◌≢◌, ◌↔◌, IsTrue, IsSome, IfOk, IfErr, MatchResult, Some, None, option_map};
+ghost use Rattle.std.specs.Prelude.{ℕ, List, ◌≡◌, ◌≢◌, ◌↔◌, IsTrue, IsSome, IfOk, IfErr, MatchResult, Some, None, option_map, length};
 ghost use Rattle.std.specs.List.{Contains};
 ghost use Rattle.std.specs.List.Sorted.{IsStrictlySortedBy};
 ghost use Rattle.std.specs.Ordering.{nat_cmp};
 ghost use Rattle.std.specs.Cmp.Lexicographic.{slice_cmp};
 ghost use Rattle.serde_json.specs.View.{view};
 ghost use Rattle.page_tree.specs.Tree.{Tree as PlainTree};
-ghost use Rattle.page_tree.specs.Limits.{IsPage};
+ghost use Rattle.page_tree.specs.Limits.{IsPage, nodes};
 ghost use Rattle.page_tree.specs.Value.{IsPageOf};
 ghost use Rattle.page_tree.specs.Fault.{fault_of_tree, fault_of_value, page_in, page_or_fault, GivesPage};
 ghost use Rattle.page_tree.specs.declared.fault.PageFault.TheVariants.{NoMemory};
@@ -13,48 +13,48 @@ ghost use Rattle.page_tree.specs.Look.{node_at, name_at, child_count_at, attribu
 ghost use Rattle.page_tree.specs.Under.{is_under, places_under};
 ghost use Rattle.page_tree.specs.Control.{control_at, start_text_at, start_checked_at};
 
-use crate::control::{Control, control_of};
+use crate::building::table_of;
+use crate::control::Control;
 use crate::fault::PageFault;
 use crate::inspection::inspect_root;
-use crate::joining::add_texts;
-use crate::looking;
 use crate::memory::NoMemory;
 use crate::place::Place;
 use crate::reading::read_root;
-use crate::starting::{start_checked_of, start_text_of};
+use crate::table::Table;
 use crate::text::Text;
 use crate::tree::Tree;
-use crate::walking::add_places_under;
 use serde_json::Value;
 use std::alloc::{AllocError, Global};
 use std::marker::Model;
 use std::sync::Arc;
 
-/// A page: a tree whose root is an element, within the limits. Contracts see it as its plain tree. Equal pages that were copied share their tree.
+/// A page: a tree whose root is an element, within the limits. Contracts see it as its plain tree. It is kept as the table of its nodes, which are
+/// numbered from 0 on in document order, texts too; a copy shares the table.
 #[derive(Debug, Drop)]
 pub struct Page {
-    tree: Arc<Tree>,
+    table: Arc<Table>,
 }
 
 impl Model for Page {
+    ghost use Rattle.std.specs.Arc.{arc_value};
     ghost use Rattle.page_tree.specs.Tree.{Tree};
-    ghost use Rattle.page_tree.specs.Limits.{IsPage};
-    ghost use Rattle.page_tree.specs.Seen.{seen};
     ghost use Rattle.page_tree.specs.inside.TreeCode.{tree_code};
+    ghost use Rattle.page_tree.specs.inside.Table.{tree_of_lines};
+    ghost use Rattle.page_tree.specs.inside.Kept.{IsTable};
 
     ghost Value = { Tree };
 
     ghost coded = { tree_code };
 
-    ghost use Rattle.std.specs.Arc.{arc_value};
+    ghost view = { λ p. tree_of_lines (arc_value p.table) };
 
-    ghost view = { λ p. seen (arc_value p.tree) };
-
-    ghost invariant = { λ p. IsPage (seen (arc_value p.tree)) };
+    ghost invariant = { λ p. IsTable (arc_value p.table) };
 }
 
 impl Page {
     ghost use Rattle.page_tree.specs.Seen.{seen};
+    ghost use Rattle.page_tree.specs.inside.Table.{lines, tree_of_lines};
+    ghost use Rattle.page_tree.specs.inside.Kept.{IsTable};
 
     /// The page that a tree is.
     ///
@@ -67,7 +67,8 @@ impl Page {
         ensures fault { IfErr result (λ e. e ≢ NoMemory → fault_of_tree (seen root) ≡ Some e) }
     {
         inspect_root(&root)?;
-        Ok(Page::holding(alloc, root)?)
+        let table = table_of(alloc, &root)?;
+        Ok(Page::holding(alloc, table)?)
     }
 
     /// The page that a JSON value stands for: an element is an object with `n` (its name), `a` (an object of attributes whose values are texts,
@@ -86,63 +87,67 @@ impl Page {
         ensures exact { GivesPage (λ page. page) result (page_or_fault (view value.now)) }
         ensures found { MatchResult result (λ page. page_in (view value.now) ≡ Some page) (λ e. e ≢ NoMemory → page_in (view value.now) ≡ None) }
     {
-        let root = read_root(alloc, value)?;
-        Ok(Page::holding(alloc, root)?)
+        let table = read_root(alloc, value)?;
+        Ok(Page::holding(alloc, table)?)
     }
 
-    fn holding(alloc: Global, root: Tree) -> Result<Page, NoMemory>
-        requires { IsPage (seen root) }
-        ensures { IfOk result (λ page. page ≡ seen root) }
+    // The page of that table, whose unused room is given back.
+    fn holding(alloc: Global, mut table: Table) -> Result<Page, NoMemory>
+        requires { IsTable table }
+        ensures { IfOk result (λ page. page ≡ tree_of_lines table) }
     {
-        match Arc::new(alloc, root) {
-            Ok(tree) => Ok(Page { tree }),
+        table.shrink();
+        match Arc::new(alloc, table) {
+            Ok(table) => Ok(Page { table }),
             Err(_) => Err(AllocError),
         }
     }
 
-    fn root(&self) -> &Tree
-        ensures tree { seen result.now ≡ self.now }
-        ensures page { IsPage (seen result.now) }
+    #[tactic(auto, using(crate::proofs::LookLaws::line_count))]
+    pub(crate) fn table(&self) -> &Table
+        ensures lines { result.now ≡ lines self.now }
+        ensures count { length result.now ≡ nodes self.now }
+        ensures page { IsPage self.now }
     {
-        &self.tree
+        &self.table
     }
 
-    /// An equal page, which shares the tree: nothing of it is copied.
+    /// An equal page, which shares the table: nothing of it is copied.
     pub fn copy(&self) -> Result<Page, NoMemory>
         ensures { IfOk result (λ page. page ≡ self.now) }
     {
-        let tree = Arc::try_clone(&self.tree)?;
-        Ok(Page { tree })
+        let table = Arc::try_clone(&self.table)?;
+        Ok(Page { table })
     }
 
     /// Whether two pages are equal: their trees are.
     pub fn same(&self, other: &Page) -> bool
         ensures { IsTrue result ↔ (self.now ≡ other.now) }
     {
-        self.root().same(other.root())
+        self.table().same(other.table())
     }
 
-    /// Tells that the page is within the limits.
+    /// Tells a proof that the page is within the limits; nothing is done.
     pub fn within_limits(&self)
         ensures { IsPage self.now }
     {
-        let _ = &self.tree;
+        let _ = &self.table;
     }
 
     /// The name of the element there; none for a text, or where no node is.
     pub fn name(&self, place: &Place) -> Option<&str>
         ensures { option_map (λ name. name.now) result ≡ name_at place.now self.now }
     {
-        looking::name(looking::find(self.root(), place.as_slice())?)
+        self.name_of(self.number_of(place)?)
     }
 
     /// How many children the node there has, texts too; 0 where no node is.
     pub fn children(&self, place: &Place) -> u32
         ensures { result ≡ child_count_at place.now self.now }
     {
-        match looking::find(self.root(), place.as_slice()) {
+        match self.number_of(place) {
             None => 0,
-            Some(node) => looking::children(node).len() as u32,
+            Some(number) => self.children_of(number),
         }
     }
 
@@ -150,16 +155,16 @@ impl Page {
     pub fn attribute(&self, place: &Place, name: &str) -> Option<&str>
         ensures { option_map (λ value. value.now) result ≡ attribute_at place.now name.now self.now }
     {
-        looking::attribute(looking::find(self.root(), place.as_slice())?, name)
+        self.attribute_of(self.number_of(place)?, name)
     }
 
     /// What the node there is to a form; Other for a text, or where no node is.
     pub fn control(&self, place: &Place) -> Control
         ensures { result ≡ control_at place.now self.now }
     {
-        match looking::find(self.root(), place.as_slice()) {
+        match self.number_of(place) {
             None => Control::Other,
-            Some(node) => control_of(node),
+            Some(number) => self.control_of(number),
         }
     }
 
@@ -167,9 +172,12 @@ impl Page {
     pub fn start_text(&self, place: &Place) -> Result<Option<Text>, NoMemory>
         ensures { IfOk result (λ text. text ≡ start_text_at place.now self.now) }
     {
-        match looking::find(self.root(), place.as_slice()) {
+        let Some(number) = self.number_of(place) else {
+            return Ok(None);
+        };
+        match self.start_text_of(number)? {
             None => Ok(None),
-            Some(node) => start_text_of(node),
+            Some(text) => Ok(Some(Text::from(text.into_owned(self.table().allocator())?))),
         }
     }
 
@@ -177,19 +185,22 @@ impl Page {
     pub fn start_checked(&self, place: &Place) -> bool
         ensures { result ≡ start_checked_at place.now self.now }
     {
-        match looking::find(self.root(), place.as_slice()) {
+        match self.number_of(place) {
             None => false,
-            Some(node) => start_checked_of(node),
+            Some(number) => self.start_checked_of(number),
         }
     }
 
+    #[tactic(auto, using(crate::proofs::LoopLaws::texts_first, crate::proofs::LoopLaws::texts_step))]
     /// All texts at or under the node there, joined in document order; empty where no node is.
     pub fn text_under(&self, place: &Place) -> Result<Text, NoMemory>
         ensures { IfOk result (λ text. text ≡ text_at place.now self.now) }
     {
-        let mut joined = String::new(self.root().allocator());
-        if let Some(node) = looking::find(self.root(), place.as_slice()) {
-            add_texts(node, &mut joined)?;
+        let mut joined = String::new(self.table().allocator());
+        if let Some(number) = self.number_of(place) {
+            for below in number..self.table().end_of(number as usize) {
+                joined.push_str(self.words_of(below).unwrap_or(""))?;
+            }
         }
         Ok(Text::from(joined))
     }
@@ -200,9 +211,12 @@ impl Page {
         ensures every { IfOk result (λ found. (q : List ℕ) → Contains found.items q ↔ (IsTrue (is_under place.now q) × IsSome (node_at q self.now))) }
         ensures order { IfOk result (λ found. IsStrictlySortedBy (slice_cmp nat_cmp) found.items) }
     {
-        let mut found = Vec::new(self.root().allocator());
-        if let Some(node) = looking::find(self.root(), place.as_slice()) {
-            add_places_under(looking::children(node), place, &mut found)?;
+        let mut found = Vec::new(self.table().allocator());
+        if let Some(number) = self.number_of(place) {
+            let under = self.nodes_under(number);
+            for below in under.start..under.end {
+                found.push(self.place_numbered(below)?)?;
+            }
         }
         Ok(found)
     }

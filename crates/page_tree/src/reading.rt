@@ -1,98 +1,110 @@
-ghost use Rattle.std.specs.Prelude.{◌≡◌, ◌<◌, ◌≤◌, ok_or, option_map, option_and_then};
+ghost use Rattle.std.specs.Prelude.{◌≡◌, ◌<◌, ◌≤◌, length, ok_or, option_map, option_and_then};
 ghost use Rattle.serde_json.specs.View.{view, items_view};
 ghost use Rattle.serde_json.specs.Find.{as_str};
-ghost use Rattle.page_tree.specs.Seen.{seen};
-ghost use Rattle.page_tree.specs.Value.{name_in, attributes_in};
+ghost use Rattle.page_tree.specs.Value.{name_in, attributes_in, children_in};
 ghost use Rattle.page_tree.specs.Fault.{GivesPage};
-ghost use Rattle.page_tree.specs.inside.Walk.{if_name, if_ascending, walk, walk_all, walk_children, walk_element, walk_object, walk_page, seen_and_count, all_seen_and_count};
-ghost use Rattle.page_tree.specs.declared.fault.PageFault.TheVariants.{BadName, BadAttribute};
+ghost use Rattle.page_tree.specs.inside.Walk.{if_name, if_ascending, walk, walk_all, walk_element, walk_object, walk_page};
+ghost use Rattle.page_tree.specs.inside.Reading.{HasPassed, ReadsNode, ReadsChildren, ReadsPage};
+ghost use Rattle.page_tree.specs.declared.fault.PageFault.TheVariants.{BadName, BadAttribute, BadChildren};
 
-use crate::attributes::Attributes;
 use crate::fault::PageFault;
 use crate::limits::{MAX_DEPTH, MAX_NODES};
-use crate::naming::is_name;
-use crate::text::Text;
-use crate::tree::Tree;
+use crate::siblings::Siblings;
+use crate::table::Table;
+use crate::text::{Text, is_name};
+use crate::tree::Attributes;
 use serde_json::Value;
 use std::alloc::Global;
 
-/// The tree that a value stands for, or its first fault in document order.
-pub(crate) fn read_root(alloc: Global, value: &Value) -> Result<Tree, PageFault>
-    ensures { GivesPage seen result (walk_page (view value.now)) }
+/// The table of the tree that a value stands for, or its first fault in document order.
+pub(crate) fn read_root(alloc: Global, value: &Value) -> Result<Table, PageFault>
+    ensures { ReadsPage (λ table. table) result (walk_page (view value.now)) }
 {
     if value.as_object().is_none() {
         return Err(PageFault::NotAnElement);
     }
-    let (root, _) = read_node(alloc, value, MAX_DEPTH, 0)?;
-    Ok(root)
+    let mut table = Table::new(alloc);
+    let mut siblings = Siblings::new(alloc);
+    read_node(alloc, value, MAX_DEPTH, 0, &mut siblings, &mut table)?;
+    Ok(table)
 }
 
-// Levels of elements are left for the node, and so many nodes stand before it; with the tree comes how many stand before the next one.
+// Adds the node that a value stands for, and those under it, behind the siblings that were passed. So many levels of elements are left for it.
 #[cycle(reading)]
-fn read_node(
+fn read_node<'a>(
     alloc: Global,
-    value: &Value,
+    value: &'a Value,
     levels: u32,
-    before: u32,
-) -> Result<(Tree, u32), PageFault>
-    ensures { GivesPage seen_and_count result (walk levels before (view value.now)) }
+    parent: u16,
+    siblings: &mut Siblings<'a>,
+    table: &mut Table,
+) -> Result<(), PageFault>
+    requires { HasPassed siblings.old (length table.old) }
+    ensures { ReadsNode parent siblings.old siblings.new table.old table.new result (walk levels (length table.old) (view value.now)) }
 {
-    if before >= MAX_NODES {
+    if table.len() >= MAX_NODES as usize {
         return Err(PageFault::TooMany);
     }
     match value {
-        Value::String(text) => Ok((
-            Tree::Words(Text::from_str(alloc, text.as_str())?),
-            before + 1,
-        )),
-        Value::Object(_) => read_object(alloc, value, levels, before),
+        Value::String(text) => {
+            let spot = siblings.pass(parent, None)?;
+            table.push_words(spot, text.as_str())?;
+            Ok(())
+        }
+        Value::Object(_) => read_object(alloc, value, levels, parent, siblings, table),
         _ => Err(PageFault::BadChildren),
     }
 }
 
 #[cycle(reading)]
 #[tactic(auto, using(crate::proofs::Levels::walk_object_none, crate::proofs::Levels::walk_object_some))]
-fn read_object(
+fn read_object<'a>(
     alloc: Global,
-    value: &Value,
+    value: &'a Value,
     levels: u32,
-    before: u32,
-) -> Result<(Tree, u32), PageFault>
-    requires { before < 4096 }
-    ensures { GivesPage seen_and_count result (walk_object levels before (view value.now)) }
+    parent: u16,
+    siblings: &mut Siblings<'a>,
+    table: &mut Table,
+) -> Result<(), PageFault>
+    requires few { length table.old < 4096 }
+    requires passed { HasPassed siblings.old (length table.old) }
+    ensures { ReadsNode parent siblings.old siblings.new table.old table.new result (walk_object levels (length table.old) (view value.now)) }
 {
     if levels == 0 {
         return Err(PageFault::TooDeep);
     }
-    read_element(alloc, value, levels - 1, before)
+    read_element(alloc, value, levels - 1, parent, siblings, table)
 }
 
-// Levels of elements are left for the children.
+// So many levels of elements are left for the children.
 #[cycle(reading)]
-fn read_element(
+fn read_element<'a>(
     alloc: Global,
-    value: &Value,
+    value: &'a Value,
     levels: u32,
-    before: u32,
-) -> Result<(Tree, u32), PageFault>
-    requires { before < 4096 }
-    ensures { GivesPage seen_and_count result (walk_element (walk levels) before (view value.now)) }
+    parent: u16,
+    siblings: &mut Siblings<'a>,
+    table: &mut Table,
+) -> Result<(), PageFault>
+    requires few { length table.old < 4096 }
+    requires passed { HasPassed siblings.old (length table.old) }
+    ensures { ReadsNode parent siblings.old siblings.new table.old table.new result (walk_element (walk levels) (length table.old) (view value.now)) }
 {
-    let name = read_name(alloc, value)?;
+    let name = read_name(value)?;
     let attributes = read_attributes(alloc, value)?;
-    let (children, count) = read_children(alloc, value, levels, before + 1)?;
-    Ok((
-        Tree::Element {
-            name,
-            attributes,
-            children,
-        },
-        count,
-    ))
+    let children = read_children(value)?;
+    let spot = siblings.pass(parent, Some(name))?;
+    let number = table.len() as u16;
+    // More children than a page can have are a fault, which comes with one of them.
+    let count = children.len().min(MAX_NODES as usize) as u16;
+    table.push_element(spot, name, attributes.as_slice(), count)?;
+    read_items(alloc, children, levels, number, table)?;
+    table.end(number);
+    Ok(())
 }
 
-fn read_name(alloc: Global, value: &Value) -> Result<Text, PageFault>
-    ensures { GivesPage (λ name. name) result (ok_or (option_and_then if_name (name_in (view value.now))) BadName) }
+fn read_name(value: &Value) -> Result<&str, PageFault>
+    ensures { GivesPage (λ name. name.now) result (ok_or (option_and_then if_name (name_in (view value.now))) BadName) }
 {
     let Some(name) = value.get("n").and_then(Value::as_str) else {
         return Err(PageFault::BadName);
@@ -100,7 +112,7 @@ fn read_name(alloc: Global, value: &Value) -> Result<Text, PageFault>
     if !is_name(name) {
         return Err(PageFault::BadName);
     }
-    Ok(Text::from_str(alloc, name)?)
+    Ok(name)
 }
 
 fn read_attributes(alloc: Global, value: &Value) -> Result<Attributes, PageFault>
@@ -128,39 +140,34 @@ fn read_attribute(alloc: Global, name: &str, text: &Value) -> Result<(Text, Text
     Ok((Text::from_str(alloc, name)?, Text::from_str(alloc, text)?))
 }
 
-#[cycle(reading)]
-fn read_children(
-    alloc: Global,
-    value: &Value,
-    levels: u32,
-    before: u32,
-) -> Result<(Vec<Tree>, u32), PageFault>
-    ensures { GivesPage all_seen_and_count result (walk_children (walk levels) before (view value.now)) }
+// The values that stand for the children.
+fn read_children(value: &Value) -> Result<&[Value], PageFault>
+    ensures { GivesPage (λ items. items_view items.now) result (ok_or (children_in (view value.now)) BadChildren) }
 {
     let Some(given) = value.get("c") else {
-        return Ok((Vec::new(alloc), before));
+        return Ok(&[]);
     };
     let Some(items) = given.as_array() else {
         return Err(PageFault::BadChildren);
     };
-    read_items(alloc, items.as_slice(), levels, before)
+    Ok(items.as_slice())
 }
 
+// Adds the children of the node with that number.
 #[cycle(reading)]
 fn read_items(
     alloc: Global,
     items: &[Value],
     levels: u32,
-    before: u32,
-) -> Result<(Vec<Tree>, u32), PageFault>
-    ensures { GivesPage all_seen_and_count result (walk_all (walk levels) before (items_view items.now)) }
+    parent: u16,
+    table: &mut Table,
+) -> Result<(), PageFault>
+    requires { length table.old ≤ 4096 }
+    ensures { ReadsChildren parent table.old table.new result (walk_all (walk levels) (length table.old) (items_view items.now)) }
 {
-    let mut found = Vec::new(alloc);
-    let mut count = before;
+    let mut siblings = Siblings::new(alloc);
     for item in items {
-        let (node, more) = read_node(alloc, item, levels, count)?;
-        found.push(node)?;
-        count = more;
+        read_node(alloc, item, levels, parent, &mut siblings, table)?;
     }
-    Ok((found, count))
+    Ok(())
 }

@@ -1,75 +1,98 @@
 //! What a control holds before a user touches it.
+ghost use Rattle.std.specs.Prelude.{ℕ, ◌≡◌, ◌++◌, List, [], IfOk, option_map};
+ghost use Rattle.std.specs.Cow.{cow_str_bytes};
+ghost use Rattle.page_tree.specs.Number.{place_numbered};
+ghost use Rattle.page_tree.specs.Control.{child_texts, start_text, start_text_at, start_checked_at};
+ghost use Rattle.page_tree.specs.inside.Kept.{attributes_at, children_at, words_at};
 
-ghost use Rattle.std.specs.Prelude.{◌≡◌, IfOk, string_bytes};
-ghost use Rattle.page_tree.specs.Seen.{seen, all_seen};
-ghost use Rattle.page_tree.specs.Control.{child_texts, start_text, start_text_of, start_checked_of};
-
-use crate::attributes::Attributes;
-use crate::control::element_control;
 use crate::memory::NoMemory;
-use crate::text::Text;
-use crate::tree::Tree;
+use crate::page::Page;
 use std::alloc::Global;
+use std::borrow::CowStr;
 
-/// The start text of a Text control.
-pub(crate) fn start_text_of(tree: &Tree) -> Result<Option<Text>, NoMemory>
-    ensures { IfOk result (λ text. text ≡ start_text_of (seen tree.now)) }
-{
-    let Tree::Element {
-        name,
-        attributes,
-        children,
-    } = tree
-    else {
-        return Ok(None);
-    };
-    if !element_control(name.as_str(), attributes).is_text() {
-        return Ok(None);
+impl Page {
+    /// The text that a Text control starts with; none for every other node. It is borrowed from the page but for a `textarea` with several
+    /// texts that aren't empty.
+    #[tactic(auto, using(crate::proofs::ControlLaws::start_named, crate::proofs::ControlLaws::start_other, crate::proofs::ControlLaws::start_unnamed))]
+    pub fn start_text_of(&self, number: u32) -> Result<Option<CowStr<'_, Global>>, NoMemory>
+        ensures { IfOk result (λ text. option_map cow_str_bytes text ≡ start_text_at (place_numbered number self.now) self.now) }
+    {
+        let Some(name) = self.name_of(number) else {
+            return Ok(None);
+        };
+        if !self.element_control(number, name).is_text() {
+            return Ok(None);
+        }
+        Ok(Some(self.started(number, name)?))
     }
-    let alloc = *children.allocator();
-    Ok(Some(start_text(alloc, name.as_str(), attributes, children.as_slice())?))
-}
 
-fn start_text(
-    alloc: Global,
-    name: &str,
-    attributes: &Attributes,
-    children: &[Tree],
-) -> Result<Text, NoMemory>
-    ensures { IfOk result (λ text. text ≡ start_text name.now attributes.now (all_seen children.now)) }
-{
-    if name == "textarea" {
-        child_texts(alloc, children)
-    } else {
-        Text::from_str(alloc, attributes.get("value").unwrap_or(""))
-    }
-}
-
-fn child_texts(alloc: Global, children: &[Tree]) -> Result<Text, NoMemory>
-    ensures { IfOk result (λ text. text ≡ child_texts (all_seen children.now)) }
-{
-    let mut joined = String::new(alloc);
-    for child in children {
-        if let Tree::Words(text) = child {
-            joined.push_str(text.as_str())?;
+    // That of a Text control of that name.
+    fn started(&self, number: u32, name: &str) -> Result<CowStr<'_, Global>, NoMemory>
+        ensures { IfOk result (λ text. cow_str_bytes text ≡ start_text name.now (attributes_at (place_numbered number self.now) self.now) (children_at (place_numbered number self.now) self.now)) }
+    {
+        if name == "textarea" {
+            self.child_texts(number)
+        } else {
+            Ok(CowStr::Borrowed(self.value_of(number, "value").unwrap_or("")))
         }
     }
-    Ok(Text::from(joined))
+
+    // The texts among its children, joined.
+    #[tactic(auto, using(crate::proofs::ControlLaws::text_step, crate::proofs::ControlLaws::text_end))]
+    fn child_texts(&self, number: u32) -> Result<CowStr<'_, Global>, NoMemory>
+        ensures { IfOk result (λ text. cow_str_bytes text ≡ child_texts (children_at (place_numbered number self.now) self.now)) }
+    {
+        let alloc = self.table().allocator();
+        let mut joined = CowStr::Borrowed("");
+        let mut child = self.nodes_under(number).start;
+        for _i in 0..self.children_of(number) {
+            joined = join(alloc, joined, self.words_of(child).unwrap_or(""))?;
+            child = self.nodes_under(child).end;
+        }
+        Ok(joined)
+    }
+
+    // The text with that number; none of an element.
+    #[tactic(auto, using(crate::proofs::ControlLaws::words_there, crate::proofs::ControlLaws::words_past))]
+    pub(crate) fn words_of(&self, number: u32) -> Option<&str>
+        ensures { option_map (λ text. text.now) result ≡ words_at (place_numbered number self.now) self.now }
+    {
+        self.table().words(self.index(number)?)
+    }
+
+    /// Whether a Check or Radio with that number starts on; false for every other node.
+    #[tactic(auto, using(crate::proofs::ControlLaws::checked_named, crate::proofs::ControlLaws::checked_unnamed))]
+    pub fn start_checked_of(&self, number: u32) -> bool
+        ensures { result ≡ start_checked_at (place_numbered number self.now) self.now }
+    {
+        let Some(name) = self.name_of(number) else {
+            return false;
+        };
+        self.element_control(number, name).is_switch() && self.value_of(number, "checked").is_some()
+    }
 }
 
-/// Whether a Check or Radio starts on.
-pub(crate) fn start_checked_of(tree: &Tree) -> bool
-    ensures { result ≡ start_checked_of (seen tree.now) }
+// A text and one more, copied only where neither is empty.
+fn join<'a>(
+    alloc: Global,
+    before: CowStr<'a, Global>,
+    more: &'a str,
+) -> Result<CowStr<'a, Global>, NoMemory>
+    ensures { IfOk result (λ text. cow_str_bytes text ≡ cow_str_bytes before.entry ++ more.now) }
 {
-    match tree {
-        Tree::Words(_) => false,
-        Tree::Element {
-            name,
-            attributes,
-            ..
-        } => {
-            element_control(name.as_str(), attributes).is_switch()
-                && attributes.get("checked").is_some()
+    if more.is_empty() {
+        return Ok(before);
+    }
+    match before {
+        CowStr::Borrowed("") => Ok(CowStr::Borrowed(more)),
+        CowStr::Borrowed(first) => {
+            let mut joined = String::from_str(alloc, first)?;
+            joined.push_str(more)?;
+            Ok(CowStr::Owned(joined))
+        }
+        CowStr::Owned(mut joined) => {
+            joined.push_str(more)?;
+            Ok(CowStr::Owned(joined))
         }
     }
 }

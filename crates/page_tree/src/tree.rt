@@ -1,9 +1,11 @@
-ghost use Rattle.std.specs.Prelude.{◌≡◌, ◌↔◌, IsTrue};
-ghost use Rattle.page_tree.specs.Seen.{seen, all_seen};
+//! Trees of elements with their attributes, and of texts.
+ghost use Rattle.std.specs.Prelude.{◌≡◌, option_map};
+ghost use Rattle.page_tree.specs.Look.{name_of, value_of};
+ghost use Rattle.page_tree.specs.Seen.{seen};
+ghost use Rattle.page_tree.specs.Limits.{names_of, is_ascending};
 
-use crate::attributes::Attributes;
 use crate::text::Text;
-use std::alloc::Global;
+use std::marker::Model;
 
 /// An element or a text, with all that is under it. Not every tree is a page: `Page::new` tells.
 #[derive(Debug, Drop)]
@@ -17,56 +19,79 @@ pub enum Tree {
 }
 
 impl Tree {
-    pub(crate) fn allocator(&self) -> Global {
-        match self {
-            Tree::Element { children, .. } => *children.allocator(),
-            Tree::Words(text) => text.allocator(),
-        }
-    }
-
-    /// Whether two trees are equal.
-    #[cycle(comparing)]
-    pub(crate) fn same(&self, other: &Tree) -> bool
-        ensures { IsTrue result ↔ (seen self.now ≡ seen other.now) }
+    /// The name of an element.
+    pub(crate) fn name(&self) -> Option<&str>
+        ensures { option_map (λ name. name.now) result ≡ name_of (seen self.now) }
     {
-        match (self, other) {
-            (Tree::Words(text), Tree::Words(other_text)) => text.as_str() == other_text.as_str(),
-            (
-                Tree::Element {
-                    name,
-                    attributes,
-                    children,
-                },
-                Tree::Element {
-                    name: other_name,
-                    attributes: other_attributes,
-                    children: other_children,
-                },
-            ) => {
-                if name.as_str() != other_name.as_str() {
-                    return false;
-                }
-                if !attributes.same(other_attributes) {
-                    return false;
-                }
-                same_all(children.as_slice(), other_children.as_slice())
-            }
-            _ => false,
+        match self {
+            Tree::Element { name, .. } => Some(name.as_str()),
+            Tree::Words(_) => None,
         }
     }
 }
 
-#[cycle(comparing)]
-fn same_all(trees: &[Tree], others: &[Tree]) -> bool
-    ensures { IsTrue result ↔ (all_seen trees.now ≡ all_seen others.now) }
-{
-    if trees.len() != others.len() {
-        return false;
+/// The attributes of an element: pairs of a name and a value, as they were given.
+#[derive(Debug, Drop)]
+pub struct Attributes {
+    pairs: Vec<(Text, Text)>,
+}
+
+impl Model for Attributes {
+    ghost use Rattle.std.specs.Prelude.{List};
+    ghost use Rattle.page_tree.specs.Tree.{Attribute};
+
+    ghost Value = { List Attribute };
+
+    ghost view = { λ a. a.pairs.items };
+}
+
+impl Attributes {
+    pub fn into_vec(self) -> Vec<(Text, Text)>
+        ensures { result.items ≡ self }
+    {
+        self.pairs
     }
-    for i in 0..trees.len() {
-        if !trees[i].same(&others[i]) {
-            return false;
+
+    /// The value of the first attribute of that name.
+    pub fn get(&self, name: &str) -> Option<&str>
+        ensures { option_map (λ value. value.now) result ≡ value_of name.now self.now }
+    {
+        for (key, value) in &self.pairs {
+            if key.as_str() == name {
+                return Some(value.as_str());
+            }
         }
+        None
     }
-    true
+
+    pub(crate) fn as_slice(&self) -> &[(Text, Text)]
+        ensures { result.now ≡ self.now }
+    {
+        self.pairs.as_slice()
+    }
+
+    /// Whether each name is below the next one, in byte order.
+    pub(crate) fn is_ascending(&self) -> bool
+        ensures { result ≡ is_ascending (names_of self.now) }
+    {
+        let pairs = self.pairs.as_slice();
+        let mut before: Option<&str> = None;
+        for (name, _) in pairs {
+            if let Some(last) = before {
+                if last >= name.as_str() {
+                    return false;
+                }
+            }
+            before = Some(name.as_str());
+        }
+        true
+    }
+}
+
+impl From<Vec<(Text, Text)>> for Attributes {
+    ghost from_gives = { λ pairs attributes. attributes ≡ pairs.items };
+
+    fn from(pairs: Vec<(Text, Text)>) -> Attributes {
+        Attributes { pairs }
+    }
 }

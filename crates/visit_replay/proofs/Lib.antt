@@ -1,6 +1,7 @@
 pub mod Cut
 pub mod FieldsStandForEvents
-pub mod OnePlaceMore
+pub mod Numbered
+pub mod OneNumberMore
 pub mod Overlay
 pub mod Sorting
 pub mod Stepping

@@ -1,23 +1,25 @@
 -- What the fields keep after one event more.
-use Rattle.std.proofs.Common.{◌≡◌, ℕ, suc, ◌+◌, List, [], ◌∷◌, ◌++◌, Bool, true, false, not, cond, Option, Some, None, unwrap_or, refl, sym, ◌∙◌, ap, arith}
+use Rattle.std.proofs.Common.{◌≡◌, ℕ, suc, ◌+◌, ◌<◌, List, [], ◌∷◌, ◌++◌, Bool, true, false, ◌==◌, cond, Option, Some, None, unwrap_or, refl, sym, ◌∙◌, ap, arith}
 use Rattle.std.specs.List.{cons_option, filter_map, count_by, last_or}
 use Rattle.std.specs.Option.{option_or}
-use Rattle.std.specs.Str.{bytes_eq}
 use Rattle.std.proofs.lemmas.List.Elements.{filter_map-append}
 use Rattle.std.proofs.lemmas.List.Sums.{sum_by_push}
-use Rattle.std.proofs.lemmas.Slice.Eq.{bytes_eq-Decides}
 use Rattle.page_tree.specs.Tree.{Tree}
+use Rattle.page_tree.specs.Limits.{nodes}
+use Rattle.page_tree.specs.Number.{place_numbered}
 use Rattle.page_tree.specs.Control.{control_at, start_checked_at}
 use Rattle.page_tree.specs.declared.control.Control.TheVariants as control
 use Rattle.upload_reader.specs.declared.message.Event.{Event}
 use Rattle.upload_reader.specs.declared.message.Event.TheVariants.{Input, Click, Submit}
 use Rattle.xpath_child.specs.Path.{Step}
 use Rattle.xpath_child.specs.Targets.{target_in}
-use Rattle.xpath_child.specs.declared.target.Target.TheVariants.{One}
+use Rattle.xpath_child.specs.declared.path.Target.TheVariants.{One}
 use Rattle.visit_replay.specs.Conflict.{path_of}
 use Rattle.visit_replay.specs.Field.{written, is_click_on, turned, is_on_before}
-use Rattle.visit_replay.specs.inside.KeptFields.{Keeps, IsWritten, IsClicked, text_written, check_turned, last_written}
+use Rattle.visit_replay.specs.inside.KeptFields.{Keeps, IsWritten, IsClicked, text_written, check_turned, last_written, starts_on}
+use Rattle.visit_replay.specs.inside.OneEvent.{IsTargetOf}
 use Rattle.visit_replay.specs.declared.fields.Fields.{Fields}
+use Rattle.visit_replay.proofs.Numbered.{same_place}
 
 -- ---- the last text
 
@@ -50,54 +52,49 @@ is_on_before-push new before event place =
     ap (λ n. turned n (start_checked_at place new)) (sum_by_push (λ e. cond (is_click_on new place e) 1 0) before event)
     ∙ turned-more (count_by (is_click_on new place) before) (is_click_on new place event) (start_checked_at place new)
 
--- the map holds the other state at the place, and nothing new elsewhere
-pub turned_there : {now : Option Bool} (old : Fields) (new : Tree) (place : List ℕ) (on : Bool) → on ≡ unwrap_or (check_turned old place) (start_checked_at place new)
-    → (other : List ℕ) → now ≡ cond (bytes_eq place other) (Some (not on)) (check_turned old other)
-    → unwrap_or now (start_checked_at other new) ≡ turned (cond (bytes_eq place other) 1 0) (unwrap_or (check_turned old other) (start_checked_at other new))
-turned_there old new place on was other is = ap (λ o. unwrap_or o (start_checked_at other new)) is ∙ by (bytes_eq place other) (bytes_eq-Decides place other).0
-  where
-    by : (b : Bool) → (b ≡ true → place ≡ other)
-        → unwrap_or (cond b (Some (not on)) (check_turned old other)) (start_checked_at other new) ≡ turned (cond b 1 0) (unwrap_or (check_turned old other) (start_checked_at other new))
-    by true same = ap not (was ∙ ap (λ p. unwrap_or (check_turned old p) (start_checked_at p new)) (same refl))
-    by false same = refl
-
 -- ---- the fields
 
 -- they took in what the event writes and turns
 kept_push : (old fields : Fields) (new : Tree) (before : List Event) (event : Event)
-    → ((place : List ℕ) → text_written fields place ≡ option_or (written new place event) (text_written old place))
-    → ((place : List ℕ) → control_at place new ≡ control.Check
-    → unwrap_or (check_turned fields place) (start_checked_at place new) ≡ turned (cond (is_click_on new place event) 1 0) (unwrap_or (check_turned old place) (start_checked_at place new)))
+    → ((number : ℕ) → number < nodes new → text_written fields number ≡ option_or (written new (place_numbered number new) event) (text_written old number))
+    → ((number : ℕ) → number < nodes new → control_at (place_numbered number new) new ≡ control.Check
+    → unwrap_or (check_turned fields number) (starts_on new number) ≡ turned (cond (is_click_on new (place_numbered number new) event) 1 0) (unwrap_or (check_turned old number) (starts_on new number)))
     → Keeps old new before → Keeps fields new (before ++ event ∷ [])
 kept_push old fields new before event texts checks kept = record {
-  texts = λ place. texts place ∙ ap (option_or (written new place event)) (kept.texts place) ∙ sym (last_written-push new before event place);
-  checks = λ place checkbox. checks place checkbox ∙ ap (turned (cond (is_click_on new place event) 1 0)) (kept.checks place checkbox) ∙ sym (is_on_before-push new before event place);
+  texts = λ number there.
+      texts number there
+      ∙ ap (option_or (written new (place_numbered number new) event)) (kept.texts number there)
+      ∙ sym (last_written-push new before event (place_numbered number new));
+  checks = λ number there checkbox.
+      checks number there checkbox
+      ∙ ap (turned (cond (is_click_on new (place_numbered number new) event) 1 0)) (kept.checks number there checkbox)
+      ∙ sym (is_on_before-push new before event (place_numbered number new));
 }
 
 or_kept : (b : Bool) (text : List ℕ) (o : Option (List ℕ)) → cond b (Some text) o ≡ option_or (cond b (Some text) None) o
 or_kept true text o = refl
 or_kept false text o = refl
 
-pub kept_input : {at : ℕ} {path : List Step} {text : List ℕ} (old fields : Fields) (new : Tree) (event : Event) (place : List ℕ)
-    → event ≡ Input at path text → target_in (path_of event) new ≡ One place → IsWritten old fields place text → (before : List Event) → Keeps old new before → Keeps fields new (before ++ event ∷ [])
-kept_input {at} {path} {text} old fields new event place is only written before kept =
-    let there : target_in path new ≡ One place = sym (ap (λ e. target_in (path_of e) new) is) ∙ only in
+pub kept_input : {at : ℕ} {path : List Step} {text : List ℕ} (old fields : Fields) (new : Tree) (event : Event) (number : ℕ)
+    → event ≡ Input at path text → IsTargetOf new event number → IsWritten old fields number text → (before : List Event) → Keeps old new before → Keeps fields new (before ++ event ∷ [])
+kept_input {at} {path} {text} old fields new event number is target written before kept =
+    let there : target_in path new ≡ One (place_numbered number new) = sym (ap (λ e. target_in (path_of e) new) is) ∙ target.1 in
     rw is (kept_push old fields new before (Input at path text)
-    (λ other. written.texts other ∙ or_kept (bytes_eq place other) text (text_written old other) ∙ rw there refl)
-    (λ other checkbox. ap (λ o. unwrap_or o (start_checked_at other new)) (written.checks other))
+    (λ other few. written.texts other ∙ or_kept (number == other) text (text_written old other) ∙ rw (there, same_place number other new target.0 few) refl)
+    (λ other few checkbox. ap (λ o. unwrap_or o (starts_on new other)) (written.checks other))
     kept)
 
-pub kept_click : {at req : ℕ} {path : List Step} (old fields : Fields) (new : Tree) (event : Event) (place : List ℕ)
-    → event ≡ Click at path req → target_in (path_of event) new ≡ One place → IsClicked old fields new place → (before : List Event) → Keeps old new before → Keeps fields new (before ++ event ∷ [])
-kept_click {at} {req} {path} old fields new event place is only clicked before kept =
-    let there : target_in path new ≡ One place = sym (ap (λ e. target_in (path_of e) new) is) ∙ only in
+pub kept_click : {at req : ℕ} {path : List Step} (old fields : Fields) (new : Tree) (event : Event) (number : ℕ)
+    → event ≡ Click at path req → IsTargetOf new event number → IsClicked old fields new number → (before : List Event) → Keeps old new before → Keeps fields new (before ++ event ∷ [])
+kept_click {at} {req} {path} old fields new event number is target clicked before kept =
+    let there : target_in path new ≡ One (place_numbered number new) = sym (ap (λ e. target_in (path_of e) new) is) ∙ target.1 in
     rw is (kept_push old fields new before (Click at path req)
-    clicked.texts
-    (λ other checkbox. clicked.checks other checkbox ∙ rw there refl)
+    (λ other few. clicked.texts other)
+    (λ other few checkbox. clicked.checks other checkbox ∙ rw (there, same_place number other new target.0 few) refl)
     kept)
 
 -- a submit writes and turns nothing
 pub kept_submit : {at req : ℕ} {path : List Step} {by : Option (List Step)} (fields : Fields) (new : Tree) (event : Event)
     → event ≡ Submit at path by req → (before : List Event) → Keeps fields new before → Keeps fields new (before ++ event ∷ [])
 kept_submit {at} {req} {path} {by} fields new event is before kept =
-    rw is (kept_push fields fields new before (Submit at path by req) (λ place. refl) (λ place checkbox. refl) kept)
+    rw is (kept_push fields fields new before (Submit at path by req) (λ number there. refl) (λ number there checkbox. refl) kept)

@@ -8,7 +8,7 @@ use Rattle.std.proofs.Math.ListN.{drop_of_length-le}
 use Rattle.std.proofs.lemmas.Iterator.Adapters.{position_from-zero}
 use Rattle.page_tree.specs.Tree.{Tree}
 use Rattle.upload_reader.specs.declared.message.Event.{Event}
-use Rattle.visit_replay.specs.declared.outcome.Request.{Request}
+use Rattle.visit_replay.specs.declared.requests.Request.{Request}
 use Rattle.visit_replay.specs.declared.outcome.ConflictKind.{ConflictKind}
 use Rattle.visit_replay.specs.declared.fields.Fields.{Fields}
 use Rattle.visit_replay.specs.Conflict.{conflict}

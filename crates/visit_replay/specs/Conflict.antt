@@ -11,8 +11,8 @@ use Rattle.page_tree.specs.declared.control.Control.{Control}
 use Rattle.page_tree.specs.declared.control.Control.TheVariants as control
 use Rattle.xpath_child.specs.Path.{Step}
 use Rattle.xpath_child.specs.Targets.{target_in, only_place}
-use Rattle.xpath_child.specs.declared.target.Target.{Target}
-use Rattle.xpath_child.specs.declared.target.Target.TheVariants.{Missing, One, Several}
+use Rattle.xpath_child.specs.declared.path.Target.{Target}
+use Rattle.xpath_child.specs.declared.path.Target.TheVariants.{Missing, One, Several}
 use Rattle.upload_reader.specs.declared.message.Event.{Event}
 use Rattle.upload_reader.specs.declared.message.Event.TheVariants.{Input, Click, Submit}
 use Rattle.visit_replay.specs.declared.outcome.ConflictKind.{ConflictKind}

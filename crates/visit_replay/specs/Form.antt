@@ -17,8 +17,8 @@ use Rattle.xpath_child.specs.Targets.{target_in, only_place}
 use Rattle.upload_reader.specs.declared.message.Event.{Event}
 use Rattle.visit_replay.specs.Conflict.{is_disabled}
 use Rattle.visit_replay.specs.Field.{is_there, value_before, is_on_before}
-use Rattle.visit_replay.specs.declared.outcome.Method.TheVariants.{Get, Post}
-use Rattle.visit_replay.specs.declared.outcome.Request.{Request}
+use Rattle.visit_replay.specs.declared.requests.Method.TheVariants.{Get, Post}
+use Rattle.visit_replay.specs.declared.requests.Request.{Request}
 
 -- an absent text and an empty one are the same
 abbrev pub unless_empty : Option (List ℕ) → Option (List ℕ)

@@ -10,7 +10,7 @@ use Rattle.visit_replay.specs.Form.{bare}
 use Rattle.visit_replay.specs.Requests.{requests_before}
 use Rattle.visit_replay.specs.declared.outcome.ConflictKind.{ConflictKind}
 use Rattle.visit_replay.specs.declared.outcome.ConflictKind.TheVariants.{NoPage, LogCut, Ui}
-use Rattle.visit_replay.specs.declared.outcome.Request.{Request}
+use Rattle.visit_replay.specs.declared.requests.Request.{Request}
 use Rattle.visit_replay.specs.declared.outcome.Outcome.{Outcome}
 use Rattle.visit_replay.specs.declared.outcome.Outcome.TheVariants.{Untouched, Done, Conflict}
 

@@ -8,8 +8,8 @@ use Rattle.upload_reader.specs.declared.message.Event.{Event}
 use Rattle.upload_reader.specs.declared.message.Event.TheVariants.{Input, Click, Submit}
 use Rattle.visit_replay.specs.Conflict.{path_of}
 use Rattle.visit_replay.specs.Form.{form_request}
-use Rattle.visit_replay.specs.declared.outcome.Method.TheVariants.{Load, Get}
-use Rattle.visit_replay.specs.declared.outcome.Request.{Request}
+use Rattle.visit_replay.specs.declared.requests.Method.TheVariants.{Load, Get}
+use Rattle.visit_replay.specs.declared.requests.Request.{Request}
 
 abbrev pub load_request : List ℕ → Request
 load_request address = record { number = 0; method = Load; address = address; pairs = [] }

@@ -1,31 +1,37 @@
 //! Why one event can't be replayed (K2 to K7), or where it is.
-ghost use Rattle.std.specs.Prelude.{◌≡◌, IfOk};
+ghost use Rattle.std.specs.Prelude.{◌≡◌, ◌<◌, IfOk, IfSome, option_map};
+ghost use Rattle.page_tree.specs.Limits.{nodes};
+ghost use Rattle.page_tree.specs.Number.{place_numbered};
+ghost use Rattle.page_tree.specs.Under.{is_under};
+ghost use Rattle.xpath_child.specs.Targets.{target_in, only_place};
 ghost use Rattle.visit_replay.specs.Conflict.{path_of, is_disabled, input_conflict, input_conflict_on, is_unchanged, off_link, click_conflict, click_conflict_on, is_enabled_submit, is_button_of, has_button, submit_conflict, submit_conflict_on, conflict_at};
-ghost use Rattle.visit_replay.specs.inside.OneEvent.{FindsPlace};
+ghost use Rattle.visit_replay.specs.inside.OneEvent.{Locates, IsButton, by_of};
 
 use crate::outcome::ConflictKind;
-use page_tree::{Control, NoMemory, Page, Place};
+use page_tree::{Control, NoMemory, Page};
 use upload_reader::Event;
-use xpath_child::{Path, Target};
+use xpath_child::{Found, Path};
 
-/// Why an event can't be replayed, or the place where it can.
+/// Why an event can't be replayed, or where it can: the numbers of its target and of the button that was pressed, if any.
 #[derive(Drop)]
-pub(crate) enum Found {
+pub(crate) enum Located {
     Bad(ConflictKind),
-    At(Place),
+    At { target: u32, button: Option<u32> },
 }
 
-pub(crate) fn find(old: &Page, new: &Page, event: &Event) -> Result<Found, NoMemory>
-    ensures { IfOk result (FindsPlace old.now new.now event.now) }
+/// Where an event can be replayed, or why it can't.
+pub(crate) fn find(old: &Page, new: &Page, event: &Event) -> Result<Located, NoMemory>
+    ensures { IfOk result (Locates old.now new.now event.now) }
 {
-    let place = match path_of(event).select(new)? {
-        Target::Missing => return Ok(Found::Bad(ConflictKind::NoTarget)),
-        Target::Several => return Ok(Found::Bad(ConflictKind::ManyTargets)),
-        Target::One(place) => place,
+    let target = match path_of(event).find(new) {
+        Found::Missing => return Ok(Located::Bad(ConflictKind::NoTarget)),
+        Found::Several => return Ok(Located::Bad(ConflictKind::ManyTargets)),
+        Found::One(number) => number,
     };
-    match conflict_at(old, new, event, &place)? {
-        Some(kind) => Ok(Found::Bad(kind)),
-        None => Ok(Found::At(place)),
+    let button = button_of(new, event);
+    match conflict_at(old, new, event, target, button)? {
+        Some(kind) => Ok(Located::Bad(kind)),
+        None => Ok(Located::At { target, button }),
     }
 }
 
@@ -39,25 +45,49 @@ fn path_of(event: &Event) -> &Path
     }
 }
 
+// The button that was pressed, if its path selects one node.
+fn button_of(new: &Page, event: &Event) -> Option<u32>
+    ensures { IsButton new.now (by_of event.now) result }
+{
+    match event {
+        Event::Submit { by: Some(path), .. } => only(path, new),
+        _ => None,
+    }
+}
+
+// The node that a path selects, if it is the only one.
+fn only(path: &Path, page: &Page) -> Option<u32>
+    ensures there { IfSome result (λ number. number < nodes page.now) }
+    ensures place { option_map (λ number. place_numbered number page.now) result ≡ only_place (target_in path.now page.now) }
+{
+    match path.find(page) {
+        Found::One(number) => Some(number),
+        Found::Missing | Found::Several => None,
+    }
+}
+
 fn conflict_at(
     old: &Page,
     new: &Page,
     event: &Event,
-    place: &Place,
+    target: u32,
+    button: Option<u32>,
 ) -> Result<Option<ConflictKind>, NoMemory>
-    ensures { IfOk result (λ found. found ≡ conflict_at old.now new.now event.now place.now) }
+    requires there { target < nodes new.now }
+    requires button { IsButton new.now (by_of event.now) button }
+    ensures { IfOk result (λ found. found ≡ conflict_at old.now new.now event.now (place_numbered target new.now)) }
 {
     match event {
-        Event::Input { target, .. } => input_conflict(old, new, target, place),
-        Event::Click { req, .. } => Ok(click_conflict(new, *req, place)),
-        Event::Submit { by, .. } => submit_conflict(new, by, place),
+        Event::Input { target: path, .. } => input_conflict(old, new, path, target),
+        Event::Click { req, .. } => Ok(click_conflict(new, *req, target)),
+        Event::Submit { by, .. } => Ok(submit_conflict(new, by, target, button)),
     }
 }
 
-pub(crate) fn is_disabled(page: &Page, place: &Place) -> bool
-    ensures { result ≡ is_disabled place.now page.now }
+pub(crate) fn is_disabled(page: &Page, number: u32) -> bool
+    ensures { result ≡ is_disabled (place_numbered number page.now) page.now }
 {
-    page.attribute(place, "disabled").is_some()
+    page.attribute_of(number, "disabled").is_some()
 }
 
 // ---- inputs: K4, K5
@@ -66,12 +96,12 @@ fn input_conflict(
     old: &Page,
     new: &Page,
     path: &Path,
-    place: &Place,
+    number: u32,
 ) -> Result<Option<ConflictKind>, NoMemory>
-    ensures { IfOk result (λ found. found ≡ input_conflict old.now new.now path.now place.now) }
+    ensures { IfOk result (λ found. found ≡ input_conflict old.now new.now path.now (place_numbered number new.now)) }
 {
-    let unchanged = is_unchanged(old, new, path, place)?;
-    Ok(input_conflict_on(new.control(place), is_disabled(new, place), unchanged))
+    let unchanged = is_unchanged(old, new, path, number)?;
+    Ok(input_conflict_on(new.control_of(number), is_disabled(new, number), unchanged))
 }
 
 #[tactic(auto, unfolding(crate::specs::Conflict::input_conflict_on))]
@@ -86,15 +116,14 @@ fn input_conflict_on(control: Control, disabled: bool, unchanged: bool) -> Optio
     }
 }
 
-// Whether the path selected, on the old page, one text control that started as the one at the place does.
-fn is_unchanged(old: &Page, new: &Page, path: &Path, place: &Place) -> Result<bool, NoMemory>
-    ensures { IfOk result (λ same. same ≡ is_unchanged old.now new.now path.now place.now) }
+// Whether the path selected, on the old page, one text control that started as the one with the number does.
+fn is_unchanged(old: &Page, new: &Page, path: &Path, number: u32) -> Result<bool, NoMemory>
+    ensures { IfOk result (λ same. same ≡ is_unchanged old.now new.now path.now (place_numbered number new.now)) }
 {
-    let before = match path.select(old)?.only() {
-        Some(there) => old.start_text(there)?,
-        None => None,
+    let Some(there) = only(path, old) else {
+        return Ok(false);
     };
-    match (before, new.start_text(place)?) {
+    match (old.start_text_of(there)?, new.start_text_of(number)?) {
         (Some(before), Some(now)) => Ok(before.as_str() == now.as_str()),
         _ => Ok(false),
     }
@@ -102,10 +131,10 @@ fn is_unchanged(old: &Page, new: &Page, path: &Path, place: &Place) -> Result<bo
 
 // ---- clicks: K4, K6
 
-fn click_conflict(new: &Page, req: u64, place: &Place) -> Option<ConflictKind>
-    ensures { result ≡ click_conflict new.now req place.now }
+fn click_conflict(new: &Page, req: u64, number: u32) -> Option<ConflictKind>
+    ensures { result ≡ click_conflict new.now req (place_numbered number new.now) }
 {
-    click_conflict_on(new.control(place), is_disabled(new, place), req)
+    click_conflict_on(new.control_of(number), is_disabled(new, number), req)
 }
 
 #[tactic(auto, unfolding(crate::specs::Conflict::click_conflict_on))]
@@ -135,12 +164,15 @@ fn off_link(req: u64) -> Option<ConflictKind>
 fn submit_conflict(
     new: &Page,
     by: &Option<Path>,
-    place: &Place,
-) -> Result<Option<ConflictKind>, NoMemory>
-    ensures { IfOk result (λ found. found ≡ submit_conflict new.now by.now place.now) }
+    form: u32,
+    button: Option<u32>,
+) -> Option<ConflictKind>
+    requires there { form < nodes new.now }
+    requires button { IsButton new.now by.now button }
+    ensures { result ≡ submit_conflict new.now by.now (place_numbered form new.now) }
 {
-    let button = has_button(new, place, by)?;
-    Ok(submit_conflict_on(new.control(place), button))
+    let has = has_button(new, form, by, button);
+    submit_conflict_on(new.control_of(form), has)
 }
 
 #[tactic(auto, unfolding(crate::specs::Conflict::submit_conflict_on))]
@@ -154,22 +186,33 @@ fn submit_conflict_on(control: Control, button: bool) -> Option<ConflictKind>
 }
 
 // Whether the button that was pressed, if any, is an enabled one of the form.
-fn has_button(new: &Page, form: &Place, by: &Option<Path>) -> Result<bool, NoMemory>
-    ensures { IfOk result (λ has. has ≡ has_button new.now form.now by.now) }
+fn has_button(new: &Page, form: u32, by: &Option<Path>, button: Option<u32>) -> bool
+    requires there { form < nodes new.now }
+    requires button { IsButton new.now by.now button }
+    ensures { result ≡ has_button new.now (place_numbered form new.now) by.now }
 {
-    match by {
-        None => Ok(true),
-        Some(path) => match path.select(new)?.only() {
-            Some(place) => Ok(is_button_of(new, form, place)),
-            None => Ok(false),
-        },
+    match button {
+        Some(button) => is_button_of(new, form, button),
+        None => by.is_none(),
     }
 }
 
-fn is_button_of(new: &Page, form: &Place, place: &Place) -> bool
-    ensures { result ≡ is_button_of new.now form.now place.now }
+fn is_button_of(new: &Page, form: u32, number: u32) -> bool
+    requires form { form < nodes new.now }
+    requires there { number < nodes new.now }
+    ensures { result ≡ is_button_of new.now (place_numbered form new.now) (place_numbered number new.now) }
 {
-    place.is_under(form) && is_enabled_submit(new.control(place), is_disabled(new, place))
+    is_under(new, form, number)
+        && is_enabled_submit(new.control_of(number), is_disabled(new, number))
+}
+
+fn is_under(page: &Page, above: u32, number: u32) -> bool
+    requires above { above < nodes page.now }
+    requires there { number < nodes page.now }
+    ensures { result ≡ is_under (place_numbered above page.now) (place_numbered number page.now) }
+{
+    let under = page.nodes_under(above);
+    under.start <= number && number < under.end
 }
 
 #[tactic(auto, unfolding(crate::specs::Conflict::is_enabled_submit))]

@@ -2,26 +2,24 @@
 ghost use Rattle.std.specs.Prelude.{◌≡◌, [], ◌∷◌, ◌++◌, List, OnOk, option_map, unwrap_or};
 ghost use Rattle.page_tree.specs.Tree.{Tree};
 ghost use Rattle.upload_reader.specs.declared.message.Event.{Event as AnEvent};
-ghost use Rattle.xpath_child.specs.Targets.{target_in};
-ghost use Rattle.xpath_child.specs.declared.target.Target.TheVariants.{One};
-ghost use Rattle.visit_replay.specs.Conflict.{path_of};
 ghost use Rattle.visit_replay.specs.inside.KeptFields.{Keeps, IsWritten, IsClicked, text_written, check_turned};
+ghost use Rattle.visit_replay.specs.inside.OneEvent.{IsTargetOf};
 
-use page_tree::{Control, NoMemory, Page, Place, Text};
+use page_tree::{Control, NoMemory, Page};
 use std::alloc::Global;
 use std::collections::BTreeMap;
 use upload_reader::Event;
 
-/// What they hold, by their places.
+/// What they hold, by their nodes' numbers. The texts are those of the events.
 #[derive(Drop)]
-pub(crate) struct Fields {
-    texts: BTreeMap<Place, Text>,
-    checks: BTreeMap<Place, bool>,
+pub(crate) struct Fields<'a> {
+    texts: BTreeMap<u32, &'a str>,
+    checks: BTreeMap<u32, bool>,
 }
 
-impl Fields {
+impl<'a> Fields<'a> {
     /// Before any event. It takes no memory.
-    pub(crate) fn new(alloc: Global) -> Fields
+    pub(crate) fn new(alloc: Global) -> Fields<'a>
         ensures { (new : Tree) → Keeps result new [] }
     {
         Fields {
@@ -30,47 +28,47 @@ impl Fields {
         }
     }
 
-    /// What was written into the field there.
-    pub(crate) fn text(&self, place: &Place) -> Option<&str>
-        ensures { option_map (λ text. text.now) result ≡ text_written self.now place.now }
+    /// What was written into the field; none where nothing was.
+    pub(crate) fn text(&self, number: u32) -> Option<&str>
+        ensures { option_map (λ text. text.now) result ≡ text_written self.now number }
     {
-        self.texts.get(place).map(|text| text.as_str())
+        self.texts.get(&number).copied()
     }
 
-    /// Whether the checkbox there is on, which started so.
-    pub(crate) fn is_on(&self, place: &Place, start: bool) -> bool
-        ensures { result ≡ unwrap_or (check_turned self.now place.now) start }
+    /// Whether the checkbox is on, which started so.
+    pub(crate) fn is_on(&self, number: u32, start: bool) -> bool
+        ensures { result ≡ unwrap_or (check_turned self.now number) start }
     {
-        self.checks.get(place).copied().unwrap_or(start)
+        self.checks.get(&number).copied().unwrap_or(start)
     }
 
-    /// Takes in one event more, whose target is that place.
-    pub(crate) fn note(&mut self, new: &Page, event: &Event, place: Place) -> Result<(), NoMemory>
-        requires { target_in (path_of event.now) new.now ≡ One place }
+    /// Takes in one event more, whose target has that number.
+    pub(crate) fn note(&mut self, new: &Page, event: &'a Event, number: u32) -> Result<(), NoMemory>
+        requires { IsTargetOf new.now event.now number }
         ensures { OnOk result ((before : List AnEvent) → Keeps self.old new.now before → Keeps self.new new.now (before ++ event.now ∷ [])) }
     {
         match event {
-            Event::Input { value, .. } => self.note_input(value, place),
-            Event::Click { .. } => self.note_click(new, place),
+            Event::Input { value, .. } => self.note_input(value.as_str(), number),
+            Event::Click { .. } => self.note_click(new, number),
             Event::Submit { .. } => Ok(()),
         }
     }
 
-    // The field there holds that text from now on.
-    fn note_input(&mut self, value: &Text, place: Place) -> Result<(), NoMemory>
-        ensures { OnOk result (IsWritten self.old self.new place value.now) }
+    // The field holds that text from now on.
+    fn note_input(&mut self, text: &'a str, number: u32) -> Result<(), NoMemory>
+        ensures { OnOk result (IsWritten self.old self.new number text.now) }
     {
-        self.texts.insert(place, value.copy()?)?;
+        self.texts.insert(number, text)?;
         Ok(())
     }
 
-    // A checkbox there is turned; of any other click nothing is kept.
-    fn note_click(&mut self, new: &Page, place: Place) -> Result<(), NoMemory>
-        ensures { OnOk result (IsClicked self.old self.new new.now place) }
+    // A checkbox is turned; of any other click nothing is kept.
+    fn note_click(&mut self, new: &Page, number: u32) -> Result<(), NoMemory>
+        ensures { OnOk result (IsClicked self.old self.new new.now number) }
     {
-        if let Control::Check = new.control(&place) {
-            let on = self.is_on(&place, new.start_checked(&place));
-            self.checks.insert(place, !on)?;
+        if let Control::Check = new.control_of(number) {
+            let on = self.is_on(number, new.start_checked_of(number));
+            self.checks.insert(number, !on)?;
         }
         Ok(())
     }

@@ -1,52 +1,56 @@
 //! What a form sends.
-ghost use Rattle.std.specs.Prelude.{◌≡◌, [], List, IfOk, OnOk, option_map};
+ghost use Rattle.std.specs.Prelude.{◌≡◌, ◌<◌, [], List, Option, IfOk, OnOk, option_map};
 ghost use Rattle.std.specs.List.{cons_option};
 ghost use Rattle.form_urlencoded.specs.Form.{append_pair, extend_pairs};
+ghost use Rattle.page_tree.specs.Limits.{nodes};
+ghost use Rattle.page_tree.specs.Number.{place_numbered};
 ghost use Rattle.upload_reader.specs.declared.message.Event.{Event as AnEvent};
-ghost use Rattle.xpath_child.specs.Targets.{only_place};
-ghost use Rattle.visit_replay.specs.Field.{is_there};
-ghost use Rattle.visit_replay.specs.Form.{unless_empty, sent_name, value_or, button_of, encoded, is_post, action_of};
+ghost use Rattle.xpath_child.specs.Path.{Step};
+ghost use Rattle.visit_replay.specs.Form.{unless_empty, sent_name, value_or, encoded, is_post, action_of};
 ghost use Rattle.visit_replay.specs.inside.KeptFields.{Keeps};
-ghost use Rattle.visit_replay.specs.inside.FieldsNow.{text_now, is_on_now, value_now, pair_now, pairs_now};
+ghost use Rattle.visit_replay.specs.inside.FieldsNow.{text_now, is_on_now, is_pressed, value_now, pair_now, pairs_now};
+ghost use Rattle.visit_replay.specs.inside.OneEvent.{IsButton};
 
 use crate::conflicts::is_disabled;
 use crate::fields::Fields;
 use form_urlencoded::Serializer;
-use page_tree::{Control, NoMemory, Page, Place, Text};
+use page_tree::{Control, NoMemory, Page, Text};
 use std::alloc::Global;
-use xpath_child::{Path, Target};
+use std::ops::Range;
+
+/// A page as it is filled in: with what its fields hold, and the number of the button that was pressed, if any.
+#[derive(Drop)]
+pub(crate) struct Filled<'a, 'v> {
+    pub(crate) page: &'a Page,
+    pub(crate) fields: &'a Fields<'v>,
+    pub(crate) button: Option<u32>,
+}
 
 /// The form's pairs as `application/x-www-form-urlencoded`, in one pass over the nodes under it.
-pub(crate) fn encoded(
-    alloc: Global,
-    page: &Page,
-    fields: &Fields,
-    by: &Option<Path>,
-    form: &Place,
-) -> Result<Text, NoMemory>
-    ensures { IfOk result (λ text. (before : List AnEvent) → Keeps fields.now page.now before → text ≡ encoded page.now before by.now form.now) }
+pub(crate) fn encoded(alloc: Global, filled: &Filled<'_, '_>, form: u32) -> Result<Text, NoMemory>
+    requires { form < nodes filled.now.page.now }
+    ensures { IfOk result (λ text. (before : List AnEvent) (by : Option (List Step)) → Keeps filled.now.fields.now filled.now.page.now before → IsButton filled.now.page.now by filled.now.button → text ≡ encoded filled.now.page.now before by (place_numbered form filled.now.page.now)) }
 {
-    let button = button_of(page, by)?;
     let mut pairs = Serializer::new(String::new(alloc));
-    add_pairs(&mut pairs, page, fields, &button, form)?;
+    add_pairs(&mut pairs, filled, filled.page.nodes_under(form))?;
     Ok(Text::from(pairs.finish()))
 }
 
 /// Whether the form's method is `post`.
-pub(crate) fn is_post(page: &Page, form: &Place) -> bool
-    ensures { result ≡ is_post form.now page.now }
+pub(crate) fn is_post(page: &Page, form: u32) -> bool
+    ensures { result ≡ is_post (place_numbered form page.now) page.now }
 {
-    match page.attribute(form, "method") {
+    match page.attribute_of(form, "method") {
         Some(method) => method.eq_ignore_ascii_case("post"),
         None => false,
     }
 }
 
 /// Where the form sends to: its action, or the visit's address where that is absent or empty.
-pub(crate) fn action_of<'a>(address: &'a str, page: &'a Page, form: &Place) -> &'a str
-    ensures { result.now ≡ action_of address.now form.now page.now }
+pub(crate) fn action_of<'a>(address: &'a str, page: &'a Page, form: u32) -> &'a str
+    ensures { result.now ≡ action_of address.now (place_numbered form page.now) page.now }
 {
-    unless_empty(page.attribute(form, "action")).unwrap_or(address)
+    unless_empty(page.attribute_of(form, "action")).unwrap_or(address)
 }
 
 fn unless_empty(text: Option<&str>) -> Option<&str>
@@ -58,46 +62,28 @@ fn unless_empty(text: Option<&str>) -> Option<&str>
     }
 }
 
-// What the path of the pressed button selects; where none was pressed, nothing.
-fn button_of(page: &Page, by: &Option<Path>) -> Result<Target, NoMemory>
-    ensures { IfOk result (λ button. only_place button ≡ button_of page.now by.now) }
-{
-    match by {
-        None => Ok(Target::Missing),
-        Some(path) => path.select(page),
-    }
-}
+// ---- the pairs
 
-// ---- the pairs. `by` is what the path of the pressed button selects
-
+// Adds what the nodes with those numbers send.
 fn add_pairs(
     pairs: &mut Serializer,
-    page: &Page,
-    fields: &Fields,
-    by: &Target,
-    form: &Place,
+    filled: &Filled<'_, '_>,
+    numbers: Range<u32>,
 ) -> Result<(), NoMemory>
-    ensures { OnOk result (pairs.new ≡ record pairs.old { form = extend_pairs pairs.old.form (pairs_now page.now fields.now by.now form.now) }) }
+    ensures { OnOk result (pairs.new ≡ record pairs.old { form = extend_pairs pairs.old.form (pairs_now filled.now numbers.start numbers.end) }) }
 {
-    let places = page.places_under(form)?;
-    for place in &places {
-        add_pair(pairs, page, fields, by, place)?;
+    for number in numbers.start..numbers.end {
+        add_pair(pairs, filled, number)?;
     }
     Ok(())
 }
 
-// Adds what the node there sends, if anything.
-fn add_pair(
-    pairs: &mut Serializer,
-    page: &Page,
-    fields: &Fields,
-    by: &Target,
-    place: &Place,
-) -> Result<(), NoMemory>
-    ensures { OnOk result (pairs.new ≡ record pairs.old { form = extend_pairs pairs.old.form (cons_option (pair_now page.now fields.now by.now place.now) []) }) }
+// Adds what the node with that number sends, if anything.
+fn add_pair(pairs: &mut Serializer, filled: &Filled<'_, '_>, number: u32) -> Result<(), NoMemory>
+    ensures { OnOk result (pairs.new ≡ record pairs.old { form = extend_pairs pairs.old.form (cons_option (pair_now filled.now number) []) }) }
 {
-    match sent_name(page, place) {
-        Some(name) => add_named(pairs, name, page, fields, by, place),
+    match sent_name(filled.page, number) {
+        Some(name) => add_named(pairs, name, filled, number),
         None => Ok(()),
     }
 }
@@ -107,22 +93,23 @@ fn add_pair(
 fn add_named(
     pairs: &mut Serializer,
     name: &str,
-    page: &Page,
-    fields: &Fields,
-    by: &Target,
-    place: &Place,
+    filled: &Filled<'_, '_>,
+    number: u32,
 ) -> Result<(), NoMemory>
-    ensures { OnOk result (pairs.new ≡ record pairs.old { form = extend_pairs pairs.old.form (cons_option (option_map (λ value. (name.now, value)) (value_now page.now fields.now by.now place.now)) []) }) }
+    ensures { OnOk result (pairs.new ≡ record pairs.old { form = extend_pairs pairs.old.form (cons_option (option_map (λ value. (name.now, value)) (value_now filled.now number)) []) }) }
 {
-    match page.control(place) {
-        Control::Text => add_text(pairs, name, page, fields, place),
-        Control::Check if is_on(page, fields, place) => {
-            pairs.append_pair(name, value_or("on", page, place))
+    let page = filled.page;
+    match page.control_of(number) {
+        Control::Text => add_text(pairs, name, filled, number),
+        Control::Check if is_on(filled, number) => {
+            pairs.append_pair(name, value_or("on", page, number))
         }
-        Control::Radio if page.start_checked(place) => {
-            pairs.append_pair(name, value_or("on", page, place))
+        Control::Radio if page.start_checked_of(number) => {
+            pairs.append_pair(name, value_or("on", page, number))
         }
-        Control::Submit if is_only(place, by) => pairs.append_pair(name, value_or("", page, place)),
+        Control::Submit if is_pressed(filled.button, number) => {
+            pairs.append_pair(name, value_or("", page, number))
+        }
         _ => Ok(()),
     }
 }
@@ -131,15 +118,14 @@ fn add_named(
 fn add_text(
     pairs: &mut Serializer,
     name: &str,
-    page: &Page,
-    fields: &Fields,
-    place: &Place,
+    filled: &Filled<'_, '_>,
+    number: u32,
 ) -> Result<(), NoMemory>
-    ensures { OnOk result (pairs.new ≡ record pairs.old { form = append_pair pairs.old.form name.now (text_now page.now fields.now place.now) }) }
+    ensures { OnOk result (pairs.new ≡ record pairs.old { form = append_pair pairs.old.form name.now (text_now filled.now number) }) }
 {
-    match fields.text(place) {
+    match filled.fields.text(number) {
         Some(text) => pairs.append_pair(name, text),
-        None => match page.start_text(place)? {
+        None => match filled.page.start_text_of(number)? {
             Some(text) => pairs.append_pair(name, text.as_str()),
             None => pairs.append_pair(name, ""),
         },
@@ -149,33 +135,34 @@ fn add_text(
 // ---- one node
 
 // A control that is disabled, or has no name, sends nothing.
-fn sent_name<'a>(page: &'a Page, place: &Place) -> Option<&'a str>
-    ensures { option_map (λ name. name.now) result ≡ sent_name place.now page.now }
+fn sent_name(page: &Page, number: u32) -> Option<&str>
+    ensures { option_map (λ name. name.now) result ≡ sent_name (place_numbered number page.now) page.now }
 {
-    if is_disabled(page, place) {
+    if is_disabled(page, number) {
         return None;
     }
-    unless_empty(page.attribute(place, "name"))
+    unless_empty(page.attribute_of(number, "name"))
 }
 
-fn value_or<'a>(default: &'a str, page: &'a Page, place: &Place) -> &'a str
-    ensures { result.now ≡ value_or default.now place.now page.now }
+fn value_or<'a>(default: &'a str, page: &'a Page, number: u32) -> &'a str
+    ensures { result.now ≡ value_or default.now (place_numbered number page.now) page.now }
 {
-    page.attribute(place, "value").unwrap_or(default)
+    page.attribute_of(number, "value").unwrap_or(default)
 }
 
-fn is_on(page: &Page, fields: &Fields, place: &Place) -> bool
-    ensures { result ≡ is_on_now page.now fields.now place.now }
+fn is_on(filled: &Filled<'_, '_>, number: u32) -> bool
+    ensures { result ≡ is_on_now filled.now number }
 {
-    fields.is_on(place, page.start_checked(place))
+    filled
+        .fields
+        .is_on(number, filled.page.start_checked_of(number))
 }
 
-// Whether that place alone was selected.
-fn is_only(place: &Place, target: &Target) -> bool
-    ensures { result ≡ is_there place.now (only_place target.now) }
+fn is_pressed(button: Option<u32>, number: u32) -> bool
+    ensures { result ≡ is_pressed button number }
 {
-    let Some(other) = target.only() else {
+    let Some(pressed) = button else {
         return false;
     };
-    other == place
+    pressed == number
 }

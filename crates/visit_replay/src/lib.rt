@@ -1,7 +1,7 @@
 //! What a visit gives when it is replayed on the page that stands at its address now: the requests that result, or a conflict.
 //!
 //! `replay` goes through a visit's events once. Each event's path must select one element of the page, which must still take it; what was typed and
-//! clicked is kept by the places of the fields, and a form sends what its fields hold. It is proved that the outcome is the one that `specs/` defines:
+//! clicked is kept by the numbers of the fields, and a form sends what its fields hold. It is proved that the outcome is the one that `specs/` defines:
 //! `Conflict` says why one event can't be replayed and has the conflicts' codes, `Field` says what a field holds, `Form` what a form sends, `Requests`
 //! and `Outcome` the rest. What serves private contracts stands in `specs/inside`.
 #![tactic(auto)]
@@ -14,11 +14,11 @@ mod outcome;
 mod patch;
 mod replaying;
 mod requests;
-mod walking;
 
-pub use outcome::{ConflictKind, Method, Outcome, Request, Requests};
+pub use outcome::{ConflictKind, Outcome};
 pub use patch::{Patch, affected};
 pub use replaying::replay;
+pub use requests::{Method, Request, Requests};
 
 #[cfg(test)]
 mod conflict_tests;

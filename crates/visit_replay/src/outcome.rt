@@ -1,11 +1,9 @@
 //! What replaying a visit gives.
-ghost use Rattle.std.specs.Prelude.{◌≡◌, [], ◌∷◌, ◌++◌, Some, OnOk, OnErr};
+ghost use Rattle.std.specs.Prelude.{Some};
 ghost use Rattle.visit_replay.specs.Conflict.{conflict_code};
 
-use page_tree::{NoMemory, Text};
-use std::alloc::Global;
+use crate::requests::Requests;
 use std::fmt;
-use std::marker::Model;
 
 /// Why a visit can't be replayed as it was. Its text is its code, as `K5`.
 #[derive(Clone, Copy, Debug, PartialEq, Eq)]
@@ -45,80 +43,6 @@ impl fmt::Display for ConflictKind {
             ConflictKind::LogCut => "K8",
             ConflictKind::Ui => "K9",
         })
-    }
-}
-
-/// How a request is made: by opening a page, or by a link or a form.
-#[derive(Clone, Copy, Debug, PartialEq, Eq)]
-pub enum Method {
-    Load,
-    Get,
-    Post,
-}
-
-/// A request that a replayed visit makes.
-#[derive(Debug, Drop)]
-pub struct Request {
-    /// The request number of the click or submit that made it; 0 for the visit's own load.
-    pub number: u64,
-    pub method: Method,
-    pub address: Text,
-    /// A form's fields as `application/x-www-form-urlencoded`; empty for loads and links. Under Get the address ends with them too.
-    pub pairs: Text,
-}
-
-/// Requests, in the order in which they are made. Contracts see them as a list.
-#[derive(Debug, Drop)]
-pub struct Requests {
-    items: Vec<Request>,
-}
-
-impl Model for Requests {
-    ghost use Rattle.std.specs.Prelude.{List};
-    ghost use Rattle.visit_replay.specs.declared.outcome.Request.{Request};
-
-    ghost Value = { List Request };
-
-    ghost view = { λ r. r.items.items };
-}
-
-impl Requests {
-    /// No requests. It takes no memory.
-    pub fn new(alloc: Global) -> Requests
-        ensures { result ≡ [] }
-    {
-        Requests {
-            items: Vec::new(alloc),
-        }
-    }
-
-    /// One request more, or nothing changed.
-    pub fn push(&mut self, request: Request) -> Result<(), NoMemory>
-        ensures ok { OnOk result (self.new ≡ self.old ++ request ∷ []) }
-        ensures err { OnErr result (self.new ≡ self.old) }
-    {
-        self.items.push(request)?;
-        Ok(())
-    }
-
-    pub fn as_slice(&self) -> &[Request]
-        ensures { result.now ≡ self.now }
-    {
-        self.items.as_slice()
-    }
-
-    pub fn into_vec(self) -> Vec<Request>
-        ensures { result.items ≡ self }
-    {
-        self.items
-    }
-}
-
-impl From<Vec<Request>> for Requests {
-    ghost from_gives = { λ items requests. requests ≡ items.items };
-
-    fn from(items: Vec<Request>) -> Requests {
-        Requests { items }
     }
 }
 

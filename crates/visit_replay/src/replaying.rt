@@ -1,14 +1,20 @@
-//! The outcome of a visit.
-ghost use Rattle.std.specs.Prelude.{◌≡◌, IfOk, Some};
-ghost use Rattle.visit_replay.specs.Outcome.{outcome, on_page, at_end, all_requests};
+//! The outcome of a visit: the walk over its events, up to the first that can't be replayed, and what stands at its end.
+ghost use Rattle.std.specs.Prelude.{ℕ, ◌≡◌, ◌<◌, ◌+◌, ◌^◌, IfOk, IfSome, Some};
+ghost use Rattle.visit_replay.specs.Conflict.{conflict};
+ghost use Rattle.visit_replay.specs.Outcome.{outcome, on_page, at_end, all_requests, first_conflict};
+ghost use Rattle.visit_replay.specs.inside.OneEvent.{TakesEvent, made_until};
 
-use crate::outcome::{ConflictKind, Outcome, Requests};
+use crate::conflicts::{Located, find};
+use crate::fields::Fields;
+use crate::forms::Filled;
+use crate::outcome::{ConflictKind, Outcome};
 use crate::patch::{Patch, affected};
-use crate::walking::walk;
+use crate::requests::{Requests, load_request, request_at};
 use client_log::Visit;
 use page_tree::{NoMemory, Page};
 use site_hooks::SiteHooks;
 use std::alloc::Global;
+use upload_reader::Event;
 
 /// What replaying a visit gives. It is untouched where the patch doesn't list its address. It is a conflict at the load where the site has no page
 /// there (K1); at the first event that can't be replayed on that page (K2 to K7); behind the last event where the log kept only a part of the visit
@@ -76,4 +82,60 @@ fn finish<H: SiteHooks>(
         return Ok(Outcome::Conflict { requests, at, kind });
     }
     Ok(Outcome::Done { requests })
+}
+
+// ---- the events
+
+/// What a walk gave: the requests that were made, and, where an event can't be replayed, how many stand before it, and why.
+#[derive(Drop)]
+struct Walked {
+    requests: Requests,
+    stop: Option<(u64, ConflictKind)>,
+}
+
+// The walk over the events, up to the first that can't be replayed.
+fn walk(alloc: Global, visit: &Visit, new: &Page) -> Result<Walked, NoMemory>
+    ensures stop { IfOk result (λ walked. walked.stop ≡ first_conflict visit.now.page new.now visit.now.events) }
+    ensures requests { IfOk result (λ walked. walked.requests ≡ made_until visit.now new.now walked.stop) }
+    ensures within { IfOk result (λ walked. IfSome walked.stop (λ stop. stop.0 + 1 < 2 ^ 64)) }
+{
+    let mut fields = Fields::new(alloc);
+    let mut requests = Requests::new(alloc);
+    requests.push(load_request(alloc, visit.address.as_str())?)?;
+    for (i, event) in visit.events.as_slice().iter().enumerate() {
+        if let Some(kind) = step(alloc, visit, new, event, &mut fields, &mut requests)? {
+            let stop = Some((i as u64, kind));
+            return Ok(Walked { requests, stop });
+        }
+    }
+    let stop = None;
+    Ok(Walked { requests, stop })
+}
+
+// Replays one event, or says why it can't be.
+fn step<'a>(
+    alloc: Global,
+    visit: &Visit,
+    new: &Page,
+    event: &'a Event,
+    fields: &mut Fields<'a>,
+    requests: &mut Requests,
+) -> Result<Option<ConflictKind>, NoMemory>
+    ensures conflict { IfOk result (λ found. found ≡ conflict visit.now.page new.now event.now) }
+    ensures steps { IfOk result (TakesEvent visit.now.address new.now event.now fields.old fields.new requests.old requests.new) }
+{
+    let (target, button) = match find(&visit.page, new, event)? {
+        Located::Bad(kind) => return Ok(Some(kind)),
+        Located::At { target, button } => (target, button),
+    };
+    let filled = Filled {
+        page: new,
+        fields,
+        button,
+    };
+    if let Some(request) = request_at(alloc, visit.address.as_str(), &filled, event, target)? {
+        requests.push(request)?;
+    }
+    fields.note(new, event, target)?;
+    Ok(None)
 }

@@ -1,18 +1,96 @@
-//! The requests that a replayed visit makes.
-ghost use Rattle.std.specs.Prelude.{◌≡◌, ◌++◌, List, IfOk, option_map, codes};
+//! Requests, and how a replayed visit makes them.
+ghost use Rattle.std.specs.Prelude.{◌≡◌, ◌<◌, [], ◌∷◌, ◌++◌, List, IfOk, OnOk, OnErr, option_map, codes};
 ghost use Rattle.upload_reader.specs.declared.message.Event.{Event as AnEvent};
+ghost use Rattle.page_tree.specs.Limits.{nodes};
 ghost use Rattle.page_tree.specs.Look.{attribute_at};
+ghost use Rattle.page_tree.specs.Number.{place_numbered};
 ghost use Rattle.visit_replay.specs.Form.{is_post, action_of, post_request, get_request, form_request_of};
 ghost use Rattle.visit_replay.specs.Requests.{load_request, link_request, request_at};
 ghost use Rattle.visit_replay.specs.inside.KeptFields.{Keeps};
+ghost use Rattle.visit_replay.specs.inside.OneEvent.{IsButton, by_of};
 
 use crate::address::bare;
-use crate::fields::Fields;
-use crate::forms;
-use crate::outcome::{Method, Request};
-use page_tree::{NoMemory, Page, Place, Text};
+use crate::forms::{self, Filled};
+use page_tree::{NoMemory, Page, Text};
 use std::alloc::Global;
+use std::marker::Model;
 use upload_reader::Event;
+
+/// How a request is made: by opening a page, or by a link or a form.
+#[derive(Clone, Copy, Debug, PartialEq, Eq)]
+pub enum Method {
+    Load,
+    Get,
+    Post,
+}
+
+/// A request that a replayed visit makes.
+#[derive(Debug, Drop)]
+pub struct Request {
+    /// The request number of the click or submit that made it; 0 for the visit's own load.
+    pub number: u64,
+    pub method: Method,
+    pub address: Text,
+    /// A form's fields as `application/x-www-form-urlencoded`; empty for loads and links. Under Get the address ends with them too.
+    pub pairs: Text,
+}
+
+/// Requests, in the order in which they are made. Contracts see them as a list.
+#[derive(Debug, Drop)]
+pub struct Requests {
+    items: Vec<Request>,
+}
+
+impl Model for Requests {
+    ghost use Rattle.std.specs.Prelude.{List};
+    ghost use Rattle.visit_replay.specs.declared.requests.Request.{Request};
+
+    ghost Value = { List Request };
+
+    ghost view = { λ r. r.items.items };
+}
+
+impl Requests {
+    /// No requests. It takes no memory.
+    pub fn new(alloc: Global) -> Requests
+        ensures { result ≡ [] }
+    {
+        Requests {
+            items: Vec::new(alloc),
+        }
+    }
+
+    /// One request more, or nothing changed.
+    pub fn push(&mut self, request: Request) -> Result<(), NoMemory>
+        ensures ok { OnOk result (self.new ≡ self.old ++ request ∷ []) }
+        ensures err { OnErr result (self.new ≡ self.old) }
+    {
+        self.items.push(request)?;
+        Ok(())
+    }
+
+    pub fn as_slice(&self) -> &[Request]
+        ensures { result.now ≡ self.now }
+    {
+        self.items.as_slice()
+    }
+
+    pub fn into_vec(self) -> Vec<Request>
+        ensures { result.items ≡ self }
+    {
+        self.items
+    }
+}
+
+impl From<Vec<Request>> for Requests {
+    ghost from_gives = { λ items requests. requests ≡ items.items };
+
+    fn from(items: Vec<Request>) -> Requests {
+        Requests { items }
+    }
+}
+
+// ---- what makes one
 
 /// That of the visit's own load.
 pub(crate) fn load_request(alloc: Global, address: &str) -> Result<Request, NoMemory>
@@ -26,24 +104,26 @@ pub(crate) fn load_request(alloc: Global, address: &str) -> Result<Request, NoMe
     })
 }
 
-/// That of an event at that place, if it makes one. `fields` are those before the event.
+/// That of an event whose target has that number, if it makes one, on the page as it is filled in before the event.
 pub(crate) fn request_at(
     alloc: Global,
     address: &str,
-    new: &Page,
-    fields: &Fields,
+    filled: &Filled<'_, '_>,
     event: &Event,
-    place: &Place,
+    target: u32,
 ) -> Result<Option<Request>, NoMemory>
-    ensures { IfOk result (λ request. (before : List AnEvent) → Keeps fields.now new.now before → request ≡ request_at address.now new.now before event.now place.now) }
+    requires there { target < nodes filled.now.page.now }
+    requires button { IsButton filled.now.page.now (by_of event.now) filled.now.button }
+    ensures { IfOk result (λ request. (before : List AnEvent) → Keeps filled.now.fields.now filled.now.page.now before → request ≡ request_at address.now filled.now.page.now before event.now (place_numbered target filled.now.page.now)) }
 {
+    let new = filled.page;
     match event {
         Event::Input { .. } => Ok(None),
         Event::Click { req: 0, .. } | Event::Submit { req: 0, .. } => Ok(None),
-        Event::Click { req, .. } => click_request(alloc, new, *req, place),
-        Event::Submit { by, req, .. } => {
-            let pairs = forms::encoded(alloc, new, fields, by, place)?;
-            Ok(Some(form_request(alloc, address, new, place, *req, pairs)?))
+        Event::Click { req, .. } => click_request(alloc, new, *req, target),
+        Event::Submit { req, .. } => {
+            let pairs = forms::encoded(alloc, filled, target)?;
+            Ok(Some(form_request(alloc, address, new, target, *req, pairs)?))
         }
     }
 }
@@ -53,11 +133,11 @@ fn click_request(
     alloc: Global,
     new: &Page,
     number: u64,
-    place: &Place,
+    link: u32,
 ) -> Result<Option<Request>, NoMemory>
-    ensures { IfOk result (λ request. request ≡ option_map (link_request number) (attribute_at place.now (codes "href") new.now)) }
+    ensures { IfOk result (λ request. request ≡ option_map (link_request number) (attribute_at (place_numbered link new.now) (codes "href") new.now)) }
 {
-    match new.attribute(place, "href") {
+    match new.attribute_of(link, "href") {
         Some(address) => Ok(Some(link_request(alloc, number, address)?)),
         None => Ok(None),
     }
@@ -80,11 +160,11 @@ fn form_request(
     alloc: Global,
     address: &str,
     new: &Page,
-    form: &Place,
+    form: u32,
     number: u64,
     pairs: Text,
 ) -> Result<Request, NoMemory>
-    ensures { IfOk result (λ request. request ≡ form_request_of (is_post form.now new.now) number (action_of address.now form.now new.now) pairs) }
+    ensures { IfOk result (λ request. request ≡ form_request_of (is_post (place_numbered form new.now) new.now) number (action_of address.now (place_numbered form new.now) new.now) pairs) }
 {
     let action = forms::action_of(address, new, form);
     if forms::is_post(new, form) {

@@ -1,6 +1,7 @@
 pub mod Index
 pub mod Members
 pub mod Places
+pub mod Numbers
 pub mod Steps
 pub mod Faults
 pub mod Sound

@@ -1,5 +1,5 @@
 -- One child more, and what stays once a search is settled.
-use Rattle.std.proofs.Common.{◌≡◌, ℕ, zero, suc, ◌+◌, ◌-◌, ◌≤◌, Bool, true, false, ◌&&◌, cond, List, [], ◌∷◌, ◌++◌, Option, Some, None, refl, sym, ◌∙◌, ap, arith, zero-add, add-zero, fold, filter, flat_map, count_by, leb-true, le-leb, ne_eqb}
+use Rattle.std.proofs.Common.{◌≡◌, ℕ, zero, suc, ◌+◌, ◌-◌, ◌≤◌, ◌⊎◌, inl, inr, Bool, true, false, ◌&&◌, cond, List, [], ◌∷◌, ◌++◌, Option, Some, None, refl, sym, ◌∙◌, ap, arith, zero-add, add-zero, fold, filter, flat_map, count_by, leb-true, le-leb, ne_eqb}
 use Rattle.std.specs.List.{range_with_len}
 use Rattle.std.proofs.lemmas.Bool.{and_right}
 use Rattle.std.proofs.lemmas.List.{append-nil}
@@ -13,8 +13,8 @@ use Rattle.xpath_child.specs.Path.{Test, Step}
 use Rattle.xpath_child.specs.Reaches.{matches, matches_at, matching_before}
 use Rattle.xpath_child.specs.Targets.{is_nth, selects, selected, places_below, places, target_of, target_in}
 use Rattle.xpath_child.specs.inside.Search.{is_past, note}
-use Rattle.xpath_child.specs.declared.target.Target.{Target}
-use Rattle.xpath_child.specs.declared.target.Target.TheVariants.{Missing, One, Several}
+use Rattle.xpath_child.specs.declared.path.Target.{Target}
+use Rattle.xpath_child.specs.declared.path.Target.TheVariants.{Missing, One, Several}
 
 range_append : (a m n : ℕ) → range_with_len a (m + n) ≡ range_with_len a m ++ range_with_len (a + m) n
 range_append a zero n = rw (zero-add, add-zero) refl
@@ -124,17 +124,16 @@ noted page step rest at child i before found now next count there so_far e =
 
 -- ---- a search that stops before the last child
 
-module _ (page : Tree) (step : Step) (rest path : List Step) (at : List ℕ) (found now : Target) (i n : ℕ) (is : path ≡ step ∷ rest) (all : n ≡ child_count_at at page) (h : i ≤ n)
+module _ (page : Tree) (step : Step) (rest path : List Step) (at : List ℕ) (found now : Target) (i n before : ℕ) (is : path ≡ step ∷ rest) (all : n ≡ child_count_at at page) (h : i ≤ n) (count : before ≡ matching_before page step.test at i)
     (so_far : now ≡ fold note found (flat_map (λ k. places_below page rest (at ++ k ∷ [])) (selected page step at i))) where
   whole : fold note found (flat_map (λ k. places_below page rest (at ++ k ∷ [])) (selected page step at n)) ≡ fold note found (places_below page path at)
   whole = ap (λ m. fold note found (flat_map (λ k. places_below page rest (at ++ k ∷ [])) (selected page step at m))) all ∙ sym (ap (λ p. fold note found (places_below page p at)) is)
 
-  pub settled_several : now ≡ Several → now ≡ fold note found (places_below page path at)
-  settled_several e = e ∙ several_stays page step at rest found i n h (sym e ∙ so_far) ∙ whole
-
-  pub settled_past : is_past step.index (matching_before page step.test at i) ≡ true → now ≡ fold note found (places_below page path at)
-  settled_past past =
-      so_far ∙ ap (λ ks. fold note found (flat_map (λ k. places_below page rest (at ++ k ∷ [])) ks)) (sym (past_stays page step at i n h past)) ∙ whole
+  pub settled : (now ≡ Several) ⊎ (is_past step.index before ≡ true) → now ≡ fold note found (places_below page path at)
+  settled (inl several) = several ∙ several_stays page step at rest found i n h (sym several ∙ so_far) ∙ whole
+  settled (inr past) =
+      so_far ∙ ap (λ ks. fold note found (flat_map (λ k. places_below page rest (at ++ k ∷ [])) ks)) (sym (past_stays page step at i n h (ap (is_past step.index) (sym count) ∙ past)))
+      ∙ whole
 
 -- ---- a whole path
 

@@ -3,4 +3,5 @@ pub mod Seen
 pub mod Fault
 pub mod Reaches
 pub mod Targets
+pub mod Found
 pub mod inside

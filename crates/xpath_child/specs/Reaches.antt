@@ -6,8 +6,8 @@ use Rattle.std.specs.Str.{bytes_eq}
 use Rattle.page_tree.specs.Tree.{Tree}
 use Rattle.page_tree.specs.Look.{name_at}
 use Rattle.xpath_child.specs.Path.{Test, any, named, Step}
-use Rattle.xpath_child.specs.declared.target.Target.{Target}
-use Rattle.xpath_child.specs.declared.target.Target.TheVariants.{Missing, One, Several}
+use Rattle.xpath_child.specs.declared.path.Target.{Target}
+use Rattle.xpath_child.specs.declared.path.Target.TheVariants.{Missing, One, Several}
 
 -- ---- one step
 

@@ -6,8 +6,8 @@ use Rattle.page_tree.specs.Tree.{Tree}
 use Rattle.page_tree.specs.Look.{name_at, child_count_at}
 use Rattle.xpath_child.specs.Path.{Step}
 use Rattle.xpath_child.specs.Reaches.{matches, matches_at, matching_before}
-use Rattle.xpath_child.specs.declared.target.Target.{Target}
-use Rattle.xpath_child.specs.declared.target.Target.TheVariants.{Missing, One, Several}
+use Rattle.xpath_child.specs.declared.path.Target.{Target}
+use Rattle.xpath_child.specs.declared.path.Target.TheVariants.{Missing, One, Several}
 
 abbrev pub is_nth : Option ℕ → ℕ → Bool
 is_nth index before = option_map_or (λ n. n == suc before) index true

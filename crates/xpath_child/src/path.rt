@@ -1,15 +1,20 @@
-ghost use Rattle.std.specs.Prelude.{◌≡◌, ◌≢◌, List, Some, None, IfOk, IfErr, MatchResult};
+//! Paths, and what they select on a page.
+ghost use Rattle.std.specs.Prelude.{◌≡◌, ◌≢◌, ◌↔◌, ◌<◌, ◌&&◌, ℕ, [], List, Some, None, IsTrue, IfOk, IfErr, MatchResult, if◌then◌else◌, fold, option_map};
+ghost use Rattle.page_tree.specs.Tree.{Tree};
+ghost use Rattle.page_tree.specs.Limits.{nodes};
+ghost use Rattle.page_tree.specs.Look.{name_at};
+ghost use Rattle.page_tree.specs.Number.{place_numbered};
 ghost use Rattle.xpath_child.specs.Path.{Step, IsPath, path_text};
 ghost use Rattle.xpath_child.specs.Fault.{path_fault, path_in, GivesPath};
-ghost use Rattle.xpath_child.specs.Reaches.{IsTarget};
-ghost use Rattle.xpath_child.specs.Targets.{target_in};
+ghost use Rattle.xpath_child.specs.Seen.{test_seen, steps_seen};
+ghost use Rattle.xpath_child.specs.Reaches.{IsTarget, matches};
+ghost use Rattle.xpath_child.specs.Targets.{target_in, only_place, is_nth, places_below};
+ghost use Rattle.xpath_child.specs.Found.{place_found};
 ghost use Rattle.xpath_child.specs.declared.fault.PathFaultKind.TheVariants.{NoMemory};
+ghost use Rattle.xpath_child.specs.inside.Search.{note};
 
 use crate::fault::{PathFault, PathFaultKind};
-use crate::reading::read_steps;
-use crate::selecting::visit_child;
 use crate::step;
-use crate::target::Target;
 use page_tree::{NoMemory, Page, Place, Text};
 use std::alloc::Global;
 use std::marker::Model;
@@ -52,7 +57,7 @@ impl Path {
             return Err(PathFaultKind::NotAbsolute.at(0));
         };
         Ok(Path {
-            steps: read_steps(alloc, rest)?,
+            steps: step::read_steps(alloc, rest)?,
         })
     }
 
@@ -68,21 +73,33 @@ impl Path {
         Ok(Text::from(text))
     }
 
-    /// What the path selects on a page. The first step selects from the document, whose only child is the root.
+    /// What the path selects on a page, as `select`, by its number. The first step selects from the document, whose only child is the root.
     ///
-    /// For each step, a child of a node that was reached is looked at once. The search stops at a second place, and at each node once the index
-    /// is past.
+    /// It takes no memory. For each step, a child of a node that was reached is looked at once. The search stops at a second node, and at each
+    /// node once the index is past.
+    pub fn find(&self, page: &Page) -> Found
+        ensures target { IsTarget self.now page.now (place_found page.now result) }
+        ensures exact { place_found page.now result ≡ target_in self.now page.now }
+        ensures there { (number : ℕ) → result ≡ Found.One number → number < nodes page.now }
+    {
+        let Some((step, rest)) = self.steps.as_slice().split_first() else {
+            return Found::Missing;
+        };
+        let mut found = Found::Missing;
+        visit_child(page, step, rest, 0, 0, &mut found);
+        found
+    }
+
+    /// What the path selects on a page, by its place.
     pub fn select(&self, page: &Page) -> Result<Target, NoMemory>
         ensures target { IfOk result (λ target. IsTarget self.now page.now target) }
         ensures exact { IfOk result (λ target. target ≡ target_in self.now page.now) }
     {
-        let Some((step, rest)) = self.steps.as_slice().split_first() else {
-            return Ok(Target::Missing);
-        };
-        let root = Place::root(*self.steps.allocator());
-        let mut found = Target::Missing;
-        visit_child(page, step, rest, root, 0, &mut found)?;
-        Ok(found)
+        match self.find(page) {
+            Found::Missing => Ok(Target::Missing),
+            Found::One(number) => Ok(Target::One(page.place_of(number)?.unwrap())),
+            Found::Several => Ok(Target::Several),
+        }
     }
 
     /// An equal path.
@@ -95,4 +112,100 @@ impl Path {
         }
         Ok(Path { steps })
     }
+}
+
+/// What a path selects on a page.
+#[derive(Debug, Drop)]
+pub enum Target {
+    /// No place.
+    Missing,
+    /// The only place.
+    One(Place),
+    /// Two places or more.
+    Several,
+}
+
+impl Target {
+    /// The place, where it is the only one.
+    pub fn only(&self) -> Option<&Place>
+        ensures { option_map (λ place. place.now) result ≡ only_place self.now }
+    {
+        match self {
+            Target::One(place) => Some(place),
+            Target::Missing | Target::Several => None,
+        }
+    }
+}
+
+/// What a path selects on a page, by its number among the page's nodes.
+#[derive(Clone, Copy, Debug, PartialEq, Eq)]
+pub enum Found {
+    /// No node.
+    Missing,
+    /// The only node.
+    One(u32),
+    /// Two nodes or more.
+    Several,
+}
+
+impl Found {
+    /// Takes in one node more.
+    pub(crate) fn note(&mut self, number: u32)
+        ensures { (page : Tree) → place_found page self.new ≡ note (place_found page self.old) (place_numbered number page) }
+    {
+        *self = match self {
+            Found::Missing => Found::One(number),
+            Found::One(_) | Found::Several => Found::Several,
+        };
+    }
+
+    pub(crate) fn is_several(&self) -> bool
+        ensures { IsTrue result ↔ (self.now ≡ Found.Several) }
+    {
+        matches!(self, Found::Several)
+    }
+}
+
+// Notes the nodes that the steps reach from a node.
+#[cycle(visit)]
+fn visit(page: &Page, steps: &[step::Step], at: u32, found: &mut Found)
+    ensures { place_found page.now found.new ≡ fold note (place_found page.now found.old) (places_below page.now (steps_seen steps.now) (place_numbered at page.now)) }
+{
+    let Some((step, rest)) = steps.split_first() else {
+        found.note(at);
+        return;
+    };
+    let mut child = page.nodes_under(at).start;
+    let mut before = 0;
+    for i in 0..page.children_of(at) {
+        if found.is_several() || step.is_past(before) {
+            return;
+        }
+        if visit_child(page, step, rest, child, before, found) {
+            before += 1;
+        }
+        child = page.nodes_under(child).end;
+    }
+}
+
+// Notes the nodes that a step and the rest reach through one child, before which so many siblings match. It says whether the child matches.
+#[cycle(visit)]
+fn visit_child(
+    page: &Page,
+    step: &step::Step,
+    rest: &[step::Step],
+    child: u32,
+    before: u32,
+    found: &mut Found,
+) -> bool
+    ensures matched { result ≡ matches (test_seen step.now.test) (name_at (place_numbered child page.now) page.now) }
+    ensures noted { place_found page.now found.new ≡ fold note (place_found page.now found.old) (if matches (test_seen step.now.test) (name_at (place_numbered child page.now) page.now) && is_nth step.now.index before then places_below page.now (steps_seen rest.now) (place_numbered child page.now) else []) }
+{
+    if !step.matches(page.name_of(child)) {
+        return false;
+    }
+    if step.picks(before) {
+        visit(page, rest, child, found);
+    }
+    true
 }

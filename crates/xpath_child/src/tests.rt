@@ -1,4 +1,4 @@
-use crate::{Path, PathFault, Target};
+use crate::{Found, Path, PathFault, Target};
 use page_tree::{NoMemory, Page, Place};
 use serde_json::Value;
 use std::alloc::Global;
@@ -116,18 +116,42 @@ fn selected(alloc: Global, page: &Page, text: &str) -> Result<String, Fail> {
 fn selects_none_one_or_several(rt: HostRuntime) -> Result<(), Fail> {
     let alloc = rt.alloc();
     let page = Page::from_value(alloc, &Value::from_str(alloc, TWO_LINKS)?)?;
-    for (text, want) in [
-        ("/html/body/div[2]/a", "one [0, 2, 0]"),
-        ("/html/body/*[2]", "one [0, 1]"),
-        ("/html/body/div/a", "several"),
-        ("/html/body/div[3]", "missing"),
-        ("/html[1]", "one []"),
-        ("/html[2]", "missing"),
-        ("/html/body/p", "one [0, 1]"),
-        ("/html/body/p[1]", "one [0, 1]"),
-        ("/html/body/p/*", "missing"),
-        ("/body", "missing"),
+    for (text, number, want) in [
+        ("/html/body/div[2]/a", Found::One(7), "one [0, 2, 0]"),
+        ("/html/body/*[2]", Found::One(5), "one [0, 1]"),
+        ("/html/body/div/a", Found::Several, "several"),
+        ("/html/body/div[3]", Found::Missing, "missing"),
+        ("/html[1]", Found::One(0), "one []"),
+        ("/html[2]", Found::Missing, "missing"),
+        ("/html/body/p", Found::One(5), "one [0, 1]"),
+        ("/html/body/p[1]", Found::One(5), "one [0, 1]"),
+        ("/html/body/p/*", Found::Missing, "missing"),
+        ("/body", Found::Missing, "missing"),
     ] {
+        let found = Path::read(alloc, text)?.find(&page);
+        assert_eq!(rt; found, number, "number of {text}");
+        let target = selected(alloc, &page, text)?;
+        assert_eq!(rt; target.as_str(), want, "target of {text}");
+    }
+    Ok(())
+}
+
+#[test]
+fn selects_among_4096_nodes(rt: HostRuntime) -> Result<(), Fail> {
+    let alloc = rt.alloc();
+    let mut text = String::from_str(alloc, r#"{"n":"a","c":["#)?;
+    text.push_str(repeated(alloc, r#"{"n":"a"},"#, 4094)?.as_str())?;
+    text.push_str(r#"{"n":"a"}]}"#)?;
+    let page = Page::from_value(alloc, &Value::from_str(alloc, text.as_str())?)?;
+    assert_eq!(rt; page.node_count(), 4096);
+    for (text, number, want) in [
+        ("/a", Found::One(0), "one []"),
+        ("/a/a[4095]", Found::One(4095), "one [4094]"),
+        ("/a/a[4096]", Found::Missing, "missing"),
+        ("/a/*", Found::Several, "several"),
+    ] {
+        let found = Path::read(alloc, text)?.find(&page);
+        assert_eq!(rt; found, number, "number of {text}");
         let target = selected(alloc, &page, text)?;
         assert_eq!(rt; target.as_str(), want, "target of {text}");
     }

@@ -1,16 +1,14 @@
--- The course of the two walks in the code: the tree or the first fault, with the number of nodes up to there. `proofs/ValueLaws` and `TreeLaws` tie
--- them to the first fault in document order, and to the tree that a value stands for.
-use Rattle.std.specs.Prelude.{ℕ, zero, suc, ◌-◌, List, [], ◌∷◌, map, if◌then◌else◌, nat_lt, Option, Some, None, ok_or, option_and_then, Result, Ok, Err, Vec}
-use Rattle.std.specs.declared.alloc.Global.{Global}
+-- The course of the two walks in the code. Over a value: the tree whose table is made, with the number of nodes, or the first fault; over a tree: that
+-- number, or the fault. `proofs/ValueLaws` and `TreeLaws` tie them to the first fault in document order, and to the tree that a value stands for.
+use Rattle.std.specs.Prelude.{ℕ, zero, suc, ◌-◌, List, [], ◌∷◌, if◌then◌else◌, nat_lt, Option, Some, None, ok_or, option_and_then, Result, Ok, Err}
 use Rattle.serde_json.specs.Data.{Data, string, object, Items, no_items, item}
 use Rattle.serde_json.specs.Find.{as_object}
 use Rattle.page_tree.specs.Name.{is_name}
 use Rattle.page_tree.specs.Tree.{Attribute, Tree, element, words, Trees, no_trees, tree}
-use Rattle.page_tree.specs.Seen.{trees_of, seen}
+use Rattle.page_tree.specs.Seen.{trees_of}
 use Rattle.page_tree.specs.Limits.{max_depth, max_nodes, names_of, is_ascending}
 use Rattle.page_tree.specs.Value.{name_in, attributes_in, children_in}
 use Rattle.page_tree.specs.FirstFault.{◌>>=◌}
-use Rattle.page_tree.specs.declared.tree.Tree as code
 use Rattle.page_tree.specs.declared.fault.PageFault.{PageFault}
 use Rattle.page_tree.specs.declared.fault.PageFault.TheVariants.{NotAnElement, BadName, BadAttribute, BadChildren, TooDeep, TooMany}
 
@@ -82,11 +80,3 @@ abbrev mutual
 abbrev pub inspect_page : Tree → Result ℕ PageFault
 inspect_page (words text) = Err NotAnElement
 inspect_page (element name attributes children) = inspect max_depth 0 (element name attributes children)
-
--- ---- what the code gives: a tree, or trees, beside the number of nodes up to there
-
-abbrev pub seen_and_count : code.Tree × ℕ → Tree × ℕ
-seen_and_count r = (seen r.0, r.1)
-
-abbrev pub all_seen_and_count : Vec code.Tree Global × ℕ → List Tree × ℕ
-all_seen_and_count r = (map seen r.0.items, r.1)

@@ -1,25 +1,43 @@
--- One event of a visit that is replayed: its place, or why it has none, and what it does to the kept fields and to the requests so far.
-use Rattle.std.specs.Prelude.{ℕ, ◌≡◌, List, [], ◌∷◌, ◌++◌, Option, Some, None}
+-- One event of a visit that is replayed: its nodes, or why it has none, and what it does to the kept fields and to the requests so far.
+use Rattle.std.specs.Prelude.{ℕ, ◌≡◌, ◌<◌, List, [], ◌∷◌, ◌++◌, Option, Some, None, IfSome, option_map}
 use Rattle.std.specs.List.{cons_option}
 use Rattle.page_tree.specs.Tree.{Tree}
+use Rattle.page_tree.specs.Limits.{nodes}
+use Rattle.page_tree.specs.Number.{place_numbered}
+use Rattle.xpath_child.specs.Path.{Step}
 use Rattle.xpath_child.specs.Targets.{target_in}
-use Rattle.xpath_child.specs.declared.target.Target.TheVariants.{One}
+use Rattle.xpath_child.specs.declared.path.Target.TheVariants.{One}
 use Rattle.upload_reader.specs.declared.message.Event.{Event}
+use Rattle.upload_reader.specs.declared.message.Event.TheVariants.{Submit}
 use Rattle.client_log.specs.declared.visit.Visit.{Visit}
 use Rattle.visit_replay.specs.Conflict.{path_of, conflict}
+use Rattle.visit_replay.specs.Form.{button_of}
 use Rattle.visit_replay.specs.Requests.{event_request, requests_before}
 use Rattle.visit_replay.specs.Outcome.{all_requests}
 use Rattle.visit_replay.specs.inside.KeptFields.{Keeps}
 use Rattle.visit_replay.specs.declared.outcome.ConflictKind.{ConflictKind}
-use Rattle.visit_replay.specs.declared.outcome.Request.{Request}
+use Rattle.visit_replay.specs.declared.requests.Request.{Request}
 use Rattle.visit_replay.specs.declared.fields.Fields.{Fields}
-use Rattle.visit_replay.specs.declared.conflicts.Found.{Found}
-use Rattle.visit_replay.specs.declared.conflicts.Found.TheVariants.{Bad, At}
+use Rattle.visit_replay.specs.declared.conflicts.Located.{Located}
+use Rattle.visit_replay.specs.declared.conflicts.Located.TheVariants.{Bad, At}
 
--- its place, or why it has none
-abbrev pub FindsPlace : Tree → Tree → Event → Found → Type 0
-FindsPlace old new event (Bad kind) = conflict old new event ≡ Some kind
-FindsPlace old new event (At place) = (conflict old new event ≡ None) × (target_in (path_of event) new ≡ One place)
+-- the number is that of its target
+abbrev pub IsTargetOf : Tree → Event → ℕ → Type 0
+IsTargetOf new event number = (number < nodes new) × (target_in (path_of event) new ≡ One (place_numbered number new))
+
+-- the path of the button that was pressed
+abbrev pub by_of : Event → Option (List Step)
+by_of (Submit at target by req) = by
+by_of other = None
+
+-- the number is that of the pressed button, where its path selects one place
+abbrev pub IsButton : Tree → Option (List Step) → Option ℕ → Type 0
+IsButton new by button = IfSome button (λ n. n < nodes new) × (option_map (λ n. place_numbered n new) button ≡ button_of new by)
+
+-- the numbers of its target and of the pressed button, or why it can't be replayed
+abbrev pub Locates : Tree → Tree → Event → Located → Type 0
+Locates old new event (Bad kind) = conflict old new event ≡ Some kind
+Locates old new event (At target button) = (conflict old new event ≡ None) × IsTargetOf new event target × IsButton new (by_of event) button
 
 -- ---- what it does
 

@@ -1,8 +1,8 @@
 -- The search for a target in the code: what it has found so far, and which children it need not look at.
 use Rattle.std.specs.Prelude.{ℕ, List, Bool, false, nat_le, Option}
 use Rattle.std.specs.Option.{option_map_or}
-use Rattle.xpath_child.specs.declared.target.Target.{Target}
-use Rattle.xpath_child.specs.declared.target.Target.TheVariants.{Missing, One, Several}
+use Rattle.xpath_child.specs.declared.path.Target.{Target}
+use Rattle.xpath_child.specs.declared.path.Target.TheVariants.{Missing, One, Several}
 
 -- a target and one place more
 abbrev pub note : Target → List ℕ → Target

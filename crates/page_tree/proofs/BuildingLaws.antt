@@ -1,0 +1,140 @@
+-- The making of a table: what one child more does to what is kept of its siblings, and to the table.
+use Rattle.std.proofs.Common.{◌≡◌, ℕ, zero, suc, ◌+◌, ◌<◌, ◌≤◌, List, [], ◌∷◌, ◌++◌, length, get_or, drop, Bool, true, false, cond, if◌then◌else◌, Some, unwrap_or, nat_cmp, bytes_eq, Bor, Vec, rules, refl, sym, ◌∙◌, ap, arith, length-append, append_assoc}
+use Rattle.std.specs.BTreeMap.{BTreeMap, get_by}
+use Rattle.std.specs.Cmp.Lexicographic.{slice_cmp}
+use Rattle.std.proofs.lemmas.Slice.Eq.{bytes_eq-Decides}
+use Rattle.page_tree.specs.Tree.{Attribute, Tree, element, Trees, no_trees, tree}
+use Rattle.page_tree.specs.Limits.{nodes, nodes_of_all, max_nodes}
+use Rattle.page_tree.specs.Look.{count}
+use Rattle.page_tree.specs.Number.{count_of}
+use Rattle.page_tree.specs.inside.Table.{Line, lines_of, lines_from}
+use Rattle.page_tree.specs.inside.Rows.{line_on, ended}
+use Rattle.page_tree.specs.inside.Building.{name_count, CountsOneMore, Passed, IsSpot}
+use Rattle.page_tree.specs.declared.siblings.Siblings.{Siblings}
+use Rattle.page_tree.specs.declared.table.Spot.{Spot}
+use Rattle.page_tree.specs.declared.tree.Tree as code
+use Rattle.std.specs.declared.alloc.Global.{Global}
+use Rattle.page_tree.specs.Seen.{seen, all_seen}
+use Rattle.page_tree.proofs.Counting.{nodes-positive}
+use Rattle.page_tree.proofs.TableLaws.{lines-length, lines_from-length}
+
+-- ---- siblings
+
+-- a name was put with one more than its count
+pub counted : (name : List ℕ) (old new : BTreeMap (Bor (List ℕ)) ℕ) (before : ℕ) → before ≡ name_count old name
+    → ((other : List ℕ) → get_by (λ k. slice_cmp nat_cmp other k.now) new ≡ cond (bytes_eq name other) (Some (before + 1)) (get_by (λ k. slice_cmp nat_cmp other k.now) old))
+    → CountsOneMore name old new
+counted name old new before is put other = ap (λ o. unwrap_or o 0) (put other) ∙ by (bytes_eq name other) (bytes_eq-Decides name other).0
+  where
+    by : (b : Bool) → (b ≡ true → name ≡ other)
+        → unwrap_or (cond b (Some (before + 1)) (get_by (λ k. slice_cmp nat_cmp other k.now) old)) 0 ≡ (if b then suc (name_count old other) else name_count old other)
+    by true same =
+        let there : before ≡ name_count old other = is ∙ ap (name_count old) (same refl) in
+        omega (arith, there)
+    by false same = refl
+
+if_more : (b : Bool) (m n : ℕ) → m ≤ n → (if b then suc m else m) ≤ suc n
+if_more true m n less = omega (arith, less)
+if_more false m n less = omega (arith, less)
+
+pub count_of-count : (test : Tree → Bool) (ts : Trees) → count_of test ts ≤ count ts
+count_of-count test no_trees = omega arith
+count_of-count test (tree t ts) = if_more (test t) (count_of test ts) (count ts) (count_of-count test ts)
+
+-- ---- a node
+
+pub seen-Element : (name : List ℕ) (attributes : List Attribute) (children : Vec code.Tree Global)
+    → seen (code.Element name attributes children) ≡ element name attributes (all_seen children.items)
+seen-Element name attributes children = search (rules, code.the_lemmas)
+
+abbrev with_end : ℕ → Line → Line
+with_end end l = record {
+  node = l.node;
+  parent = l.parent;
+  end = end;
+  position = l.position;
+  elements_before = l.elements_before;
+  same_before = l.same_before;
+  children = l.children;
+}
+
+ended_at : (xs ys : List Line) (l : Line) (end : ℕ) → ended (length xs) end (xs ++ l ∷ ys) ≡ xs ++ with_end end l ∷ ys
+ended_at [] ys l end = refl
+ended_at (x ∷ xs) ys l end = ap (λ ls. x ∷ ls) (ended_at xs ys l end)
+
+element_lines : (name : List ℕ) (attributes : List Attribute) (children before : Trees) (spot : Spot) (at end : ℕ) → end ≡ suc at + nodes_of_all children
+    → IsSpot spot before (element name attributes children)
+    → with_end end (line_on (element name attributes no_trees) spot 0 (count children)) ∷ lines_from at no_trees (suc at) children
+    ≡ lines_of spot.parent before at (element name attributes children)
+element_lines name attributes children before spot at end is s = rw (is, s.position, s.elements, s.same) refl
+
+-- the row of an element, then those under it, then its end
+pub element_built : {t : Tree} (name : List ℕ) (attributes : List Attribute) (children : Trees) (spot : Spot) (many number : ℕ) (old pushed all : List Line)
+    → t ≡ element name attributes children → many ≡ count children → number ≡ length old
+    → pushed ≡ old ++ line_on (element name attributes no_trees) spot 0 many ∷ []
+    → all ≡ pushed ++ lines_from number no_trees (length pushed) children
+    → (before : Trees) → IsSpot spot before t
+    → ended number (length all) all ≡ old ++ lines_of spot.parent before (length old) t
+element_built {t} name attributes children spot many number old pushed all is counts at push add before s =
+    let line = line_on (element name attributes no_trees) spot 0 (count children) in
+    let under = lines_from (length old) no_trees (suc (length old)) children in
+    let row : pushed ≡ old ++ line ∷ [] = rw counts at push in
+    let size : length pushed ≡ suc (length old) = ap length row ∙ omega (arith, length-append old (line ∷ [])) in
+    let whole : all ≡ old ++ line ∷ under = (rw (at, size) at add) ∙ ap (λ ls. ls ++ under) row ∙ append_assoc old (line ∷ []) under in
+    let end : length all ≡ suc (length old) + nodes_of_all children =
+    ap length whole ∙ omega (arith, length-append old (line ∷ under), lines_from-length (length old) no_trees (suc (length old)) children) in
+    let stands : IsSpot spot before (element name attributes children) = rw is at s in
+    ap (λ n. ended n (length all) all) at
+    ∙ ap (ended (length old) (length all)) whole
+    ∙ ended_at old under line (length all)
+    ∙ ap (λ ls. old ++ ls) (element_lines name attributes children before spot (length old) (length all) end stands)
+    ∙ ap (λ u. old ++ lines_of spot.parent before (length old) u) (sym is)
+
+-- how many lines there are then
+pub element_size : (name : List ℕ) (attributes : List Attribute) (children : Trees) (spot : Spot) (many number : ℕ) (old pushed all : List Line)
+    → pushed ≡ old ++ line_on (element name attributes no_trees) spot 0 many ∷ []
+    → all ≡ pushed ++ lines_from number no_trees (length pushed) children
+    → length all ≡ length old + nodes (element name attributes children)
+element_size name attributes children spot many number old pushed all push add =
+    let line = line_on (element name attributes no_trees) spot 0 many in
+    let under = lines_from number no_trees (length pushed) children in
+    omega (arith, ap length push, ap length add, length-append old (line ∷ []), length-append pushed under, lines_from-length number no_trees (length pushed) children)
+
+-- ---- children
+
+pub seen_next : (ts : List code.Tree) (i : ℕ) (t : code.Tree) → i < length ts → t ≡ get_or ts i t → all_seen (drop i ts) ≡ tree (seen t) (all_seen (drop (i + 1) ts))
+seen_next [] i t less is = absurd (omega (arith, less))
+seen_next (u ∷ us) zero t less is = ap (λ v. tree (seen v) (all_seen us)) (sym is)
+seen_next (u ∷ us) (suc i) t less is =
+    let on : suc i + 1 ≡ suc (i + 1) = omega arith in
+    rw on (seen_next us i t (omega (arith, less)) is)
+
+-- some children were added to a table, and those are still to come
+pub record Adding (old table : List Line) (parent : ℕ) (siblings : Siblings) (children rest : Trees) : Type 0 where
+  pub before : Trees
+  pub passed : Passed before siblings
+  pub behind : count before ≤ length table
+  pub few : length table + nodes_of_all rest ≤ max_nodes
+  pub lines : table ++ lines_from parent before (length table) rest ≡ old ++ lines_from parent no_trees (length old) children
+
+pub adding_next : (old table more : List Line) (parent : ℕ) (siblings next : Siblings) (children rest : Trees) (t : Tree) (spot : Spot)
+    → spot.parent ≡ parent
+    → ((before : Trees) → Passed before siblings → IsSpot spot before t)
+    → ((before : Trees) → Passed before siblings → Passed (tree t before) next)
+    → ((before : Trees) → IsSpot spot before t → more ≡ table ++ lines_of spot.parent before (length table) t)
+    → Adding old table parent siblings children (tree t rest) → Adding old more parent next children rest
+adding_next old table more parent siblings next children rest t spot up stands passes added a =
+    let here : more ≡ table ++ lines_of parent a.before (length table) t =
+    rw up at (added a.before (stands a.before a.passed)) in
+    let many : length more ≡ length table + nodes t =
+    ap length here ∙ omega (arith, length-append table (lines_of parent a.before (length table) t), lines-length parent a.before (length table) t) in
+    record {
+      before = tree t a.before;
+      passed = passes a.before a.passed;
+      behind = omega (arith, a.behind, many, nodes-positive t);
+      few = omega (arith, a.few, many);
+      lines =
+          rw many (ap (λ ls. ls ++ lines_from parent (tree t a.before) (length table + nodes t) rest) here)
+          ∙ append_assoc table (lines_of parent a.before (length table) t) (lines_from parent (tree t a.before) (length table + nodes t) rest)
+          ∙ a.lines;
+    }

@@ -1,0 +1,35 @@
+-- What the code keeps of the children that it passed while it makes a table, and where it says that the next one stands.
+use Rattle.std.specs.Prelude.{ℕ, suc, ◌≡◌, List, if◌then◌else◌, unwrap_or}
+use Rattle.std.specs.BTreeMap.{BTreeMap, get_by}
+use Rattle.std.specs.Cmp.Lexicographic.{slice_cmp}
+use Rattle.std.specs.Option.{option_map_or}
+use Rattle.std.specs.Ordering.{nat_cmp}
+use Rattle.std.specs.Str.{bytes_eq}
+use denote.Ref.{Bor}
+use Rattle.page_tree.specs.Tree.{Tree, Trees}
+use Rattle.page_tree.specs.Limits.{is_element}
+use Rattle.page_tree.specs.Look.{name_of, count}
+use Rattle.page_tree.specs.Number.{count_of, is_named}
+use Rattle.page_tree.specs.inside.Table.{same_name_before}
+use Rattle.page_tree.specs.declared.siblings.Siblings.{Siblings}
+use Rattle.page_tree.specs.declared.table.Spot.{Spot}
+
+-- how often that name was counted
+abbrev pub name_count : BTreeMap (Bor (List ℕ)) ℕ → List ℕ → ℕ
+name_count names name = unwrap_or (get_by (λ k. slice_cmp nat_cmp name k.now) names) 0
+
+-- that name was counted once more, and no other one
+abbrev pub CountsOneMore : List ℕ → BTreeMap (Bor (List ℕ)) ℕ → BTreeMap (Bor (List ℕ)) ℕ → Type 0
+CountsOneMore name old new = (other : List ℕ) → name_count new other ≡ (if bytes_eq name other then suc (name_count old other) else name_count old other)
+
+-- the counts are those of the trees before, the nearest first
+pub record Passed (before : Trees) (siblings : Siblings) : Type 0 where
+  pub count : siblings.count ≡ count before
+  pub elements : siblings.elements ≡ count_of is_element before
+  pub names : (name : List ℕ) → name_count siblings.names name ≡ count_of (is_named name) before
+
+-- a node behind these siblings, the nearest first, stands there
+pub record IsSpot (spot : Spot) (before : Trees) (t : Tree) : Type 0 where
+  pub position : spot.position ≡ count before
+  pub elements : spot.elements_before ≡ option_map_or (λ _. count_of is_element before) (name_of t) 0
+  pub same : spot.same_before ≡ same_name_before before t

@@ -1,0 +1,77 @@
+//! The table of a tree.
+
+ghost use Rattle.std.specs.Prelude.{◌≡◌, ◌+◌, ◌≤◌, ◌++◌, IfOk, OnOk, length};
+ghost use Rattle.page_tree.specs.Tree.{Trees, no_trees};
+ghost use Rattle.page_tree.specs.Limits.{nodes, nodes_of_all, max_nodes};
+ghost use Rattle.page_tree.specs.Seen.{seen, all_seen};
+ghost use Rattle.page_tree.specs.inside.Table.{lines, lines_of, lines_from};
+ghost use Rattle.page_tree.specs.inside.Building.{IsSpot};
+
+use crate::memory::NoMemory;
+use crate::siblings::Siblings;
+use crate::table::{Spot, Table};
+use crate::tree::Tree;
+use std::alloc::Global;
+
+/// The table of a tree that has not too many nodes.
+pub(crate) fn table_of(alloc: Global, root: &Tree) -> Result<Table, NoMemory>
+    requires { nodes (seen root.now) ≤ max_nodes }
+    ensures { IfOk result (λ table. table ≡ lines (seen root.now)) }
+{
+    let mut table = Table::new(alloc);
+    let spot = Spot {
+        parent: 0,
+        position: 0,
+        elements_before: 0,
+        same_before: 0,
+    };
+    add_node(&mut table, root, spot)?;
+    Ok(table)
+}
+
+// Adds a node that stands there, and those under it.
+#[cycle(building)]
+fn add_node(table: &mut Table, tree: &Tree, spot: Spot) -> Result<(), NoMemory>
+    requires few { length table.old + nodes (seen tree.now) ≤ max_nodes }
+    ensures { OnOk result ((before : Trees) → IsSpot spot before (seen tree.now)
+        → table.new ≡ table.old ++ lines_of spot.parent before (length table.old) (seen tree.now)) }
+{
+    match tree {
+        Tree::Words(text) => table.push_words(spot, text.as_str())?,
+        Tree::Element {
+            name,
+            attributes,
+            children,
+        } => {
+            let number = table.len() as u16;
+            table.push_element(
+                spot,
+                name.as_str(),
+                attributes.as_slice(),
+                children.as_slice().len() as u16,
+            )?;
+            add_children(*children.allocator(), table, children.as_slice(), number)?;
+            table.end(number);
+        }
+    }
+    Ok(())
+}
+
+// Adds the children of the node of that number, and those under them.
+#[cycle(building)]
+fn add_children(
+    alloc: Global,
+    table: &mut Table,
+    children: &[Tree],
+    parent: u16,
+) -> Result<(), NoMemory>
+    requires few { length table.old + nodes_of_all (all_seen children.now) ≤ max_nodes }
+    ensures { OnOk result (table.new ≡ table.old ++ lines_from parent no_trees (length table.old) (all_seen children.now)) }
+{
+    let mut siblings = Siblings::new(alloc);
+    for child in children {
+        let spot = siblings.pass(parent, child.name())?;
+        add_node(table, child, spot)?;
+    }
+    Ok(())
+}

@@ -1,0 +1,393 @@
+//! The table that a page is kept as.
+ghost use Rattle.std.specs.Prelude.{◌≡◌, ◌↔◌, IsTrue, IfOk, ◌<◌, ◌+◌, ◌*◌, ◌^◌, suc, [], ◌∷◌, ◌++◌, OnOk, get_or, length, true, option_map};
+ghost use Rattle.page_tree.specs.Tree.{element, words, no_trees};
+ghost use Rattle.page_tree.specs.Look.{name_of, attributes_of, value_of};
+ghost use Rattle.page_tree.specs.Limits.{names_of, is_ascending};
+ghost use Rattle.page_tree.specs.inside.Rows.{line_in, line_on, words_of, ended, texts_of_attributes, attributes_from, StartsWith};
+ghost use Rattle.page_tree.specs.inside.Rows.{node_of_row, numbers_of, IsWithin};
+
+use crate::memory::NoMemory;
+use crate::text::Text;
+use crate::texts::Texts;
+use std::alloc::{AllocError, Global};
+use std::cmp::Ordering;
+use std::marker::Model;
+
+/// What is kept of a node.
+#[derive(Debug, Clone, Copy)]
+pub(crate) struct Row {
+    is_element: bool,
+    parent: u16,
+    end: u16,
+    position: u16,
+    elements_before: u16,
+    same_before: u16,
+    children: u16,
+    // the number of its name, or of its text; those of its attributes' names and values stand behind it
+    text: u32,
+    attributes: u32,
+}
+
+/// Where a node stands among its siblings.
+#[derive(Debug, Clone, Copy)]
+pub(crate) struct Spot {
+    /// The number of its parent; 0 for the root.
+    pub(crate) parent: u16,
+    /// How many siblings stand before it, how many of them are elements, and how many of these have its name; the last two are 0 for a text.
+    pub(crate) position: u16,
+    pub(crate) elements_before: u16,
+    pub(crate) same_before: u16,
+}
+
+/// The nodes of a page in document order, each with what it is without its children. Contracts see their lines.
+#[derive(Debug, Drop)]
+pub(crate) struct Table {
+    texts: Texts,
+    rows: Vec<Row>,
+}
+
+impl Model for Table {
+    ghost use Rattle.std.specs.Prelude.{List, length};
+    ghost use Rattle.page_tree.specs.inside.Table.{Line};
+    ghost use Rattle.page_tree.specs.inside.Rows.{lines_of_rows, AreWithin, lines_code};
+
+    ghost Value = { List Line };
+
+    ghost coded = { lines_code };
+
+    ghost view = { λ t. lines_of_rows t.texts t.rows.items };
+
+    ghost invariant = { λ t. AreWithin (length t.texts) t.rows.items };
+}
+
+impl Table {
+    /// It takes no memory.
+    pub(crate) fn new(alloc: Global) -> Table
+        ensures { result ≡ [] }
+    {
+        Table {
+            texts: Texts::new(alloc),
+            rows: Vec::new(alloc),
+        }
+    }
+
+    pub(crate) fn len(&self) -> usize
+        ensures { result ≡ length self.now }
+    {
+        self.rows.as_slice().len()
+    }
+
+    pub(crate) fn allocator(&self) -> Global {
+        *self.rows.allocator()
+    }
+
+    // ---- looks
+
+    pub(crate) fn parent(&self, number: usize) -> u32
+        requires { number < length self.now }
+        ensures { result ≡ (line_in number self.now).parent }
+    {
+        self.rows[number].parent as u32
+    }
+
+    /// The number behind those of the nodes under it.
+    pub(crate) fn end_of(&self, number: usize) -> u32
+        requires { number < length self.now }
+        ensures { result ≡ (line_in number self.now).end }
+    {
+        self.rows[number].end as u32
+    }
+
+    pub(crate) fn position(&self, number: usize) -> u32
+        requires { number < length self.now }
+        ensures { result ≡ (line_in number self.now).position }
+    {
+        self.rows[number].position as u32
+    }
+
+    pub(crate) fn elements_before(&self, number: usize) -> u32
+        requires { number < length self.now }
+        ensures { result ≡ (line_in number self.now).elements_before }
+    {
+        self.rows[number].elements_before as u32
+    }
+
+    pub(crate) fn same_before(&self, number: usize) -> u32
+        requires { number < length self.now }
+        ensures { result ≡ (line_in number self.now).same_before }
+    {
+        self.rows[number].same_before as u32
+    }
+
+    /// How many children it has.
+    pub(crate) fn children(&self, number: usize) -> u32
+        requires { number < length self.now }
+        ensures { result ≡ (line_in number self.now).children }
+    {
+        self.rows[number].children as u32
+    }
+
+    pub(crate) fn name(&self, number: usize) -> Option<&str>
+        requires { number < length self.now }
+        ensures { option_map (λ name. name.now) result ≡ name_of (line_in number self.now).node }
+    {
+        let row = self.rows[number];
+        if row.is_element {
+            Some(self.texts.get(row.text as usize))
+        } else {
+            None
+        }
+    }
+
+    /// What a text says; None for an element.
+    pub(crate) fn words(&self, number: usize) -> Option<&str>
+        requires { number < length self.now }
+        ensures { option_map (λ text. text.now) result ≡ words_of (line_in number self.now).node }
+    {
+        let row = self.rows[number];
+        if row.is_element {
+            None
+        } else {
+            Some(self.texts.get(row.text as usize))
+        }
+    }
+
+    /// The value of the attribute of that name, where the names ascend. The time is logarithmic in the number of attributes.
+    pub(crate) fn attribute(&self, number: usize, name: &str) -> Option<&str>
+        requires there { number < length self.now }
+        requires ascending { is_ascending (names_of (attributes_of (line_in number self.now).node)) ≡ true }
+        ensures { option_map (λ value. value.now) result ≡ value_of name.now (attributes_of (line_in number self.now).node) }
+    {
+        let row = self.rows[number];
+        if row.is_element {
+            value_among(
+                &self.texts,
+                row.text as usize,
+                row.attributes as usize,
+                name,
+            )
+        } else {
+            None
+        }
+    }
+
+    // ---- comparing
+
+    /// Whether the two tables have the same lines. It takes no memory.
+    pub(crate) fn same(&self, other: &Table) -> bool
+        ensures { IsTrue result ↔ (self.now ≡ other.now) }
+    {
+        if self.len() != other.len() {
+            return false;
+        }
+        for number in 0..self.len() {
+            if !self.same_line(other, number) {
+                return false;
+            }
+        }
+        true
+    }
+
+    fn same_line(&self, other: &Table, number: usize) -> bool
+        requires there { number < length self.now }
+        requires other_there { number < length other.now }
+        ensures { IsTrue result ↔ (line_in number self.now ≡ line_in number other.now) }
+    {
+        let row = self.rows[number];
+        let other_row = other.rows[number];
+        same_numbers(row, other_row) && same_node(&self.texts, row, &other.texts, other_row)
+    }
+
+    // ---- building
+
+    /// Adds a text.
+    pub(crate) fn push_words(&mut self, spot: Spot, text: &str) -> Result<(), NoMemory>
+        requires { suc (length self.old) < 2 ^ 16 }
+        ensures { OnOk result (self.new ≡ self.old ++ line_on (words text.now) spot (suc (length self.old)) 0 ∷ []) }
+    {
+        let text_number = few(self.texts.len())?;
+        let number = self.rows.as_slice().len();
+        self.texts.push(text)?;
+        self.rows.push(Row {
+            is_element: false,
+            parent: spot.parent,
+            end: number as u16 + 1,
+            position: spot.position,
+            elements_before: spot.elements_before,
+            same_before: spot.same_before,
+            children: 0,
+            text: text_number,
+            attributes: 0,
+        })?;
+        Ok(())
+    }
+
+    /// Adds an element without its children; where those under it end is told later, by `end`.
+    pub(crate) fn push_element(
+        &mut self,
+        spot: Spot,
+        name: &str,
+        attributes: &[(Text, Text)],
+        children: u16,
+    ) -> Result<(), NoMemory>
+        ensures { OnOk result (self.new ≡ self.old ++ line_on (element name.now attributes.now no_trees) spot 0 children ∷ []) }
+    {
+        let number = few(self.texts.len())?;
+        let attribute_count = few(attributes.len())?;
+        self.texts.push(name)?;
+        push_attributes(&mut self.texts, attributes)?;
+        self.rows.push(Row {
+            is_element: true,
+            parent: spot.parent,
+            end: 0,
+            position: spot.position,
+            elements_before: spot.elements_before,
+            same_before: spot.same_before,
+            children,
+            text: number,
+            attributes: attribute_count,
+        })?;
+        Ok(())
+    }
+
+    /// Gives back room that isn't used, where nothing more is added.
+    pub(crate) fn shrink(&mut self)
+        ensures { self.new ≡ self.old }
+    {
+        self.texts.shrink();
+        self.rows.shrink_to_fit();
+    }
+
+    /// Tells that all nodes under that one were added.
+    pub(crate) fn end(&mut self, number: u16)
+        requires there { number < length self.old }
+        requires few { length self.old < 2 ^ 16 }
+        ensures { self.new ≡ ended number (length self.old) self.old }
+    {
+        let end = self.len() as u16;
+        self.rows[number as usize].end = end;
+    }
+}
+
+// A count of texts or of bytes that fits 32 bits; a greater one is refused as want of memory.
+pub(crate) fn few(count: usize) -> Result<u32, NoMemory>
+    ensures { IfOk result (λ few. few ≡ count) }
+{
+    match u32::try_from(count) {
+        Ok(few) => Ok(few),
+        Err(_) => Err(AllocError),
+    }
+}
+
+// the value of that name among so many attributes, whose names and values are the texts behind that one
+fn value_among<'a>(texts: &'a Texts, before: usize, count: usize, name: &str) -> Option<&'a str>
+    requires within { before + 2 * count < length texts.now }
+    requires ascending { is_ascending (names_of (attributes_from texts.now (suc before) count)) ≡ true }
+    ensures { option_map (λ value. value.now) result ≡ value_of name.now (attributes_from texts.now (suc before) count) }
+{
+    // the sums below are less than that, so they fit
+    let _ = texts.len();
+    let mut before = before;
+    let mut count = count;
+    while count > 0 {
+        let half = count / 2;
+        let middle = before + 2 * half;
+        match texts.get(middle + 1).cmp(name) {
+            Ordering::Equal => return Some(texts.get(middle + 2)),
+            Ordering::Less => {
+                before = middle + 2;
+                count -= half + 1;
+            }
+            Ordering::Greater => count = half,
+        }
+    }
+    None
+}
+
+fn same_numbers(row: Row, other: Row) -> bool
+    ensures { IsTrue result ↔ (numbers_of row ≡ numbers_of other) }
+{
+    row.parent == other.parent
+        && row.end == other.end
+        && row.position == other.position
+        && row.elements_before == other.elements_before
+        && row.same_before == other.same_before
+        && row.children == other.children
+}
+
+fn same_node(texts: &Texts, row: Row, others: &Texts, other: Row) -> bool
+    requires within { IsWithin (length texts.now) row }
+    requires other_within { IsWithin (length others.now) other }
+    ensures { IsTrue result ↔ (node_of_row texts.now row ≡ node_of_row others.now other) }
+{
+    if row.is_element != other.is_element {
+        return false;
+    }
+    if !same_text(texts, row.text as usize, others, other.text as usize) {
+        return false;
+    }
+    if !row.is_element {
+        return true;
+    }
+    if row.attributes != other.attributes {
+        return false;
+    }
+    same_attributes(
+        texts,
+        row.text as usize,
+        others,
+        other.text as usize,
+        row.attributes as usize,
+    )
+}
+
+// whether so many attributes are the same, whose names and values are the texts behind those
+fn same_attributes(
+    texts: &Texts,
+    before: usize,
+    others: &Texts,
+    other_before: usize,
+    count: usize,
+) -> bool
+    requires within { before + 2 * count < length texts.now }
+    requires other_within { other_before + 2 * count < length others.now }
+    ensures { IsTrue result ↔ (attributes_from texts.now (suc before) count ≡ attributes_from others.now (suc other_before) count) }
+{
+    // the sums below are less than those, so they fit
+    let _ = texts.len();
+    let _ = others.len();
+    let mut before = before;
+    let mut other_before = other_before;
+    let mut count = count;
+    while count > 0 {
+        if !same_text(texts, before + 1, others, other_before + 1) {
+            return false;
+        }
+        if !same_text(texts, before + 2, others, other_before + 2) {
+            return false;
+        }
+        before += 2;
+        other_before += 2;
+        count -= 1;
+    }
+    true
+}
+
+fn same_text(texts: &Texts, number: usize, others: &Texts, other: usize) -> bool
+    requires there { number < length texts.now }
+    requires other_there { other < length others.now }
+    ensures { IsTrue result ↔ (get_or texts.now number [] ≡ get_or others.now other []) }
+{
+    texts.get(number) == others.get(other)
+}
+
+fn push_attributes(texts: &mut Texts, attributes: &[(Text, Text)]) -> Result<(), NoMemory>
+    ensures ok { OnOk result (texts.new ≡ texts.old ++ texts_of_attributes attributes.now) }
+    ensures kept { StartsWith texts.old texts.new }
+{
+    for (name, value) in attributes {
+        texts.push(name.as_str())?;
+        texts.push(value.as_str())?;
+    }
+    Ok(())
+}

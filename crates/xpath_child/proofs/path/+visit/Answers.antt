@@ -1,0 +1,37 @@
+use Rattle.std.proofs.Common.{arith, add-one, ap, sym, ◌∙◌, inl, inr, [], ◌∷◌, ◌++◌}
+use Rattle.page_tree.specs.Number.{place_numbered}
+use Rattle.xpath_child.specs.Seen.{step_seen, steps_seen}
+use Rattle.xpath_child.specs.Found.{place_found}
+use Rattle.xpath_child.proofs.Steps.{counted, not_counted, noted, settled}
+use Rattle.xpath_child.proofs.path.+visit.Goals as goal
+use Rattle.xpath_child.proofs.path.+visit.Goals.{visit-then-is_several-via-then-is_several, visit-then-is_several-via-else-is_several+then-is_past, visit-then-visit_child, visit-else-visit_child}
+
+pub visit-returns-then-is_several : goal.visit-returns-then-is_several
+visit-returns-then-is_several t c =
+    let page = c.args.page.now in
+    settled page (step_seen c.in-Some.step.now) (steps_seen c.in-Some.rest.now) (steps_seen c.args.steps.now) (place_numbered c.args.at page) (place_found page c.args.found.now) (place_found page c.loop-i.found)
+    c.loop-i.i c.children_of-i-end.result c.loop-i.before (ap steps_seen c.in-Some.ensures.cases.0) c.children_of-i-end.ensures c.loop-i.auto.i-end c.loop-i.invariant.count c.loop-i.invariant.found
+    (elim c.then-is_several.branch [
+      | visit-then-is_several-via-then-is_several w ↦ inl (ap (place_found page) (c.is_several.ensures.0 w.if-is_several.true))
+      | visit-then-is_several-via-else-is_several+then-is_past w ↦ let past = w.is_past.ensures in let yes = w.if-is_past.true in inr cc
+    ])
+
+pub visit-loop-i-preserved : goal.visit-loop-i-preserved
+visit-loop-i-preserved t c =
+    let page = c.args.page.now in
+    let at = place_numbered c.args.at page in
+    let step = step_seen c.in-Some.step.now in
+    let rest = steps_seen c.in-Some.rest.now in
+    let i = c.loop-i.i in
+    let count = c.loop-i.invariant.count in
+    let child = place_numbered c.loop-i.child page in
+    let there = c.loop-i.invariant.child (omega (arith, c.children_of-i-end.ensures)) in
+    let m = c.visit_child.result in
+    let yes = counted page step.test at child i c.loop-i.before m count there c.visit_child.ensures.matched in
+    let no = not_counted page step.test at child i c.loop-i.before m count there c.visit_child.ensures.matched in
+    record {
+      few = elim c.if-visit_child.branch [ visit-then-visit_child w ↦ omega arith | visit-else-visit_child w ↦ omega arith ];
+      count = elim c.if-visit_child.branch [ visit-then-visit_child w ↦ w.before-is ∙ yes w.if-visit_child.true | visit-else-visit_child w ↦ w.before-is ∙ no w.if-visit_child.false ];
+      child = λ more. c.nodes_under-child-in-loop-i.ensures.next at i there (omega (arith, more)) ∙ ap (λ k. at ++ k ∷ []) (sym (add-one i));
+      found = noted page step rest at child i c.loop-i.before (place_found page c.args.found.now) (place_found page c.loop-i.found) (place_found page c.visit_child.new.found) count there c.loop-i.invariant.found c.visit_child.ensures.noted;
+    }

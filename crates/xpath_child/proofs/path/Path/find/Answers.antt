@@ -1,0 +1,24 @@
+use Rattle.std.proofs.Common.{subst, ap, sym, ◌∙◌}
+use Rattle.page_tree.specs.Number.{place_numbered}
+use Rattle.xpath_child.specs.Seen.{step_seen, steps_seen}
+use Rattle.xpath_child.specs.Reaches.{IsTarget}
+use Rattle.xpath_child.specs.Found.{place_found}
+use Rattle.xpath_child.proofs.Steps.{found_target}
+use Rattle.xpath_child.proofs.Places.{target_in-is}
+use Rattle.page_tree.proofs.NodesUnder.{root_numbered}
+use Rattle.xpath_child.proofs.Numbers.{found_inside}
+use Rattle.xpath_child.proofs.path.Path.find.Goals as goal
+
+pub returns-clause-exact : goal.returns-clause-exact
+returns-clause-exact c =
+    let page = c.args.page.now in
+    let path = sym c.self.view_is ∙ ap steps_seen (sym c.as_slice.ensures.value ∙ c.in-Some.ensures.cases.0) in
+    found_target page (step_seen c.in-Some.step.now) (steps_seen c.in-Some.rest.now) c.args.self.now (place_numbered 0 page) (place_found page c.visit_child.new.found) path (root_numbered page) c.visit_child.ensures.noted
+
+pub returns-clause-target : goal.returns-clause-target
+returns-clause-target c =
+    let page = c.args.page.now in
+    subst (IsTarget c.args.self.now page) (sym (returns-clause-exact c)) (target_in-is c.args.self.now page)
+
+pub returns-clause-there : goal.returns-clause-there
+returns-clause-there c = λ number is. found_inside c.args.self.now c.args.page.now _ number is (returns-clause-target c)

@@ -1,0 +1,78 @@
+use Rattle.std.proofs.Common.{◌≡◌, ◌+◌, ◌<◌, [], ◌∷◌, ◌++◌, Ok, length, map, take, drop, arith, ap, sym, ◌∙◌, lit<, refl}
+use Rattle.std.proofs.Math.Seq.{take-length}
+use Rattle.std.proofs.lemmas.Iterator.Splits.{YieldsList-from_str_split}
+use Rattle.std.proofs.lemmas.Iterator.Consumers.{YieldsList-turn, YieldsList-end}
+use Rattle.std.proofs.lemmas.Result.{err_from_is_err_and}
+use Rattle.std.proofs.lemmas.List.{length_push, map-append, at_drop_all}
+use Rattle.xpath_child.specs.Path.{max_steps}
+use Rattle.xpath_child.specs.Seen.{step_seen, steps_seen}
+use Rattle.page_tree.specs.FirstFault.{ok_unless}
+use Rattle.xpath_child.specs.Fault.{is_slash, text_fault, step_in, first_step_fault, written_steps}
+use Rattle.xpath_child.proofs.Faults.{bytes_of, bytes_of-slice_split, too_many, bytes_next, steps_next, own_fault, no_fault, unless_ok, fails_along}
+use Rattle.xpath_child.proofs.step.read_steps.Goals as goal
+
+pub loop-text-init : goal.loop-text-init
+loop-text-init c = record {
+  count = c.new-steps.ensures.len;
+  few = omega arith;
+  steps = ap (map _) c.new-steps.ensures.items;
+  fault = refl;
+  room = omega (arith, bytes_of-slice_split is_slash c.args.rest.now);
+}
+
+pub returns-then-len-eq-MAX_STEPS : goal.returns-then-len-eq-MAX_STEPS
+returns-then-len-eq-MAX_STEPS c =
+    let t = YieldsList-turn (YieldsList-from_str_split 47 c.args.rest.now (lit< tt) (cc) (cc) (cc)) c.loop-text.yielded _ c.loop-text.yielded_by _ _ c.in-Some.text c.in-Some.is c.next.ensures.steps in
+    let all = written_steps c.args.rest.now in
+    rw c.at.ensures (ap (λ f. ok_unless f (map step_in all)) (sym c.loop-text.invariant.fault ∙ too_many all (length c.loop-text.yielded) c.in-Some.text.now t.0 t.1 (c.loop-text.slash + 1) (omega arith)))
+
+pub read_step-requires : goal.read_step-requires
+read_step-requires c =
+    let t = YieldsList-turn (YieldsList-from_str_split 47 c.args.rest.now (lit< tt) (cc) (cc) (cc)) c.loop-text.yielded _ c.loop-text.yielded_by _ _ c.in-Some.text c.in-Some.is c.next.ensures.steps in
+    omega (arith, c.loop-text.invariant.room, bytes_next (written_steps c.args.rest.now) (length c.loop-text.yielded) c.in-Some.text.now t.0 t.1)
+
+pub returns-in_err-read_step : goal.returns-in_err-read_step
+returns-in_err-read_step c =
+    let t = YieldsList-turn (YieldsList-from_str_split 47 c.args.rest.now (lit< tt) (cc) (cc) (cc)) c.loop-text.yielded _ c.loop-text.yielded_by _ _ c.in-Some.text c.in-Some.is c.next.ensures.steps in
+    let all = written_steps c.args.rest.now in
+    let start = c.loop-text.slash + 1 in
+    let few : length c.loop-text.yielded < max_steps = omega arith in
+    let p = err_from_is_err_and c.from_residual.result c.from_residual.ensures.1 in
+    rw (p.1, p.2) (fails_along (text_fault start c.in-Some.text.now) (first_step_fault 0 1 all) (step_in c.in-Some.text.now) (map step_in all) _ _
+    (λ f h. sym c.loop-text.invariant.fault ∙ own_fault all (length c.loop-text.yielded) c.in-Some.text.now t.0 t.1 start few f h) c.in_err-read_step.ensures)
+
+pub overflow_add-slash : goal.overflow_add-slash
+overflow_add-slash c =
+    let t = YieldsList-turn (YieldsList-from_str_split 47 c.args.rest.now (lit< tt) (cc) (cc) (cc)) c.loop-text.yielded _ c.loop-text.yielded_by _ _ c.in-Some.text c.in-Some.is c.next.ensures.steps in
+    omega (arith, c.loop-text.invariant.room, bytes_next (written_steps c.args.rest.now) (length c.loop-text.yielded) c.in-Some.text.now t.0 t.1)
+
+pub loop-text-preserved : goal.loop-text-preserved
+loop-text-preserved c =
+    let t = YieldsList-turn (YieldsList-from_str_split 47 c.args.rest.now (lit< tt) (cc) (cc) (cc)) c.loop-text.yielded _ c.loop-text.yielded_by _ _ c.in-Some.text c.in-Some.is c.next.ensures.steps in
+    let all = written_steps c.args.rest.now in
+    let k = length c.loop-text.yielded in
+    let text = c.in-Some.text.now in
+    let step = step_seen c.in_ok-read_step.field-0 in
+    let start = c.loop-text.slash + 1 in
+    let few : k < max_steps = omega arith in
+    let next : length (c.loop-text.yielded ++ c.in-Some.text ∷ []) ≡ k + 1 = length_push c.loop-text.yielded c.in-Some.text in
+    let read = unless_ok (text_fault start text) (step_in text) step c.in_ok-read_step.ensures in
+    record {
+      count = omega (arith, next, c.in_ok-push.ensures.len);
+      few = omega (arith, next);
+      steps =
+          ap steps_seen c.in_ok-push.ensures.items ∙ map-append step_seen c.loop-text.steps.items (c.in_ok-read_step.field-0 ∷ [])
+          ∙ ap (λ ss. ss ++ step ∷ []) c.loop-text.invariant.steps ∙ ap (λ s. map step_in (take k all) ++ s ∷ []) (sym read.1)
+          ∙ sym (steps_next all k text t.0 t.1) ∙ ap (λ m. map step_in (take m all)) (sym next);
+      fault = ap (λ m. first_step_fault m (start + length text + 1) (drop m all)) next ∙ sym (no_fault all k text t.0 t.1 start few read.0) ∙ c.loop-text.invariant.fault;
+      room = omega (arith, c.loop-text.invariant.room, bytes_next all k text t.0 t.1, ap (λ m. bytes_of (drop m all)) next);
+    }
+
+pub returns : goal.returns
+returns c =
+    let t = YieldsList-end (YieldsList-from_str_split 47 c.args.rest.now (lit< tt) (cc) (cc) (cc)) c.loop-text.yielded _ c.loop-text.yielded_by _ _ c.in-None.is c.next.ensures.steps in
+    let all = written_steps c.args.rest.now in
+    let k = length c.loop-text.yielded in
+    let none = sym c.loop-text.invariant.fault ∙ at_drop_all (first_step_fault k (c.loop-text.slash + 1)) all k (omega (arith, t.1)) in
+    let steps = c.loop-text.invariant.steps ∙ ap (map step_in) (ap (λ m. take m all) t.1 ∙ take-length all) in
+    ap (λ f. ok_unless f (map step_in all)) none ∙ ap Ok (sym steps)
