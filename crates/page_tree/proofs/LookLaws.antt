@@ -5,7 +5,7 @@ use Rattle.std.specs.Prelude.{unwrap_or}
 use Rattle.std.specs.Option.{option_map_or}
 use Rattle.page_tree.specs.Tree.{Attribute, Tree, element, words, Trees, no_trees, tree}
 use Rattle.page_tree.specs.Limits.{nodes, names_of, is_ascending, IsNamed, AreNamed, IsPage}
-use Rattle.page_tree.specs.Look.{nth_child, node_at, name_of, name_at, attributes_of, attribute_at, value_of, child_count_at, count, children_of}
+use Rattle.page_tree.specs.Look.{nth_child, node_at, name_of, name_at, attributes_of, attribute_at, value_of, child_count_at, count, children_of, text_of, text_at}
 use Rattle.page_tree.specs.Number.{place_numbered, elements_before_at, same_before_at}
 use Rattle.page_tree.specs.inside.Table.{Line, lines, lone, node_or_text, line_at}
 use Rattle.page_tree.specs.inside.Rows.{line_in, blank}
@@ -68,6 +68,9 @@ children_there ls t n is there = ap (λ l. l.children) (line_is ls t n is there)
 
 pub children_past : (t : Tree) (n : ℕ) → nodes t ≤ n → child_count_at (place_numbered n t) t ≡ 0
 children_past t n past = ap (λ o. option_map_or (λ m. count (children_of m)) o 0) (has_none n t past)
+
+pub text_past : (t : Tree) (n : ℕ) → nodes t ≤ n → text_at (place_numbered n t) t ≡ []
+text_past t n past = ap (λ o. option_map_or text_of o []) (has_none n t past)
 
 pub elements_there : (ls : List Line) (t : Tree) (n : ℕ) → ls ≡ lines t → n < nodes t
     → (line_in n ls).elements_before ≡ elements_before_at (place_numbered n t) t

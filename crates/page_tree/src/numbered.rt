@@ -2,13 +2,14 @@
 ghost use Rattle.std.specs.Prelude.{ℕ, ◌⊎◌, ◌≡◌, ◌<◌, ◌≤◌, ◌-◌, ◌∷◌, [], ◌++◌, suc, List, IfOk, MatchOption, option_map, map, if◌then◌else◌, nat_lt, Some, None, cond};
 ghost use Rattle.std.specs.List.{range_with_len};
 ghost use Rattle.page_tree.specs.Limits.{nodes};
-ghost use Rattle.page_tree.specs.Look.{node_at, name_at, child_count_at, attribute_at};
+ghost use Rattle.page_tree.specs.Look.{node_at, name_at, child_count_at, attribute_at, text_at};
 ghost use Rattle.page_tree.specs.Under.{places_under};
 ghost use Rattle.page_tree.specs.Number.{place_numbered, elements_before_at, same_before_at};
 
 use crate::memory::NoMemory;
 use crate::page::Page;
 use crate::place::Place;
+use crate::text::Text;
 use std::ops::Range;
 
 impl Page {
@@ -57,6 +58,21 @@ impl Page {
         ensures { option_map (λ value. value.now) result ≡ attribute_at (place_numbered number self.now) name.now self.now }
     {
         self.table().attribute(self.index(number)?, name)
+    }
+
+    /// All texts at or under the node with that number, joined in document order.
+    #[tactic(auto, using(crate::proofs::LoopLaws::texts_first, crate::proofs::LoopLaws::texts_step, crate::proofs::LookLaws::text_past))]
+    pub fn text_of(&self, number: u32) -> Result<Text, NoMemory>
+        ensures { IfOk result (λ text. text ≡ text_at (place_numbered number self.now) self.now) }
+    {
+        let mut joined = String::new(self.table().allocator());
+        let Some(index) = self.index(number) else {
+            return Ok(Text::from(joined));
+        };
+        for below in number..self.table().end_of(index) {
+            joined.push_str(self.words_of(below).unwrap_or(""))?;
+        }
+        Ok(Text::from(joined))
     }
 
     /// The numbers of the nodes under that one, texts too. Its first child comes first; behind them comes its next sibling, if it has one.

@@ -191,18 +191,14 @@ impl Page {
         }
     }
 
-    #[tactic(auto, using(crate::proofs::LoopLaws::texts_first, crate::proofs::LoopLaws::texts_step))]
     /// All texts at or under the node there, joined in document order; empty where no node is.
     pub fn text_under(&self, place: &Place) -> Result<Text, NoMemory>
         ensures { IfOk result (λ text. text ≡ text_at place.now self.now) }
     {
-        let mut joined = String::new(self.table().allocator());
-        if let Some(number) = self.number_of(place) {
-            for below in number..self.table().end_of(number as usize) {
-                joined.push_str(self.words_of(below).unwrap_or(""))?;
-            }
+        match self.number_of(place) {
+            None => Ok(Text::from(String::new(self.table().allocator()))),
+            Some(number) => self.text_of(number),
         }
-        Ok(Text::from(joined))
     }
 
     /// The places of all nodes under the one there, texts too, in document order; none where no node is.

@@ -597,6 +597,21 @@ fn looks_at_each_node_by_its_number(rt: HostRuntime) -> Result<(), Fail> {
 }
 
 #[test]
+fn joins_texts_by_number(rt: HostRuntime) -> Result<(), Fail> {
+    let alloc = rt.alloc();
+    let page = read(
+        alloc,
+        r#"{"n":"p","c":["x",{"n":"b","c":["y",{"n":"i","c":["z"]}]},{"n":"b"},"w"]}"#,
+    )?;
+    let texts = ["xyzw", "x", "yz", "y", "z", "z", "", "w", "", ""];
+    for number in 0..10 {
+        let text = page.text_of(number)?;
+        assert!(rt; text.as_str() == texts[number as usize], "of {number}");
+    }
+    Ok(())
+}
+
+#[test]
 fn finds_no_node_past_the_last_number(rt: HostRuntime) -> Result<(), Fail> {
     let alloc = rt.alloc();
     let page = read(alloc, NESTED)?;

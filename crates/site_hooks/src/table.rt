@@ -8,7 +8,7 @@ use crate::law::SiteLaw;
 use page_tree::{NoMemory, Page, Text};
 use std::alloc::Global;
 use std::collections::BTreeMap;
-use xpath_child::Path;
+use xpath_child::{Found, Path};
 
 /// A site that was set up page by page. The page at an address is the one that was added for the whole address; a conflict is signalled where a
 /// watched path has another text on the old page than on the new, at whatever address.
@@ -86,12 +86,12 @@ fn changed(path: &Path, old: &Page, new: &Page) -> Result<bool, NoMemory>
     }
 }
 
-// The text under the only place that a path selects on a page.
+// The text under the only node that a path selects on a page.
 fn text_on(page: &Page, path: &Path) -> Result<Option<Text>, NoMemory>
     ensures { IfOk result (λ text. text ≡ watched_text page.now path.now) }
 {
-    match path.select(page)?.only() {
-        Some(place) => Ok(Some(page.text_under(place)?)),
-        None => Ok(None),
+    match path.find(page) {
+        Found::One(number) => Ok(Some(page.text_of(number)?)),
+        Found::Missing | Found::Several => Ok(None),
     }
 }
