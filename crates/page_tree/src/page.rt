@@ -68,7 +68,7 @@ impl Page {
     {
         inspect_root(&root)?;
         let table = table_of(alloc, &root)?;
-        Ok(Page::holding(alloc, table)?)
+        Ok(Page::holding(alloc, &table)?)
     }
 
     /// The page that a JSON value stands for: an element is an object with `n` (its name), `a` (an object of attributes whose values are texts,
@@ -88,16 +88,15 @@ impl Page {
         ensures found { MatchResult result (λ page. page_in (view value.now) ≡ Some page) (λ e. e ≢ NoMemory → page_in (view value.now) ≡ None) }
     {
         let table = read_root(alloc, value)?;
-        Ok(Page::holding(alloc, table)?)
+        Ok(Page::holding(alloc, &table)?)
     }
 
-    // The page of that table, whose unused room is given back.
-    fn holding(alloc: Global, mut table: Table) -> Result<Page, NoMemory>
-        requires { IsTable table }
-        ensures { IfOk result (λ page. page ≡ tree_of_lines table) }
+    // The page of that table.
+    fn holding(alloc: Global, table: &Table) -> Result<Page, NoMemory>
+        requires { IsTable table.now }
+        ensures { IfOk result (λ page. page ≡ tree_of_lines table.now) }
     {
-        table.shrink();
-        match Arc::new(alloc, table) {
+        match Arc::new(alloc, table.fitted()?) {
             Ok(table) => Ok(Page { table }),
             Err(_) => Err(AllocError),
         }

@@ -250,12 +250,14 @@ impl Table {
         Ok(())
     }
 
-    /// Gives back room that isn't used, where nothing more is added.
-    pub(crate) fn shrink(&mut self)
-        ensures { self.new ≡ self.old }
+    /// An equal table that has no unused room. What the first one gives back is then in whole pieces, which the next page can take.
+    pub(crate) fn fitted(&self) -> Result<Table, NoMemory>
+        ensures { IfOk result (λ table. table ≡ self.now) }
     {
-        self.texts.shrink();
-        self.rows.shrink_to_fit();
+        Ok(Table {
+            texts: self.texts.fitted()?,
+            rows: self.rows.clone()?,
+        })
     }
 
     /// Tells that all nodes under that one were added.

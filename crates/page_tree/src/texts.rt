@@ -1,4 +1,4 @@
-ghost use Rattle.std.specs.Prelude.{◌≡◌, ◌<◌, [], ◌∷◌, ◌++◌, OnOk, OnErr, get_or, length};
+ghost use Rattle.std.specs.Prelude.{◌≡◌, ◌<◌, [], ◌∷◌, ◌++◌, IfOk, OnOk, OnErr, get_or, length};
 
 use crate::memory::NoMemory;
 use crate::table::few;
@@ -49,12 +49,14 @@ impl Texts {
         &self.joined[start as usize..end as usize]
     }
 
-    /// Gives back room that isn't used.
-    pub(crate) fn shrink(&mut self)
-        ensures { self.new ≡ self.old }
+    /// Equal texts that have no unused room.
+    pub(crate) fn fitted(&self) -> Result<Texts, NoMemory>
+        ensures { IfOk result (λ texts. texts ≡ self.now) }
     {
-        self.joined.shrink_to_fit();
-        self.cuts.shrink_to_fit();
+        Ok(Texts {
+            joined: self.joined.clone()?,
+            cuts: self.cuts.clone()?,
+        })
     }
 
     pub(crate) fn push(&mut self, text: &str) -> Result<(), NoMemory>
