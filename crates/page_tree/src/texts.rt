@@ -1,4 +1,5 @@
-ghost use Rattle.std.specs.Prelude.{◌≡◌, ◌<◌, [], ◌∷◌, ◌++◌, IfOk, OnOk, OnErr, get_or, length};
+ghost use Rattle.std.specs.Prelude.{◌≡◌, ◌<◌, ◌≤◌, [], ◌∷◌, ◌++◌, IfOk, OnOk, OnErr, get_or, length};
+ghost use Rattle.page_tree.specs.inside.Cuts.{start_in};
 
 use crate::memory::NoMemory;
 use crate::table::few;
@@ -9,8 +10,8 @@ use std::marker::Model;
 #[derive(Debug, Drop)]
 pub(crate) struct Texts {
     joined: String,
-    // where each begins in it and ends
-    cuts: Vec<(u32, u32)>,
+    // where each ends in it; the next one begins there
+    ends: Vec<u32>,
 }
 
 impl Model for Texts {
@@ -19,9 +20,9 @@ impl Model for Texts {
 
     ghost Value = { List (List ℕ) };
 
-    ghost view = { λ t. texts_cut (string_bytes t.joined) t.cuts.items };
+    ghost view = { λ t. texts_cut 0 (string_bytes t.joined) t.ends.items };
 
-    ghost invariant = { λ t. AreCuts (string_bytes t.joined) t.cuts.items };
+    ghost invariant = { λ t. AreCuts 0 (string_bytes t.joined) t.ends.items };
 }
 
 impl Texts {
@@ -31,21 +32,23 @@ impl Texts {
     {
         Texts {
             joined: String::new(alloc),
-            cuts: Vec::new(alloc),
+            ends: Vec::new(alloc),
         }
     }
 
+    #[tactic(auto, using(crate::proofs::Cutting::cut_count))]
     pub(crate) fn len(&self) -> usize
         ensures { result ≡ length self.now }
     {
-        self.cuts.len()
+        self.ends.as_slice().len()
     }
 
     pub(crate) fn get(&self, number: usize) -> &str
         requires { number < length self.now }
         ensures { result.now ≡ get_or self.now number [] }
     {
-        let (start, end) = self.cuts[number];
+        let start = start_in(self.ends.as_slice(), number);
+        let end = self.ends[number];
         &self.joined[start as usize..end as usize]
     }
 
@@ -55,7 +58,7 @@ impl Texts {
     {
         Ok(Texts {
             joined: self.joined.clone()?,
-            cuts: self.cuts.clone()?,
+            ends: self.ends.clone()?,
         })
     }
 
@@ -63,10 +66,18 @@ impl Texts {
         ensures ok { OnOk result (self.new ≡ self.old ++ text.now ∷ []) }
         ensures err { OnErr result (self.new ≡ self.old) }
     {
-        let start = few(self.joined.as_str().len())?;
+        let end = few(self.joined.as_str().len() + text.len())?;
+        self.ends.reserve(1)?;
         self.joined.push_str(text)?;
-        let end = few(self.joined.as_str().len())?;
-        self.cuts.push((start, end))?;
+        self.ends.push(end).unwrap();
         Ok(())
     }
+}
+
+// Where the text of that number begins, by where each ends.
+fn start_in(ends: &[u32], number: usize) -> u32
+    requires { number ≤ length ends.now }
+    ensures { result ≡ start_in 0 ends.now number }
+{
+    if number == 0 { 0 } else { ends[number - 1] }
 }
