@@ -23,3 +23,4 @@ pub mod LookLaws
 pub mod NodesUnder
 pub mod LoopLaws
 pub mod ControlLaws
+pub mod Apart

@@ -66,9 +66,16 @@ impl Page {
         ensures refused { IfErr result (λ e. e ≢ NoMemory → ¬ IsPage (seen root)) }
         ensures fault { IfErr result (λ e. e ≢ NoMemory → fault_of_tree (seen root) ≡ Some e) }
     {
-        inspect_root(&root)?;
-        let table = table_of(alloc, &root)?;
-        Ok(Page::holding(alloc, &table)?)
+        match inspect_root(&root) {
+            Ok(_count) => {
+                let table = table_of(alloc, &root)?;
+                Ok(Page::holding(alloc, &table)?)
+            }
+            Err(fault) => {
+                root.take_apart(alloc);
+                Err(fault)
+            }
+        }
     }
 
     /// The page that a JSON value stands for: an element is an object with `n` (its name), `a` (an object of attributes whose values are texts,

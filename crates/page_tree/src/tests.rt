@@ -238,6 +238,23 @@ fn names_the_first_fault_of_a_tree(rt: HostRuntime) -> Result<(), Fail> {
 }
 
 #[test]
+fn refuses_a_tree_of_any_depth(rt: HostRuntime) -> Result<(), Fail> {
+    let alloc = rt.alloc();
+    let mut tree = Tree::Words(text(alloc, "x")?);
+    for _ in 0..200_000 {
+        let mut children = Vec::new(alloc);
+        children.push(tree)?;
+        tree = Tree::Element {
+            name: text(alloc, "a")?,
+            attributes: Attributes::from(Vec::new(alloc)),
+            children,
+        };
+    }
+    assert_eq!(rt; Page::new(alloc, tree).err(), Some(PageFault::TooDeep));
+    Ok(())
+}
+
+#[test]
 fn makes_the_page_of_a_tree(rt: HostRuntime) -> Result<(), Fail> {
     let alloc = rt.alloc();
     let mut words = Vec::new(alloc);

@@ -1,10 +1,12 @@
 //! Trees of elements with their attributes, and of texts.
-ghost use Rattle.std.specs.Prelude.{◌≡◌, option_map};
+ghost use Rattle.std.specs.Prelude.{◌≡◌, ◌<◌, ◌+◌, OnOk, option_map};
 ghost use Rattle.page_tree.specs.Look.{name_of, value_of};
-ghost use Rattle.page_tree.specs.Seen.{seen};
-ghost use Rattle.page_tree.specs.Limits.{names_of, is_ascending};
+ghost use Rattle.page_tree.specs.Seen.{seen, all_seen};
+ghost use Rattle.page_tree.specs.Limits.{names_of, is_ascending, nodes, nodes_of_all};
 
+use crate::memory::NoMemory;
 use crate::text::Text;
+use std::alloc::Global;
 use std::marker::Model;
 
 /// An element or a text, with all that is under it. Not every tree is a page: `Page::new` tells.
@@ -26,6 +28,35 @@ impl Tree {
         match self {
             Tree::Element { name, .. } => Some(name.as_str()),
             Tree::Words(_) => None,
+        }
+    }
+
+    /// Drops a tree node by node, however deep it is: a drop of the whole takes stack for each level. Where memory is wanting, what is left is
+    /// dropped so.
+    pub(crate) fn take_apart(self, alloc: Global) {
+        let mut left = Vec::new(alloc);
+        if left.push(self).is_err() {
+            return;
+        }
+        while let Some(tree) = left.pop() {
+            if tree.leave_children(&mut left).is_err() {
+                return;
+            }
+        }
+    }
+
+    // Drops the node alone; those under it are left.
+    #[tactic(auto, using(crate::proofs::Apart::element_apart, crate::proofs::Apart::words_apart))]
+    fn leave_children(self, left: &mut Vec<Tree>) -> Result<(), NoMemory>
+        ensures { OnOk result (nodes_of_all (all_seen left.new.items) < nodes_of_all (all_seen left.old.items) + nodes (seen self)) }
+    {
+        match self {
+            Tree::Element {
+                name: _name,
+                attributes: _attributes,
+                mut children,
+            } => left.append(&mut children),
+            Tree::Words(_text) => Ok(()),
         }
     }
 }
