@@ -1,0 +1,9 @@
+pub mod Limits
+pub mod Fault
+pub mod Items
+pub mod Rule
+pub mod Queue
+pub mod Answers
+pub mod Opened
+pub mod Core
+pub mod inside

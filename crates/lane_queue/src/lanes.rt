@@ -1,0 +1,194 @@
+//! The queue itself, which putters and the taker share.
+ghost use Rattle.std.specs.Prelude.{◌≡◌, ◌≢◌, ◌<◌, ◌≤◌, List, [], ◌++◌, true, IfOk, IfErr, MatchResult, MatchOption};
+ghost use Rattle.std.specs.Vec.{vec_capacity};
+ghost use Rattle.crossbeam_queue.specs.Fifo.{Held};
+ghost use Rattle.crossbeam_queue.specs.Passes.{view, IsSamePass};
+ghost use Rattle.lane_queue.specs.Items.{of_lane};
+ghost use Rattle.lane_queue.specs.Rule.{first_view, with_put, with_putter, Takes, IsSeen};
+ghost use Rattle.lane_queue.specs.Limits.{AreLanes};
+ghost use Rattle.lane_queue.specs.Opened.{fresh_taker, ArePutters, AreOpened};
+ghost use Rattle.lane_queue.specs.declared.fault.QueueFault.TheVariants.{BadLanes, NoMemory};
+ghost use Rattle.lane_queue.specs.inside.Passes.{IsWhole, MayPut};
+
+use crate::fault::QueueFault;
+use crate::item::Item;
+use crate::limits::MAX_LANES;
+use crate::putter::Putter;
+use crate::room::Room;
+use crate::rule::{Gets, InLanes, Opens, Reckons, Sends};
+use crate::taker::Taker;
+use crate::view::View;
+use crate::waiting::{announced, rest};
+use crossbeam_queue::{Pass, RuledArrayQueue};
+use crossbeam_utils::Backoff;
+use crossbeam_utils::sync::EventCount;
+use std::alloc::Global;
+use std::marker::Model;
+use std::sync::Wait;
+use std::sync::atomic::{AtomicBool, Ordering};
+
+/// A bounded queue of the items of some lanes, to be shared by reference. Contracts see which queue it is, and how many items it holds at the most.
+#[derive(Drop)]
+pub struct Lanes<T> {
+    queue: RuledArrayQueue<Item<T>, View<T>, InLanes>,
+    closed: AtomicBool,
+    // told after each pop, and at the close
+    room: EventCount,
+    // told after each push
+    items: EventCount,
+}
+
+impl<T> Model for Lanes<T> {
+    ghost use Rattle.crossbeam_queue.specs.Passes.{ruled_capacity};
+    ghost use Rattle.lane_queue.specs.Queue.{Queue, queue_coded};
+
+    ghost Value = { Queue };
+
+    ghost coded = { queue_coded };
+
+    ghost view = { λ l. record { table_id = l.queue.table.shared.table_id; room = ruled_capacity l.queue } };
+}
+
+impl<T> Lanes<T> {
+    #[tactic(auto, using(crate::proofs::Steps::begins))]
+    /// A queue for so many lanes, 1 to `MAX_LANES`, that holds as many items as the room says, with its taker and a putter for each lane.
+    pub fn open(
+        alloc: Global,
+        lanes: u32,
+        room: Room,
+    ) -> Result<(Lanes<T>, Taker<T>, Vec<Putter<T>>), QueueFault>
+        ensures opened { IfOk result (λ made. AreLanes lanes × AreOpened lanes room made.0 made.1 made.2.items) }
+        ensures refused { IfErr result (λ fault. fault ≢ NoMemory → (fault ≡ BadLanes) × ¬ AreLanes lanes) }
+    {
+        if lanes == 0 || lanes > MAX_LANES {
+            return Err(QueueFault::BadLanes);
+        }
+        let counts = Vec::from_elem(alloc, 0, lanes as usize)?;
+        let putters = Vec::with_capacity(alloc, lanes as usize)?;
+        let (queue, pass) = RuledArrayQueue::ruled(alloc, room.items())?;
+        let opened = Lanes {
+            queue,
+            closed: AtomicBool::new(false),
+            room: EventCount::new(),
+            items: EventCount::new(),
+        };
+        let (pass, putters) = opened.split(pass, lanes, putters);
+        Ok((opened, Taker::over(pass, counts, lanes), putters))
+    }
+
+    // The taker's pass, and a putter for each lane. There is room for them.
+    fn split(
+        &self,
+        pass: Pass<Item<T>, View<T>>,
+        lanes: u32,
+        putters: Vec<Putter<T>>,
+    ) -> (Pass<Item<T>, View<T>>, Vec<Putter<T>>)
+        requires queue { IsWhole self.now pass }
+        requires first { view pass ≡ first_view }
+        requires none { putters.items ≡ [] }
+        requires fits { lanes ≤ vec_capacity putters }
+        ensures queue { IsWhole self.now result.0 }
+        ensures taker { view result.0 ≡ fresh_taker lanes }
+        ensures putters { ArePutters self.now lanes result.1.items }
+    {
+        let mut pass = pass;
+        let mut putters = putters;
+        for lane in 0..lanes {
+            let own = self.queue.another::<Opens>(&mut pass);
+            putters.push_reserved(Putter::of_lane(own, lane));
+        }
+        (pass, putters)
+    }
+
+    /// From the moment that putters see it, nothing is put any more. What the queue holds can still be taken.
+    pub fn close<R: Wait>(&self, _rt: &R) {
+        self.closed.store(true, Ordering::SeqCst);
+        self.room.notify_all();
+    }
+
+    pub(crate) fn is_closed(&self) -> bool {
+        self.closed.load(Ordering::SeqCst)
+    }
+
+    /// What is told of each push.
+    pub(crate) fn pushes(&self) -> &EventCount {
+        &self.items
+    }
+
+    /// One push.
+    #[tactic(auto, using(crate::proofs::Steps::pushes, crate::proofs::Steps::sees))]
+    pub(crate) fn push<R: Wait>(
+        &self,
+        rt: &R,
+        pass: &mut Pass<Item<T>, View<T>>,
+        item: Item<T>,
+    ) -> Result<(), Item<T>>
+        requires queue { IsWhole self.now pass.old }
+        requires may { MayPut (view pass.old) item }
+        ensures pass { IsSamePass pass.old pass.new }
+        ensures answer { MatchResult result (λ _. view pass.new ≡ with_put (view pass.old) item) (λ back. (back ≡ item) × (view pass.new ≡ view pass.old) × Held self.now.room (IsSeen (view pass.old))) }
+    {
+        let pushed = self.queue.push_as::<Sends, R>(rt, pass, item);
+        if pushed.is_ok() {
+            self.items.notify_one();
+        }
+        pushed
+    }
+
+    /// One pop.
+    #[tactic(auto, using(crate::proofs::Steps::pops, crate::proofs::Steps::sees))]
+    pub(crate) fn pop<R: Wait>(&self, rt: &R, pass: &mut Pass<Item<T>, View<T>>) -> Option<Item<T>>
+        requires queue { IsWhole self.now pass.old }
+        requires takes { (view pass.old).takes ≡ true }
+        ensures pass { IsSamePass pass.old pass.new }
+        ensures answer { MatchOption result ((view pass.new ≡ view pass.old) × Held 0 (IsSeen (view pass.old))) (λ item. Takes (view pass.old) item (view pass.new)) }
+    {
+        let popped = self.queue.pop_as::<Gets, R>(rt, pass);
+        if popped.is_some() {
+            self.room.notify_one();
+        }
+        popped
+    }
+
+    /// One push after another, until one goes through or the lanes are closed, which hands the item back. Between pushes it rests.
+    pub(crate) fn push_or_closed<R: Wait>(
+        &self,
+        rt: &R,
+        pass: &mut Pass<Item<T>, View<T>>,
+        item: Item<T>,
+    ) -> Result<(), Item<T>>
+        requires queue { IsWhole self.now pass.old }
+        requires may { MayPut (view pass.old) item }
+        ensures pass { IsSamePass pass.old pass.new }
+        ensures answer { MatchResult result (λ _. view pass.new ≡ with_put (view pass.old) item) (λ back. (back ≡ item) × (view pass.new ≡ view pass.old)) }
+    {
+        let mut item = item;
+        let turns = Backoff::new();
+        for _ in rt.forever() {
+            let sleep = announced(&turns, &self.room);
+            if self.is_closed() {
+                return Err(item);
+            }
+            match self.push(rt, pass, item) {
+                Ok(()) => return Ok(()),
+                Err(back) => item = back,
+            }
+            rest(rt, &turns, sleep);
+        }
+        unreachable!()
+    }
+
+    /// The taker's pass takes in a putter's, and learns that what was put in its lane begins with what was taken of it.
+    pub(crate) fn take_in(&self, pass: &mut Pass<Item<T>, View<T>>, putter: Pass<Item<T>, View<T>>)
+        requires queue { IsWhole self.now pass.old × IsWhole self.now putter }
+        requires takes { (view pass.old).takes ≡ true }
+        requires puts { (view putter).puts ≡ true }
+        ensures pass { IsSamePass pass.old pass.new }
+        ensures both { view pass.new ≡ with_putter (view pass.old) (view putter) }
+        ensures made { (view putter).lane < (view pass.old).made }
+        ensures told { (rest : List _) × ((view putter).put ≡ of_lane (view putter).lane (view pass.old).got ++ rest) }
+    {
+        self.queue.absorb::<Reckons>(pass, putter);
+        self.queue.learn_as::<Reckons>(pass);
+    }
+}

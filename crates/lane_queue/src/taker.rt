@@ -1,0 +1,130 @@
+//! The end of the queue at which items are taken.
+ghost use Rattle.std.specs.Prelude.{◌≡◌, List, [], ◌++◌, length, replicate};
+ghost use Rattle.crossbeam_queue.specs.Passes.{view, IsSamePass};
+ghost use Rattle.lane_queue.specs.Answers.{TakesOne, TriesToTake};
+ghost use Rattle.lane_queue.specs.Items.{of_lane};
+ghost use Rattle.lane_queue.specs.Opened.{fresh_taker};
+ghost use Rattle.lane_queue.specs.Queue.{IsOf};
+
+use crate::answers::{Take, TryTake};
+use crate::item::Item;
+use crate::lanes::Lanes;
+use crate::putter::Putter;
+use crate::view::View;
+use crate::waiting::{announced, rest};
+use crossbeam_queue::Pass;
+use crossbeam_utils::Backoff;
+use std::marker::Model;
+use std::sync::Wait;
+
+/// Takes the items of all lanes, on whatever thread it is. Contracts see its pass, which knows the items that were taken.
+pub struct Taker<T> {
+    pass: Pass<Item<T>, View<T>>,
+    // how many items of each lane were taken
+    counts: Vec<u64>,
+    // how many lanes have not ended
+    running: u32,
+}
+
+impl<T> Model for Taker<T> {
+    ghost use Rattle.crossbeam_queue.specs.Passes.{Pass};
+    ghost use Rattle.lane_queue.specs.declared.item.Item.{Item};
+    ghost use Rattle.lane_queue.specs.declared.view.View.{View};
+    ghost use Rattle.lane_queue.specs.inside.Passes.{IsTaker};
+
+    ghost Value = { Pass (Item T) (View T) };
+
+    ghost view = { λ t. t.pass };
+
+    ghost invariant = { λ t. IsTaker t.pass t.counts.items t.running };
+}
+
+impl<T> Drop for Taker<T> {
+    fn drop(self) {
+        let Self {
+            pass: _pass,
+            counts: _counts,
+            running: _,
+        } = self;
+    }
+}
+
+impl<T> Taker<T> {
+    /// The taker of so many lanes of which nothing was taken.
+    #[tactic(auto, using(crate::proofs::Counts::fresh))]
+    pub(crate) fn over(pass: Pass<Item<T>, View<T>>, counts: Vec<u64>, lanes: u32) -> Taker<T>
+        requires whole { pass.me.1 ≡ [] }
+        requires fresh { view pass ≡ fresh_taker lanes }
+        requires counts { counts.items ≡ replicate lanes 0 }
+        ensures { result ≡ pass }
+    {
+        Taker {
+            pass,
+            counts,
+            running: lanes,
+        }
+    }
+
+    /// The pass that it holds.
+    pub fn pass(&self) -> &Pass<Item<T>, View<T>>
+        ensures { result.now ≡ self.now }
+    {
+        &self.pass
+    }
+
+    /// The next item, once there is one, or that each lane has ended.
+    pub fn take<R: Wait>(&mut self, rt: &R, lanes: &Lanes<T>) -> Take<T>
+        requires lanes { IsOf lanes.now self.old }
+        ensures pass { IsSamePass self.old self.new }
+        ensures lanes { IsOf lanes.now self.new }
+        ensures answer { TakesOne (view self.old) (view self.new) result }
+    {
+        let turns = Backoff::new();
+        for _ in rt.forever() {
+            let sleep = announced(&turns, lanes.pushes());
+            match self.try_take(rt, lanes) {
+                TryTake::Item(item) => return Take::Item(item),
+                TryTake::AllEnded => return Take::AllEnded,
+                TryTake::Empty => {}
+            }
+            rest(rt, &turns, sleep);
+        }
+        unreachable!()
+    }
+
+    /// One try to take the next item.
+    #[tactic(auto, using(crate::proofs::Counts::ended, crate::proofs::Counts::unended, crate::proofs::Counts::took, crate::proofs::Counts::took_last))]
+    pub fn try_take<R: Wait>(&mut self, rt: &R, lanes: &Lanes<T>) -> TryTake<T>
+        requires lanes { IsOf lanes.now self.old }
+        ensures pass { IsSamePass self.old self.new }
+        ensures lanes { IsOf lanes.now self.new }
+        ensures answer { TriesToTake (view self.old) (view self.new) result }
+    {
+        if self.running == 0 {
+            return TryTake::AllEnded;
+        }
+        let Some(item) = lanes.pop(rt, &mut self.pass) else {
+            return TryTake::Empty;
+        };
+        self.counts[item.lane as usize] += 1;
+        if item.last {
+            self.running -= 1;
+        }
+        TryTake::Item(item)
+    }
+}
+
+/// How many of the items that were put in that putter's lane weren't taken. Those that were taken are the first of them.
+#[tactic(auto, using(crate::proofs::Counts::joined))]
+pub fn reckon<T, R: Wait>(_rt: &R, lanes: &Lanes<T>, taker: &mut Taker<T>, putter: Putter<T>) -> u64
+    requires taker { IsOf lanes.now taker.old }
+    requires putter { IsOf lanes.now putter }
+    ensures pass { IsSamePass taker.old taker.new }
+    ensures lanes { IsOf lanes.now taker.new }
+    ensures kept { ((view taker.new).made ≡ (view taker.old).made) × ((view taker.new).got ≡ (view taker.old).got) }
+    ensures rest { (rest : List _) × ((view putter).put ≡ of_lane (view putter).lane (view taker.old).got ++ rest) × (result ≡ length rest) }
+{
+    let (pass, lane, next) = putter.into_parts();
+    lanes.take_in(&mut taker.pass, pass);
+    next - taker.counts[lane as usize]
+}
