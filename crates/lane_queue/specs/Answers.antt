@@ -20,7 +20,7 @@ module _ {T : Type 0} where
   Puts v w last body (put.Closed back) = (has_last v.put ≡ false) × (back ≡ body) × (w ≡ v)
   Puts v w last body (put.Over back) = (has_last v.put ≡ true) × (back ≡ body) × (w ≡ v)
 
-  -- the same of one try; at Full the queue held as many items as it has room for
+  -- the same of one try; at Full there is a state of the rule, for a pass that knows this, in which a queue of that room is full
   abbrev pub TriesToPut : ℕ → View T → View T → T → TryPut T → Type 0
   TriesToPut room v w body try_put.Done = (has_last v.put ≡ false) × (w ≡ with_put v (next_item v.lane v.put false body))
   TriesToPut room v w body (try_put.Full back) = (has_last v.put ≡ false) × (back ≡ body) × (w ≡ v) × Held room (IsSeen v)
@@ -35,7 +35,7 @@ module _ {T : Type 0} where
   TakesOne v w (take.Item x) = Takes v x w
   TakesOne v w take.AllEnded = AreEnded v × (w ≡ v)
 
-  -- the same of one try; at Empty the queue held nothing, and not all have ended
+  -- the same of one try; at Empty not all have ended, and there is such a state in which the queue is empty
   abbrev pub TriesToTake : View T → View T → TryTake T → Type 0
   TriesToTake v w (try_take.Item x) = Takes v x w
   TriesToTake v w try_take.AllEnded = AreEnded v × (w ≡ v)

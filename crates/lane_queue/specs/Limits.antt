@@ -4,7 +4,7 @@ use Rattle.std.specs.Prelude.{◌≤◌, ℕ}
 abbrev pub max_lanes : ℕ
 max_lanes = 16
 
--- items that a queue holds
+-- how many items a queue holds at the most
 abbrev pub max_room : ℕ
 max_room = 65536
 

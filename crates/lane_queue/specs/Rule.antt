@@ -68,7 +68,7 @@ module _ {T : Type 0} where
     pub small : x.number < 2 ^ 57
     pub unended : has_last (of_lane x.lane v.got) ≡ false
 
-  -- the queue held that in a state of the rule in which some pass had this view
+  -- a state of the rule in which the queue holds that and some pass has this view
   abbrev pub IsSeen : View T → List (Item T) → Type 0
   IsSeen v held = (views : List (View T)) × (pass : ℕ) × IsKept held views × (get_elem? views pass ≡ some v)
 

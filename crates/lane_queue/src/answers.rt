@@ -5,7 +5,7 @@ use crate::item::Item;
 #[derive(Drop)]
 pub enum Put<T> {
     Done,
-    /// The lanes were closed.
+    /// The lanes were closed. That they were is no part of any contract.
     Closed(T),
     /// The lane's last item was put before.
     Over(T),
@@ -15,9 +15,9 @@ pub enum Put<T> {
 #[derive(Drop)]
 pub enum TryPut<T> {
     Done,
-    /// The queue was full.
+    /// The queue was full, in a moment of the call.
     Full(T),
-    /// The lanes were closed.
+    /// The lanes were closed. That they were is no part of any contract.
     Closed(T),
     /// The lane's last item was put before.
     Over(T),
@@ -37,6 +37,6 @@ pub enum TryTake<T> {
     Item(Item<T>),
     /// Each lane's last item was taken.
     AllEnded,
-    /// The queue was empty.
+    /// The queue was empty, in a moment of the call.
     Empty,
 }

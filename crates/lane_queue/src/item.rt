@@ -1,4 +1,4 @@
-/// What a lane puts. Its numbers count from 0 in each lane.
+/// What is put in a lane. The numbers count from 0 in each lane.
 #[derive(Drop)]
 pub struct Item<T> {
     pub lane: u32,

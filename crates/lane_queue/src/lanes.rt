@@ -100,7 +100,8 @@ impl<T> Lanes<T> {
         (pass, putters)
     }
 
-    /// From the moment that putters see it, nothing is put any more. What the queue holds can still be taken.
+    /// From the moment that a putter sees it, that one puts nothing more, and one that waits wakes. What the queue holds can still be taken; a taker isn't
+    /// told, and waits on where a lane has no last item. It never waits itself: the handle is only that of the other calls.
     pub fn close<R: Wait>(&self, _rt: &R) {
         self.closed.store(true, Ordering::SeqCst);
         self.room.notify_all();

@@ -1,4 +1,7 @@
-//! One bounded queue from the uploaders of some lanes to one recorder.
+//! One bounded queue from the uploaders of some lanes to one recorder. A lane is one upload's items, in order.
+//!
+//! What a contract says of a queue that threads share is said by passes. A pass is a token of no bytes that one thread has; what its holder knows of
+//! the queue (`View`) is known in proofs alone.
 #![tactic(auto)]
 
 mod answers;

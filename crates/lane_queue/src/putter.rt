@@ -71,7 +71,7 @@ impl<T> Putter<T> {
         &self.pass
     }
 
-    /// Puts an item more into the lane, once there is room.
+    /// Puts an item more into the lane, once there is room; fewer than 2^57 were put in it before.
     pub fn put<R: Wait>(&mut self, rt: &R, lanes: &Lanes<T>, body: T) -> Put<T>
         requires lanes { IsOf lanes.now self.old }
         requires few { length (view self.old).put < 2 ^ 57 }
@@ -83,7 +83,7 @@ impl<T> Putter<T> {
         self.put_as(rt, lanes, body, false)
     }
 
-    /// Puts the lane's last item, once there is room.
+    /// Puts the lane's last item, once there is room; fewer than 2^57 were put in it before.
     pub fn finish<R: Wait>(&mut self, rt: &R, lanes: &Lanes<T>, body: T) -> Put<T>
         requires lanes { IsOf lanes.now self.old }
         requires few { length (view self.old).put < 2 ^ 57 }
@@ -121,7 +121,7 @@ impl<T> Putter<T> {
         }
     }
 
-    /// One try to put an item more into the lane.
+    /// One try to put an item more into the lane, where fewer than 2^57 were put before. It waits only for another thread that is in the middle of its step.
     #[tactic(auto, using(crate::proofs::Counts::put_more))]
     pub fn try_put<R: Wait>(&mut self, rt: &R, lanes: &Lanes<T>, body: T) -> TryPut<T>
         requires lanes { IsOf lanes.now self.old }

@@ -72,7 +72,7 @@ impl<T> Taker<T> {
         &self.pass
     }
 
-    /// The next item, once there is one, or that each lane has ended.
+    /// The next item, once there is one, or that each lane has ended. Where a lane's putter is gone without its last item, it waits for ever.
     pub fn take<R: Wait>(&mut self, rt: &R, lanes: &Lanes<T>) -> Take<T>
         requires lanes { IsOf lanes.now self.old }
         ensures pass { IsSamePass self.old self.new }
@@ -92,7 +92,7 @@ impl<T> Taker<T> {
         unreachable!()
     }
 
-    /// One try to take the next item.
+    /// One try to take the next item. It waits only for another thread that is in the middle of its step.
     #[tactic(auto, using(crate::proofs::Counts::ended, crate::proofs::Counts::unended, crate::proofs::Counts::took, crate::proofs::Counts::took_last))]
     pub fn try_take<R: Wait>(&mut self, rt: &R, lanes: &Lanes<T>) -> TryTake<T>
         requires lanes { IsOf lanes.now self.old }
@@ -114,7 +114,8 @@ impl<T> Taker<T> {
     }
 }
 
-/// How many of the items that were put in that putter's lane weren't taken. Those that were taken are the first of them.
+/// How many of the items that were put in that putter's lane weren't taken. Those that were taken are the first of them. It never waits: the handle is only
+/// that of the other calls.
 #[tactic(auto, using(crate::proofs::Counts::joined))]
 pub fn reckon<T, R: Wait>(_rt: &R, lanes: &Lanes<T>, taker: &mut Taker<T>, putter: Putter<T>) -> u64
     requires taker { IsOf lanes.now taker.old }

@@ -100,6 +100,29 @@ fn puts_nothing_where_it_is_closed(rt: HostRuntime) -> Result<(), Fail> {
     Ok(())
 }
 
+#[test]
+fn reckons_what_was_left(rt: HostRuntime) -> Result<(), Fail> {
+    let (lanes, mut taker, mut putters) = Lanes::open(rt.alloc(), 2, Room::new(4)?)?;
+    let (Some(mut second), Some(mut first)) = (putters.pop(), putters.pop()) else {
+        assert!(rt; false, "no putters");
+        return Ok(());
+    };
+    let _ = first.put(&rt, &lanes, 5);
+    let _ = second.put(&rt, &lanes, 6);
+    let _ = first.put(&rt, &lanes, 7);
+    let _ = first.finish(&rt, &lanes, 8);
+    let taken = (taker.take(&rt, &lanes), taker.take(&rt, &lanes));
+    let (Take::Item(one), Take::Item(two)) = taken else {
+        assert!(rt; false, "ended");
+        return Ok(());
+    };
+    assert_eq!(rt; known(&one), (0, 0, false, 5));
+    assert_eq!(rt; known(&two), (1, 0, false, 6));
+    assert_eq!(rt; reckon(&rt, &lanes, &mut taker, first), 2);
+    assert_eq!(rt; reckon(&rt, &lanes, &mut taker, second), 0);
+    Ok(())
+}
+
 fn put(item: u64, last: bool) -> Step {
     Step::Put {
         lane: 0,
@@ -129,5 +152,24 @@ fn steps_as_a_machine(rt: HostRuntime) -> Result<(), Fail> {
     };
     assert!(rt; matches!(state.apply(elsewhere)?, Did::Refused));
     assert!(rt; matches!(state.apply(Step::Take)?, Did::Empty));
+    Ok(())
+}
+
+#[test]
+fn steps_with_several_items(rt: HostRuntime) -> Result<(), Fail> {
+    let mut state = State::open(rt.alloc(), 2, Room::new(2)?)?;
+    let second = |item| Step::Put {
+        lane: 1,
+        item,
+        last: true,
+    };
+    state.run(&[put(5, false), second(6), put(7, true), Step::Take])?;
+    assert!(rt; matches!(state.apply(put(7, true))?, Did::Put));
+    for place in [(1, 0, true, 6), (0, 1, true, 7)] {
+        match state.apply(Step::Take)? {
+            Did::Took(item) => assert_eq!(rt; known(&item), place),
+            _ => assert!(rt; false, "nothing was taken"),
+        }
+    }
     Ok(())
 }
