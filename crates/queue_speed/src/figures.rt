@@ -20,6 +20,18 @@ pub fn print_rate<R: Print>(rt: &R, name: &str, senders: u32, figure: Figure) {
     }
 }
 
+/// The same without the time.
+pub fn print_count<R: Print>(rt: &R, name: &str, senders: u32, figure: Figure) {
+    match figure {
+        Some((items, _)) => {
+            let _ = println!(rt; "{senders} senders, {name}: {items} items in order");
+        }
+        None => {
+            let _ = println!(rt; "{senders} senders, {name}: not all items in order");
+        }
+    }
+}
+
 /// How many items were counted, all lanes together.
 pub fn sum(counts: &[u64]) -> u64 {
     let mut items = 0u64;
