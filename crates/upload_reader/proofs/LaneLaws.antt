@@ -8,7 +8,7 @@ use Rattle.byte_streams.specs.declared.fault.LineFault.{LineFault}
 use Rattle.byte_streams.specs.declared.fault.LineFault.TheVariants as line
 use Rattle.byte_streams.proofs.ReadingLaws.{bytes_of-append, reads_none, reads_then}
 use Rattle.byte_streams.specs.GoesOn.{GoesOn}
-use Rattle.upload_reader.specs.Front.{IsTaken, LinesBetween}
+use Rattle.upload_reader.specs.Front.{IsTaken, LinesBetween, joined}
 use Rattle.upload_reader.specs.Limits.{max_line_bytes}
 use Rattle.upload_reader.specs.Message.{is_blank, line_said}
 use Rattle.upload_reader.specs.Next.{next_of, failed_reads, IfOver}
@@ -18,6 +18,7 @@ use Rattle.upload_reader.specs.inside.Ended.{fault_ending}
 use Rattle.upload_reader.specs.inside.Taken.{Taken, EndsLane, LaneFront, LaneTaken, TakesText, EndsByText, SaysNoMore}
 use Rattle.upload_reader.specs.inside.Text.{AreBlank, BlanksBetween, OnlyBlanks, NextText}
 use Rattle.upload_reader.specs.declared.ending.Ending.{Ending}
+use Rattle.upload_reader.specs.declared.message.Message.{Message}
 use Rattle.upload_reader.specs.declared.ending.Ending.TheVariants.{Over, GaveUp}
 use Rattle.upload_reader.proofs.BlankLaws.{passes_blanks, joined_long}
 use Rattle.upload_reader.proofs.FrontLaws.{passes_none}
@@ -73,6 +74,21 @@ begins_taken lane lines taken is few same calm = record {
   real = tt;
   failures = calm;
 }
+
+taken_by : (taken : Taken) (lines : ℕ) (given : List Costed) → taken.lines ≡ lines → taken.given ≡ given → taken ≡ record { lines = lines; given = given }
+taken_by taken lines given is same = rw (← is, ← same) refl
+
+-- one of which nothing was taken begins behind any other messages
+pub begins_again : {R : Type 0} (lane : Lane) (earlier : List Message) (start : ℕ) (lines : Reading R) (taken : Taken) → LaneTaken lane start lines taken None → taken.given ≡ [] → lines.place ≡ start
+    → LaneTaken (record lane { earlier = earlier }) start lines taken None
+begins_again lane earlier start lines taken stands none place =
+    let (at, number, same) = stands.here refl in
+    let long : length stands.behind.front ≤ length (joined stands.behind.front) = joined_long stands.behind.front in
+    let bytes : stands.at ≡ start + length (joined stands.behind.front) = stands.behind.between.bytes in
+    let lines_are : taken.lines ≡ lane.lines = omega (arith, at, number, long, bytes, place) in
+    let few : lane.lines ≤ lines.place = omega (arith, lines_are, stands.numbered) in
+    subst (λ s. LaneTaken (record lane { earlier = earlier }) s lines taken None) place
+    (begins_taken (record lane { earlier = earlier }) lines taken (taken_by taken lane.lines [] lines_are none) few (sym same) stands.failures)
 
 -- ---- behind blank lines
 

@@ -70,6 +70,12 @@ pub record Refuses {R : Type 0} (old new : Reading R) (fault : HelloFault) : Typ
   pub leaves : LeavesFault fault new.fault
   pub again : IfSome old.fault (λ had. (fault ≡ hello_fault_of 1 had) × (new ≡ old))
 
+-- nothing was asked of it yet
+pub record IsUntouched {R : Type 0} (upload : UploadState R) : Type 0 where
+  pub given : upload.given ≡ []
+  pub ending : upload.ending ≡ None
+  pub place : upload.lines.place ≡ upload.start
+
 -- ---- what is given of it
 
 -- however the input goes on, the messages of the lane begin with those that were given

@@ -4,3 +4,4 @@ pub mod Greeted
 pub mod Taken
 pub mod Text
 pub mod Unread
+pub mod Heading

@@ -5,7 +5,7 @@ ghost use Rattle.upload_reader.specs.Session.{request_of};
 use crate::message::Event;
 
 /// The largest request that its events made, 0 for none, and how many events it has.
-#[derive(Drop)]
+#[derive(Clone, Drop)]
 pub(crate) struct Counts {
     pub(crate) largest: u64,
     pub(crate) events: u32,
@@ -25,12 +25,12 @@ impl Counts {
         }
     }
 
-    /// One event more.
-    pub(crate) fn add(&mut self, event: &Event)
+    /// One event more, which made the request of that number, 0 for none.
+    pub(crate) fn add(&mut self, req: u64)
         requires { self.old.events + 1 < 2 ^ 32 }
-        ensures { self.new ≡ counts_with self.old event.now }
+        ensures { self.new ≡ counts_with self.old req }
     {
-        self.largest = self.largest.max(request_of(event));
+        self.largest = self.largest.max(req);
         self.events += 1;
     }
 }

@@ -17,6 +17,7 @@ mod unread;
 
 // Which message may follow.
 mod counts;
+mod header;
 mod session;
 mod trace;
 
@@ -31,6 +32,7 @@ mod upload;
 pub use byte_streams::{Fed, Last, LineFault, Lines, Source};
 pub use client::Client;
 pub use ending::Ending;
+pub use header::Header;
 pub use hello_fault::HelloFault;
 pub use lane_fault::{LaneEnd, LaneFault};
 pub use message::{Event, Message};

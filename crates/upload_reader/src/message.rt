@@ -1,5 +1,7 @@
 //! What a browser's upload says.
-use page_tree::{Page, Text};
+ghost use Rattle.std.specs.Prelude.{◌≡◌, IfOk};
+
+use page_tree::{NoMemory, Page, Text};
 use xpath_child::Path;
 
 /// What a user did on a page. `at` is the browser's time, which is stored only.
@@ -24,6 +26,46 @@ pub enum Event {
         by: Option<Path>,
         req: u64,
     },
+}
+
+impl Event {
+    /// An equal event.
+    pub fn copy(&self) -> Result<Event, NoMemory>
+        ensures { IfOk result (λ event. event ≡ self.now) }
+    {
+        match self {
+            Event::Input { at, target, value } => Ok(Event::Input {
+                at: *at,
+                target: target.copy()?,
+                value: value.copy()?,
+            }),
+            Event::Click { at, target, req } => Ok(Event::Click {
+                at: *at,
+                target: target.copy()?,
+                req: *req,
+            }),
+            Event::Submit {
+                at,
+                target,
+                by,
+                req,
+            } => Ok(Event::Submit {
+                at: *at,
+                target: target.copy()?,
+                by: copy_path(by)?,
+                req: *req,
+            }),
+        }
+    }
+}
+
+fn copy_path(path: &Option<Path>) -> Result<Option<Path>, NoMemory>
+    ensures { IfOk result (λ copy. copy ≡ path.now) }
+{
+    match path {
+        Some(path) => Ok(Some(path.copy()?)),
+        None => Ok(None),
+    }
 }
 
 /// One message of an upload.

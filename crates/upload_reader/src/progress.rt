@@ -54,6 +54,23 @@ impl Progress {
         }
     }
 
+    /// The same lines behind another session. No message was given.
+    pub(crate) fn resume(self, session: Session) -> Progress
+        requires { (taken_of self).given ≡ [] }
+        ensures lane { lane_of result ≡ record (lane_of self) { earlier = session } }
+        ensures taken { taken_of result ≡ taken_of self }
+    {
+        Progress {
+            first_session: Snapshot::of(&session),
+            session,
+            lines: self.lines,
+            count: 0,
+            given: Trace::new(),
+            first_lines: self.first_lines,
+            first_fault: self.first_fault,
+        }
+    }
+
     pub(crate) fn session(&self) -> &Session
         ensures { result.now ≡ (lane_of self.now).earlier ++ messages_of (taken_of self.now).given }
     {

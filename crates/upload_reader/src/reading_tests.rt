@@ -186,6 +186,23 @@ fn reads_each_kind_of_message(rt: HostRuntime) -> Result<(), Fail> {
 }
 
 #[test]
+fn copies_each_kind_of_event(rt: HostRuntime) -> Result<(), Fail> {
+    let alloc = rt.alloc();
+    for (line, want) in MESSAGES {
+        if let Ok(Line::Says(Message::Act { visit, event })) = read_line(alloc, line.as_bytes()) {
+            let copy = event.copy()?;
+            drop(event);
+            assert_eq!(rt;
+                event_text(alloc, visit, &copy)?.as_str(),
+                want,
+                "at {line}"
+            );
+        }
+    }
+    Ok(())
+}
+
+#[test]
 fn keeps_the_page_of_a_load(rt: HostRuntime) -> Result<(), Fail> {
     let alloc = rt.alloc();
     let line = format!(in alloc;

@@ -3,6 +3,7 @@ ghost use Rattle.std.specs.Prelude.{◌≡◌, List, [], ◌∷◌, ◌++◌};
 ghost use Rattle.std.specs.Borrow.{ftrue};
 
 use std::marker::{Model, PhantomData};
+use std::snapshot::Snapshot;
 
 /// The values, in order. It takes no bytes, and its methods do nothing when they run.
 #[derive(Drop)]
@@ -30,6 +31,20 @@ impl<T> Trace<T> {
         ensures { result.items ≡ self.now.items ++ _item.now ∷ [] }
     {
         Trace::holding(self, _item)
+    }
+
+    /// The value that this stands for came next.
+    pub fn and_seen(&self, _item: &Snapshot<T>) -> Trace<T>
+        ensures { result.items ≡ self.now.items ++ _item.now.value ∷ [] }
+    {
+        Trace::holding(self, _item)
+    }
+
+    /// The same values.
+    pub fn again(&self) -> Trace<T>
+        ensures { result.items ≡ self.now.items }
+    {
+        Trace::holding(self, &())
     }
 
     // The values are those that the caller's proof makes of what it passes.

@@ -8,7 +8,7 @@ ghost use Rattle.upload_reader.specs.Next.{given_by, ending_by, next_of, failed_
 ghost use Rattle.upload_reader.specs.Positive.{IsPositive};
 ghost use Rattle.upload_reader.specs.Real.{is_real, IfReal};
 ghost use Rattle.upload_reader.specs.Stream.{messages_of, MayFollow};
-ghost use Rattle.upload_reader.specs.Upload.{Begins, Refuses, GivesFirst, EndsBy, NothingMore};
+ghost use Rattle.upload_reader.specs.Upload.{Begins, Refuses, IsUntouched, GivesFirst, EndsBy, NothingMore};
 ghost use Rattle.upload_reader.specs.inside.Taken.{lane_of, taken_of, LaneTaken, TakesNext};
 
 use crate::client::Client;
@@ -77,6 +77,27 @@ impl<R: Source> Upload<R> {
         ensures { result ≡ record { client = client; lines = lines; lane = record { earlier = session; lines = 0; fault = lines.fault }; start = lines.place; given = []; ending = None } }
     {
         Upload::begin(lines, client, session, 0)
+    }
+
+    /// The same lane behind another session, as that of the messages that were taken in an earlier upload of its client. Its lines keep their numbers.
+    pub fn resume(self, session: Session) -> Upload<R>
+        requires { IsUntouched self }
+        ensures { result ≡ record self { lane = record self.lane { earlier = session } } }
+    {
+        let Self {
+            client,
+            lines,
+            progress,
+            ending: _,
+            start,
+        } = self;
+        Upload {
+            progress: progress.resume(session),
+            client,
+            lines,
+            ending: None,
+            start,
+        }
     }
 
     // A lane behind so many lines.

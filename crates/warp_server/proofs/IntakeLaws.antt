@@ -10,17 +10,17 @@ use Rattle.upload_reader.specs.Upload as upload
 use Rattle.upload_reader.specs.Upload.{UploadState, Begins}
 use Rattle.upload_reader.specs.declared.hello_fault.HelloFault.{HelloFault}
 use Rattle.upload_reader.specs.declared.hello_fault.HelloFault.TheVariants as hello
-use Rattle.warp_server.specs.Site.{Site as PlainSite, IsJsonOf, IsSiteOf}
-use Rattle.warp_server.specs.SiteReading.{site_quota}
-use Rattle.warp_server.specs.Run.{site_line, max_site_bytes, HasBadHello, Reads, ReadWhileUndecided}
+use Rattle.warp_server.specs.site.Site.{Site as PlainSite, IsJsonOf, IsSiteOf}
+use Rattle.warp_server.specs.site.Reading.{site_quota}
+use Rattle.warp_server.specs.program.Run.{site_line, max_site_bytes, HasBadHello, Reads, ReadWhileUndecided}
 use Rattle.warp_server.specs.inside.Gathering.{RecordsOf, ReadsBeforeEnd}
 use Rattle.warp_server.specs.inside.Intake.{IsFresh, IsBehindSite, IsRefused, HasGathered, Intakes, bad_site, no_hello}
-use Rattle.warp_server.specs.declared.gathering.Gathered.{Gathered}
-use Rattle.warp_server.specs.declared.intake.Refused.{Refused}
-use Rattle.warp_server.specs.declared.intake.Refused.TheVariants as refused
+use Rattle.warp_server.specs.declared.lanes.gathering.Gathered.{Gathered}
+use Rattle.warp_server.specs.declared.program.intake.Refused.{Refused}
+use Rattle.warp_server.specs.declared.program.intake.Refused.TheVariants as refused
 use Rattle.warp_server.specs.declared.site.Site.{Site}
-use Rattle.warp_server.specs.declared.site_fault.SiteFault.{SiteFault}
-use Rattle.warp_server.specs.declared.site_fault.SiteFault.TheVariants as site_fault
+use Rattle.warp_server.specs.declared.site.fault.SiteFault.{SiteFault}
+use Rattle.warp_server.specs.declared.site.fault.SiteFault.TheVariants as site_fault
 use Rattle.warp_server.proofs.NeededLaws.{goes_nowhere, site_later, opening, opens_later}
 
 -- ---- the site line

@@ -2,6 +2,8 @@ pub mod SiteSteps
 pub mod SiteLaws
 pub mod OpeningLaws
 pub mod NeededLaws
+pub mod LaneSteps
+pub mod RoundLaws
 pub mod GatherLaws
 pub mod IntakeLaws
 pub mod RunLaws

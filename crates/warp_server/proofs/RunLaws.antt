@@ -15,18 +15,18 @@ use Rattle.visit_replay.specs.Form.{bare}
 use Rattle.visit_replay.specs.Outcome.{outcome, on_page}
 use Rattle.visit_replay.specs.declared.outcome.Outcome.{Outcome}
 use Rattle.visit_replay.specs.declared.outcome.Outcome.TheVariants.{Untouched}
-use Rattle.warp_server.specs.Site.{Site as PlainSite, page_of, signals_of}
-use Rattle.warp_server.specs.SiteReading.{Stands, site_patch, site_table, site_quota}
-use Rattle.warp_server.specs.Report.{Stop, none, End, over, visit_report, report_text}
+use Rattle.warp_server.specs.site.Site.{Site as PlainSite, page_of, signals_of}
+use Rattle.warp_server.specs.site.Reading.{Stands, site_patch, site_table, site_quota}
+use Rattle.warp_server.specs.report.Report.{Stop, none, End, over, visit_report, report_text}
 use Rattle.warp_server.specs.inside.ReplayedVisits.{replayed_by, report_of_visit}
 use Rattle.warp_server.specs.inside.Gathering.{stop_of, end_of}
 use Rattle.warp_server.specs.inside.Intake.{HasGathered}
-use Rattle.warp_server.specs.Run.{report_of, visit_of, IsReportOf, HasReport, HasShortReport, IsShort, Reads, Writes, WritesPart, Meets}
+use Rattle.warp_server.specs.program.Run.{report_of, visit_of, IsReportOf, HasReport, HasShortReport, IsShort, Reads, Writes, WritesPart, Meets}
 use Rattle.warp_server.specs.inside.Running.{lane_report, status_of}
 use Rattle.byte_streams.specs.Writing.{Takes, TakesPart}
-use Rattle.warp_server.specs.declared.gathering.Gathered.{Gathered}
-use Rattle.warp_server.specs.declared.gathering.Stopped.{Stopped}
-use Rattle.warp_server.specs.declared.gathering.Stopped.TheVariants as stopped
+use Rattle.warp_server.specs.declared.lanes.gathering.Gathered.{Gathered}
+use Rattle.warp_server.specs.declared.lanes.gathering.Stopped.{Stopped}
+use Rattle.warp_server.specs.declared.lanes.gathering.Stopped.TheVariants as stopped
 use Rattle.warp_server.specs.declared.site.Site.{Site}
 
 -- ---- a site that stands for another gives the same outcomes

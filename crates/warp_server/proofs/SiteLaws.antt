@@ -13,12 +13,12 @@ use Rattle.xpath_child.proofs.Complete.{path_complete}
 use Rattle.client_log.specs.Quota.{IsQuota}
 use Rattle.site_hooks.specs.declared.table.Table.{Table}
 use Rattle.visit_replay.specs.Outcome.{is_listed}
-use Rattle.warp_server.specs.Site.{Entry, Site as PlainSite, patched_in, pages_in, watch_in, quota_in, has_later_member, HoldPages, ArePaths, IsSiteOf, IsJsonOf}
-use Rattle.warp_server.specs.SiteReading.{site_patch, site_table, site_quota, Stands}
+use Rattle.warp_server.specs.site.Site.{Entry, Site as PlainSite, patched_in, pages_in, watch_in, quota_in, has_later_member, HoldPages, ArePaths, IsSiteOf, IsJsonOf}
+use Rattle.warp_server.specs.site.Reading.{site_patch, site_table, site_quota, Stands}
 use Rattle.warp_server.specs.inside.SiteMembers.{StandsBy, HasPages, Watches, entries_in, paths_in, ok_of, quota_of, make_site, site_by, site_in, SiteFails}
 use Rattle.warp_server.specs.declared.site.Site.{Site}
-use Rattle.warp_server.specs.declared.site_fault.SiteFault.{SiteFault}
-use Rattle.warp_server.specs.declared.site_fault.SiteFault.TheVariants.{NotJson, BadMember, NoMemory}
+use Rattle.warp_server.specs.declared.site.fault.SiteFault.{SiteFault}
+use Rattle.warp_server.specs.declared.site.fault.SiteFault.TheVariants.{NotJson, BadMember, NoMemory}
 
 -- ---- what is there
 

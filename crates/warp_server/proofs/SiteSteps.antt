@@ -13,10 +13,10 @@ use Rattle.xpath_child.specs.Path.{Step}
 use Rattle.xpath_child.specs.Fault.{path_in}
 use Rattle.site_hooks.specs.Table.{table_page as page_at, watched_in}
 use Rattle.site_hooks.specs.declared.table.Table.{Table}
-use Rattle.warp_server.specs.Site.{Entry, texts_among, page_among}
+use Rattle.warp_server.specs.site.Site.{Entry, texts_among, page_among}
 use Rattle.warp_server.specs.inside.SiteMembers.{entries_in, paths_in, ok_of, HasPages, Watches, SiteFails}
-use Rattle.warp_server.specs.declared.site_fault.SiteFault.{SiteFault}
-use Rattle.warp_server.specs.declared.site_fault.SiteFault.TheVariants.{NotJson, BadMember, NoMemory}
+use Rattle.warp_server.specs.declared.site.fault.SiteFault.{SiteFault}
+use Rattle.warp_server.specs.declared.site.fault.SiteFault.TheVariants.{NotJson, BadMember, NoMemory}
 
 -- ---- texts
 

@@ -1,8 +1,5 @@
-pub mod Site
-pub mod SiteFault
-pub mod SiteReading
-pub mod Report
-pub mod Run
-pub mod Status
-pub mod Call
+pub mod site
+pub mod lanes
+pub mod report
+pub mod program
 pub mod inside

@@ -2,13 +2,13 @@
 ghost use Rattle.std.specs.Prelude.{◌≡◌, [], ◌∷◌, ◌++◌, length, map, IfOk, OnOk, string_bytes};
 ghost use Rattle.std.specs.List.{flat_map};
 ghost use Rattle.client_log.specs.Log.{cost_of};
-ghost use Rattle.warp_server.specs.Report as plain;
-ghost use Rattle.warp_server.specs.Report.{visit_report, report_text};
+ghost use Rattle.warp_server.specs.report.Report as plain;
+ghost use Rattle.warp_server.specs.report.Report.{visit_report, report_text};
 ghost use Rattle.warp_server.specs.inside.Gathering.{stop_of, end_of};
 ghost use Rattle.warp_server.specs.inside.ReplayedVisits.{report_of_visit, report_of_lane};
 
-use crate::gathering::{Gathered, Stopped};
-use crate::repairing::Replayed;
+use crate::lanes::gathering::{Gathered, Stopped};
+use crate::repair::Replayed;
 use client_log::ClientLog;
 use page_tree::NoMemory;
 use serde_json::Value;
@@ -162,3 +162,6 @@ fn quoted(alloc: Global, text: &str) -> Result<String, NoMemory>
 {
     Value::String(String::from_str(alloc, text)?).to_string(alloc)
 }
+
+#[cfg(test)]
+mod tests;

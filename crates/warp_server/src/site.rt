@@ -2,14 +2,15 @@
 ghost use Rattle.std.specs.Prelude.{◌≡◌, IfOk, IsErrOf};
 ghost use Rattle.serde_json.specs.Data.{Data};
 ghost use Rattle.serde_json.specs.View.{view};
-ghost use Rattle.warp_server.specs.Site.{Site as PlainSite, IsSiteOf, IsJsonOf};
-ghost use Rattle.warp_server.specs.declared.site_fault.SiteFault.TheVariants.{NotJson, BadMember};
+ghost use Rattle.warp_server.specs.site.Site.{Site as PlainSite, IsSiteOf, IsJsonOf};
+ghost use Rattle.warp_server.specs.declared.site.fault.SiteFault.TheVariants.{NotJson, BadMember};
 
-use crate::site_fault::SiteFault;
-use crate::site_reading::{
-    has_later_member, read_line, read_pages, read_patched, read_quota, read_watched,
-};
+mod fault;
+mod reading;
+
 use client_log::Quota;
+pub use fault::SiteFault;
+use reading::{has_later_member, read_line, read_pages, read_patched, read_quota, read_watched};
 use serde_json::Value;
 use site_hooks::Table;
 use std::alloc::Global;
@@ -24,7 +25,7 @@ pub struct Site {
 }
 
 impl Site {
-    ghost use Rattle.warp_server.specs.SiteReading.{site_patch, site_table, site_quota, Stands};
+    ghost use Rattle.warp_server.specs.site.Reading.{site_patch, site_table, site_quota, Stands};
     ghost use Rattle.warp_server.specs.inside.SiteMembers.{StandsBy};
 
     /// The site that a line says: a JSON object with `patched` (an array of address texts), `pages` (an object, from address to page), `watch` (an
@@ -78,3 +79,6 @@ impl Site {
         self.quota
     }
 }
+
+#[cfg(test)]
+mod tests;

@@ -7,16 +7,16 @@ use Rattle.byte_streams.specs.declared.fault.LineFault.{LineFault}
 use Rattle.byte_streams.specs.declared.fault.LineFault.TheVariants as line_fault
 use Rattle.upload_reader.specs.declared.hello_fault.HelloFault.{HelloFault}
 use Rattle.upload_reader.specs.declared.hello_fault.HelloFault.TheVariants as hello_fault
-use Rattle.warp_server.specs.Site.{Site as PlainSite}
-use Rattle.warp_server.specs.SiteReading.{Stands, site_quota}
-use Rattle.warp_server.specs.Run.{HasBadSite, HasBadHello, HasFailedRead, HasSite, Opening, OpensBy, lane_behind, lane_place, Reads}
+use Rattle.warp_server.specs.site.Site.{Site as PlainSite}
+use Rattle.warp_server.specs.site.Reading.{Stands, site_quota}
+use Rattle.warp_server.specs.program.Run.{HasBadSite, HasBadHello, HasFailedRead, HasSite, Opening, OpensBy, lane_behind, lane_place, Reads}
 use Rattle.warp_server.specs.inside.Gathering.{Records}
-use Rattle.warp_server.specs.declared.gathering.Gathered.{Gathered}
+use Rattle.warp_server.specs.declared.lanes.gathering.Gathered.{Gathered}
 use Rattle.warp_server.specs.declared.site.Site.{Site}
-use Rattle.warp_server.specs.declared.site_fault.SiteFault.{SiteFault}
-use Rattle.warp_server.specs.declared.site_fault.SiteFault.TheVariants as site_fault
-use Rattle.warp_server.specs.declared.intake.Refused.{Refused}
-use Rattle.warp_server.specs.declared.intake.Refused.TheVariants.{ReadFailed, NoSite, NoHello, NoMemory}
+use Rattle.warp_server.specs.declared.site.fault.SiteFault.{SiteFault}
+use Rattle.warp_server.specs.declared.site.fault.SiteFault.TheVariants as site_fault
+use Rattle.warp_server.specs.declared.program.intake.Refused.{Refused}
+use Rattle.warp_server.specs.declared.program.intake.Refused.TheVariants.{ReadFailed, NoSite, NoHello, NoMemory}
 
 -- lines of which nothing was read yet
 pub record IsFresh {R : Type 0} (lines : Reading R) : Type 0 where

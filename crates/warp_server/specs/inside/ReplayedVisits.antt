@@ -4,8 +4,8 @@ use Rattle.page_tree.specs.Tree.{Tree}
 use Rattle.client_log.specs.declared.visit.Visit.{Visit}
 use Rattle.visit_replay.specs.Outcome.{outcome}
 use Rattle.client_log.specs.Log.{Log, cost_of}
-use Rattle.warp_server.specs.Report.{Stop, End, Report, VisitReport, visit_report}
-use Rattle.warp_server.specs.declared.repairing.Replayed.{Replayed}
+use Rattle.warp_server.specs.report.Report.{Stop, End, Report, VisitReport, visit_report}
+use Rattle.warp_server.specs.declared.repair.Replayed.{Replayed}
 
 -- one visit's, by a site's law
 abbrev pub replayed_by : (List ℕ → Option Tree) → (List ℕ → Tree → Tree → Bool) → List (List ℕ) → Visit → Replayed

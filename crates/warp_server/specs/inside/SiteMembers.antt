@@ -7,11 +7,11 @@ use Rattle.xpath_child.specs.Path.{Step}
 use Rattle.xpath_child.specs.Fault.{path_in}
 use Rattle.site_hooks.specs.Table.{table_page as page_at, watched_in}
 use Rattle.site_hooks.specs.declared.table.Table.{Table}
-use Rattle.warp_server.specs.Site.{Entry, Site as PlainSite, patched_in, pages_in, watch_in, quota_in, has_later_member, page_among, IsJsonOf}
+use Rattle.warp_server.specs.site.Site.{Entry, Site as PlainSite, patched_in, pages_in, watch_in, quota_in, has_later_member, page_among, IsJsonOf}
 use Rattle.warp_server.specs.declared.site.Site.{Site}
-use Rattle.warp_server.specs.declared.site_fault.SiteFault.{SiteFault}
-use Rattle.warp_server.specs.declared.site_fault.SiteFault.TheVariants.{NotJson, BadMember, NoMemory}
-use Rattle.warp_server.specs.SiteReading.{Stands}
+use Rattle.warp_server.specs.declared.site.fault.SiteFault.{SiteFault}
+use Rattle.warp_server.specs.declared.site.fault.SiteFault.TheVariants.{NotJson, BadMember, NoMemory}
+use Rattle.warp_server.specs.site.Reading.{Stands}
 
 abbrev pub entries_in : Members → Option (List Entry)
 entries_in no_members = Some []

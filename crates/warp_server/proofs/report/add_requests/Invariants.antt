@@ -1,6 +1,6 @@
 use Rattle.std.proofs.Common.{◌≡◌, ◌++◌, drop, string_bytes}
 use Rattle.std.specs.List.{flat_map}
-use Rattle.warp_server.specs.Report.{request_line}
+use Rattle.warp_server.specs.report.Report.{request_line}
 use Rattle.warp_server.proofs.report.add_requests.Given as goal
 
 abbrev pub invariant-loop-request : goal.invariant-loop-request

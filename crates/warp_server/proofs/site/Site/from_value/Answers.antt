@@ -1,7 +1,7 @@
 use Rattle.std.proofs.Common.{◌≡◌, true, false, is_some, not, sym, ap, ◌∙◌}
 use Rattle.serde_json.specs.View.{view}
 use Rattle.serde_json.specs.Find.{as_object}
-use Rattle.warp_server.specs.Site.{has_later_member}
+use Rattle.warp_server.specs.site.Site.{has_later_member}
 use Rattle.warp_server.proofs.SiteLaws.{object_there, site_made}
 use Rattle.warp_server.proofs.site.Site.from_value.Goals as goal
 

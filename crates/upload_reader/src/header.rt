@@ -1,0 +1,61 @@
+//! What a session looks at in a message.
+ghost use Rattle.std.specs.Prelude.{◌≡◌};
+
+use crate::counts::request_of;
+use crate::message::Message;
+use std::marker::Model;
+use std::snapshot::Snapshot;
+
+/// What decides whether a message may come next: it can be kept while the message itself is moved on. Contracts see it as the message.
+#[derive(Drop)]
+pub struct Header {
+    pub(crate) visit: u64,
+    pub(crate) step: Step,
+    pub(crate) message: Snapshot<Message>,
+}
+
+/// What a message does to its visit.
+#[derive(Drop)]
+pub(crate) enum Step {
+    Load { parent: u64 },
+    /// By an event that made the request of that number, 0 for none.
+    Act { req: u64 },
+    End,
+}
+
+impl Model for Header {
+    ghost use Rattle.std.specs.Coded.{codes};
+    ghost use Rattle.page_tree.specs.contracts.page.Page as pages;
+    ghost use Rattle.upload_reader.specs.declared.message.Message.{Message};
+    ghost use Rattle.upload_reader.specs.inside.Heading.{IsHeader};
+
+    ghost Value = { Message };
+
+    ghost coded = { Prim.hlevel (codes, pages.the_row.coded) };
+
+    ghost view = { λ h. h.message.value };
+
+    ghost invariant = { λ h. IsHeader h.visit h.step h.message.value };
+}
+
+impl Header {
+    pub fn of(message: &Message) -> Header
+        ensures { result ≡ message.now }
+    {
+        let (visit, step) = match message {
+            Message::Load { visit, parent, .. } => (*visit, Step::Load { parent: *parent }),
+            Message::Act { visit, event } => (
+                *visit,
+                Step::Act {
+                    req: request_of(event),
+                },
+            ),
+            Message::Ended { visit, .. } => (*visit, Step::End),
+        };
+        Header {
+            visit,
+            step,
+            message: Snapshot::of(message),
+        }
+    }
+}

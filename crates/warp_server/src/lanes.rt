@@ -1,0 +1,14 @@
+//! What is taken of lanes, and kept in logs.
+mod checks;
+mod fault;
+mod gathered;
+pub(crate) mod gathering;
+mod in_turn;
+mod lane;
+
+pub use fault::{Again, GatherFault};
+pub use gathered::{Gathered, LaneResult, Stop};
+pub use in_turn::{gather_again_in_order, gather_in_order};
+
+#[cfg(test)]
+mod tests;
