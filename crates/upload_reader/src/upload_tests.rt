@@ -271,28 +271,6 @@ fn a_lane_can_go_on_with_a_session(rt: HostRuntime) -> Result<(), Fail> {
     Ok(())
 }
 
-// The lines keep their numbers: the hello stands on line 2 here.
-#[test]
-fn a_lane_goes_on_behind_an_earlier_session(rt: HostRuntime) -> Result<(), Fail> {
-    let alloc = rt.alloc();
-    let mut earlier = Session::new(alloc);
-    let text = text_of(alloc, &[HELLO, LOAD])?;
-    let mut first = begin(alloc, Lines::over(alloc, Fed::new(text.as_slice()))?)?;
-    match first.next() {
-        Next::Got(load, _) => earlier.accept(&load)?,
-        _ => assert!(rt; false, "no load"),
-    }
-    let text = text_of(alloc, &[b"", HELLO, INPUT, LOAD])?;
-    match Upload::hello(alloc, Lines::over(alloc, Fed::new(text.as_slice()))?) {
-        Ok(upload) => {
-            let mut upload = upload.resume(earlier);
-            assert_eq!(rt; run(alloc, &mut upload)?.as_str(), "taken 1, E9.S1@4");
-        }
-        Err(_) => assert!(rt; false, "no hello"),
-    }
-    Ok(())
-}
-
 fn is_sent<T: Send>(_value: &T) -> bool {
     true
 }
