@@ -1,4 +1,4 @@
--- What reading the site line and the lane behind it gives, by how lines are cut.
+-- What reading the site line and the hello behind it gives, by how lines are cut.
 use Rattle.std.proofs.Common.{◌≡◌, ℕ, List, drop, Option, Some, Result, Ok, Err, refl, sym, subst, ◌∙◌, inr}
 use Rattle.std.specs.Prelude.{IsNone}
 use Rattle.serde_json.specs.Data.{Data}
@@ -11,17 +11,15 @@ use Rattle.upload_reader.specs.Upload.{UploadState, Begins}
 use Rattle.upload_reader.specs.declared.hello_fault.HelloFault.{HelloFault}
 use Rattle.upload_reader.specs.declared.hello_fault.HelloFault.TheVariants as hello
 use Rattle.warp_server.specs.site.Site.{Site as PlainSite, IsJsonOf, IsSiteOf}
-use Rattle.warp_server.specs.site.Reading.{site_quota}
 use Rattle.warp_server.specs.program.Run.{site_line, max_site_bytes, HasBadHello, Reads, ReadWhileUndecided}
-use Rattle.warp_server.specs.inside.Gathering.{RecordsOf, ReadsBeforeEnd}
-use Rattle.warp_server.specs.inside.Intake.{IsFresh, IsBehindSite, IsRefused, HasGathered, Intakes, bad_site, no_hello}
-use Rattle.warp_server.specs.declared.lanes.gathering.Gathered.{Gathered}
+use Rattle.warp_server.specs.inside.Intake.{IsFresh, IsBehindSite, IsRefused, bad_site, no_hello}
+use Rattle.warp_server.specs.inside.Answering.{IsUnread}
 use Rattle.warp_server.specs.declared.program.intake.Refused.{Refused}
 use Rattle.warp_server.specs.declared.program.intake.Refused.TheVariants as refused
 use Rattle.warp_server.specs.declared.site.Site.{Site}
 use Rattle.warp_server.specs.declared.site.fault.SiteFault.{SiteFault}
 use Rattle.warp_server.specs.declared.site.fault.SiteFault.TheVariants as site_fault
-use Rattle.warp_server.proofs.NeededLaws.{goes_nowhere, site_later, opening, opens_later}
+use Rattle.warp_server.proofs.NeededLaws.{goes_nowhere, site_later}
 
 -- ---- the site line
 
@@ -51,11 +49,8 @@ line_cut old new line fresh advances same =
 
 module _ {R : Type 0} (answers : R → List Answer) (remaining : R → Option (List ℕ)) (first now : R) (lines : Reading R) (same : lines.first ≡ first)
     (read : WasRead answers remaining lines.first now lines.answers) (needed : ReadWhileUndecided lines.answers) (ends : StopsAtEnd lines.answers) where
-  abbrev Taken : Result (Site × Gathered) Refused → Type 0
-  Taken result = Intakes (answers first) (answers now) (remaining first) (remaining now) result
-
-  out : (P : List ℕ → Option LineFault → Type 0) → P (input lines) (ending_of lines.answers) → Reads (answers first) (answers now) (remaining first) (remaining now) P
-  out P holds = record {
+  pub given_back : (P : List ℕ → Option LineFault → Type 0) → P (input lines) (ending_of lines.answers) → Reads (answers first) (answers now) (remaining first) (remaining now) P
+  given_back P holds = record {
     more = lines.answers;
     reads_are = rw same at read.told;
     bytes_are = rw same at read.bytes;
@@ -64,16 +59,13 @@ module _ {R : Type 0} (answers : R → List Answer) (remaining : R → Option (L
     holds = holds;
   }
 
-  pub refused_out : (refused : Refused) → IsRefused refused (input lines) (ending_of lines.answers) → Taken (Err refused)
-  refused_out refused.ReadFailed holds = out (IsRefused refused.ReadFailed) holds
-  refused_out refused.NoSite holds = out (IsRefused refused.NoSite) holds
-  refused_out refused.NoHello holds = out (IsRefused refused.NoHello) holds
+  pub refused_out : (refused : Refused) → IsRefused refused (input lines) (ending_of lines.answers) → IsUnread (answers first) (answers now) (remaining first) (remaining now) refused
+  refused_out refused.ReadFailed holds = given_back (IsRefused refused.ReadFailed) holds
+  refused_out refused.NoSite holds = given_back (IsRefused refused.NoSite) holds
+  refused_out refused.NoHello holds = given_back (IsRefused refused.NoHello) holds
   refused_out refused.NoMemory holds = tt
 
-  pub gathered_out : (site : Site) (gathered : Gathered) → HasGathered (input lines) (ending_of lines.answers) site gathered → Taken (Ok (site, gathered))
-  gathered_out site gathered holds = out (λ input ending. HasGathered input ending site gathered) holds
-
--- ---- the lane behind the site line
+-- ---- the upload behind the site line
 
 module _ {R : Type 0} (lines : Reading R) (site : Site) (at_site : IsBehindSite lines site) where
   bad_hello : (new : Reading R) (count : ℕ) (fault : HelloFault) → ReadsWhile (upload.NotGreeted lines.place) lines new
@@ -92,16 +84,3 @@ module _ {R : Type 0} (lines : Reading R) (site : Site) (at_site : IsBehindSite 
   hello_refused new hello.NoHello why = bad_hello new why.lines hello.NoHello why.reads (why.greets at_site.fault (λ e. cc))
   hello_refused new (hello.Line number kind) why = bad_hello new why.lines (hello.Line number kind) why.reads (why.greets at_site.fault (λ e. cc))
   hello_refused new hello.NoMemory why = tt
-
-  pub lane_gathered : (begun new : UploadState R) (begins : Begins lines begun) → ReadsBeforeEnd begun new → (gathered : Gathered)
-      → gathered.log.client ≡ begun.client → RecordsOf new (site_quota site) gathered.log.log gathered.taken gathered.stopped
-      → HasGathered (input new.lines) (ending_of new.lines.answers) site gathered
-  lane_gathered begun new begins before gathered client records =
-      let (opens, start) = opens_later lines site at_site begun begins new.lines.answers before.reads.more (ending_of new.lines.answers) before.reads.answers in
-      record {
-        opening = opening lines site at_site begun begins;
-        opens = opens;
-        stands = at_site.stands;
-        client = client;
-        records = rw (before.lane ∙ begins.lane, before.start ∙ start) at records;
-      }

@@ -1,22 +1,30 @@
 -- What taking the next of a lane keeps.
-use Rattle.std.proofs.Common.{◌≡◌, ℕ, ◌+◌, ◌<◌, List, [], ◌∷◌, ◌++◌, length, take, true, false, is_some, Option, Some, None, inr, refl, sym, ap, subst, ◌∙◌, arith, append_assoc, append-nil, true≢false}
+use Rattle.std.proofs.Common.{◌≡◌, ℕ, ◌+◌, ◌≤◌, ◌<◌, List, [], ◌∷◌, ◌++◌, length, take, drop, true, false, is_some, Option, Some, None, refl, sym, ap, subst, ◌∙◌, arith, append_assoc, append-nil, true≢false}
 use Rattle.std.specs.Result.{is_err}
-use Rattle.std.proofs.lemmas.List.{length-append}
+use Rattle.std.proofs.lemmas.List.{length-append, take-append-drop}
 use Rattle.client_log.proofs.Moving.{take_past}
 use Rattle.std.specs.Prelude.{IfSome, OnOk, OnErr, Result, Ok, Err}
 use Rattle.std.proofs.Math.Seq.{take-append_seam}
 use Rattle.byte_streams.specs.Reading.{ReadsWhile}
 use Rattle.byte_streams.proofs.ReadingLaws.{reads_then}
+use Rattle.upload_reader.specs.Limits.{max_messages}
 use Rattle.upload_reader.specs.Next.{next_of, IfOver}
-use Rattle.upload_reader.specs.Stream.{Costed}
+use Rattle.upload_reader.specs.Stream.{Costed, BeginsWith}
 use Rattle.upload_reader.specs.Upload.{UploadState, GivesFirst, EndsBy, NothingMore}
 use Rattle.upload_reader.specs.declared.ending.Ending.{Ending}
 use Rattle.client_log.specs.Client.{OfClient}
 use Rattle.client_log.specs.Log.{kept}
 use Rattle.client_log.specs.Session.{session_of}
-use Rattle.warp_server.specs.lanes.Lane.{NotOver, ReadsBeforeEnd, GoesOn}
+use Rattle.warp_server.specs.lanes.Lane.{NotOver, ReadsBeforeEnd, Continues}
 use Rattle.warp_server.specs.lanes.Round.{IsAsked, IsTakenInTurn}
 use Rattle.warp_server.specs.declared.lanes.gathered.LaneResult.{LaneResult}
+
+-- a front of a front
+pub shorter_front : {A : Type 0} (xs ys all : List A) → BeginsWith (xs ++ ys) all → BeginsWith xs all
+shorter_front xs ys all front =
+    let rest = drop (length (xs ++ ys)) all in
+    ap (take (length xs)) (sym (take-append-drop (length (xs ++ ys)) all) ∙ ap (λ part. part ++ rest) front ∙ append_assoc xs ys rest)
+    ∙ take-append_seam xs (ys ++ rest)
 
 -- ---- how often it was asked
 
@@ -63,14 +71,14 @@ module _ {R : Type 0} where
   pub record Given (before : OfClient) (begun : UploadState R) (lane : LaneResult R) (upload : UploadState R) : Type 0 where
     pub own : ReadsBeforeEnd begun upload
     pub count : lane.taken ≡ length upload.given
-    pub goes_on : GoesOn before lane.log upload.given
+    pub goes_on : Continues before lane.log upload.given
 
   given_now : (before : OfClient) (begun : UploadState R) (asked : ℕ) (lane : LaneResult R) → (h : IsTakenInTurn before begun asked 0 lane) → Given before begun lane h.is_taken.now
   given_now before begun asked lane h =
       let t = h.is_taken in
       let count : lane.taken ≡ length t.now.given = omega (arith, t.some, h.ahead_is) in
       let all : take lane.taken t.now.given ≡ t.now.given = take_past lane.taken t.now.given (omega (arith, h.ahead_is)) in
-      record { own = t.own; count = count; goes_on = subst (λ messages. GoesOn before lane.log messages) all t.goes_on }
+      record { own = t.own; count = count; goes_on = subst (λ messages. Continues before lane.log messages) all t.goes_on }
 
   same_upload : (known : Option (UploadState R)) (upload upload' : UploadState R) → known ≡ Some upload → known ≡ Some upload' → upload ≡ upload'
   same_upload known upload upload' is also = cc
@@ -98,7 +106,7 @@ module _ {R : Type 0} where
     pub stays : is_some lane.end ≡ true → IsTakenInTurn before begun (asked + 1) 0 lane
     stays ended = record { is_taken = h.is_taken; asked_is = asked_again asked lane.taken lane.end ended h.asked_is; ahead_is = h.ahead_is }
 
-    module _ (u v : UploadState R) (upload_is : lane.upload ≡ Some u) (going : is_some lane.end ≡ false) (reads : ReadsWhile (NothingMore u) u.lines v.lines) (first : GivesFirst v) where
+    module _ (u v : UploadState R) (upload_is : lane.upload ≡ Some u) (going : is_some lane.end ≡ false) (reads : ReadsWhile (NothingMore u) u.lines v.lines) (first : GivesFirst v) (few : length v.given ≤ max_messages) where
       known : Given before begun lane u
       known = given_of before begun asked lane u h upload_is
 
@@ -113,7 +121,7 @@ module _ {R : Type 0} where
           let size : length v.given ≡ length u.given + 1 = ap length given ∙ length-append u.given (one ∷ []) in
           let all : take (lane.taken + 1) v.given ≡ u.given ++ one ∷ [] = take_past (lane.taken + 1) v.given (omega (arith, size, known.count)) ∙ given in
           let same_quota = known.goes_on.quota in
-          let goes_on : GoesOn before log (u.given ++ one ∷ []) = record {
+          let goes_on : Continues before log (u.given ++ one ∷ []) = record {
             client = client ∙ known.goes_on.client;
             quota = quota ∙ same_quota;
             log_is = λ earlier stood.
@@ -127,9 +135,10 @@ module _ {R : Type 0} where
               now = v;
               upload_is = refl;
               own = read_on begun u v (u.given ++ one ∷ []) None known.own is reads;
-              first = inr first;
+              first = first;
+              few = few;
               some = omega (arith, size, known.count);
-              goes_on = subst (λ messages. GoesOn before log messages) (sym all) goes_on;
+              goes_on = subst (λ messages. Continues before log messages) (sym all) goes_on;
               ends = no_end lane.end _ going;
             };
             asked_is = asked_more asked lane.taken lane.end going h.asked_is;
@@ -148,9 +157,10 @@ module _ {R : Type 0} where
               now = v;
               upload_is = refl;
               own = read_on begun u v (u.given ++ one ∷ []) None known.own is reads;
-              first = inr first;
+              first = first;
+              few = few;
               some = omega (arith, size, known.count);
-              goes_on = subst (λ messages. GoesOn before log messages) (sym front) (subst (λ l. GoesOn before l u.given) (sym same) known.goes_on);
+              goes_on = subst (λ messages. Continues before log messages) (sym front) (subst (λ l. Continues before l u.given) (sym same) known.goes_on);
               ends = no_end lane.end _ going;
             };
             asked_is = h.asked_is;
@@ -169,9 +179,10 @@ module _ {R : Type 0} where
               now = v;
               upload_is = refl;
               own = read_on begun u v (u.given ++ []) (Some end) known.own is reads;
-              first = inr first;
+              first = first;
+              few = few;
               some = omega (arith, size, known.count);
-              goes_on = subst (λ messages. GoesOn before lane.log messages) (sym all) known.goes_on;
+              goes_on = subst (λ messages. Continues before lane.log messages) (sym all) known.goes_on;
               ends = record { ending = ap (λ upload. upload.ending) is; all = known.count ∙ sym size; over = over };
             };
             asked_is = asked_ended asked lane.taken lane.end going h.asked_is;

@@ -4,6 +4,6 @@ pub mod OpeningLaws
 pub mod NeededLaws
 pub mod LaneSteps
 pub mod RoundLaws
-pub mod GatherLaws
+pub mod OnlyLaws
 pub mod IntakeLaws
 pub mod RunLaws

@@ -1,20 +1,28 @@
 -- What following a schedule keeps, lane by lane.
-use Rattle.std.proofs.Common.{◌≡◌, ◌≢◌, ℕ, zero, suc, ◌+◌, ◌≤◌, ◌<◌, List, [], ◌∷◌, ◌++◌, length, map, take, drop, set, get_or, Bool, true, false, ◌||◌, ◌==◌, if◌then◌else◌, bytes_eq, slice_get, Option, Some, None, inl, inr, ◌⊎◌, refl, sym, ap, subst, ◌∙◌, arith, append-nil, true≢false}
+use Rattle.std.proofs.Common.{◌≡◌, ◌≢◌, ℕ, zero, suc, ◌+◌, ◌≤◌, ◌<◌, List, [], ◌∷◌, ◌++◌, length, map, take, drop, set, get_or, replicate, is_some, Bool, true, false, ◌||◌, ◌&&◌, ◌==◌, if◌then◌else◌, bytes_eq, slice_get, Option, Some, None, inl, inr, ◌⊎◌, refl, sym, ap, subst, ◌∙◌, arith, append-nil, true≢false}
 use Rattle.std.proofs.lemmas.Bool.Decides.{nat_tests}
-use Rattle.std.proofs.lemmas.List.{length-map, length-set, get_or-set_same, get_or-set_other}
-use Rattle.std.proofs.lemmas.List.Sums.{count_by_more_yes, count_by_more_no}
+use Rattle.std.proofs.lemmas.List.{length-map, length-set, length-replicate, get_or-replicate, get_or-set_same, get_or-set_other}
+use Rattle.std.proofs.lemmas.List.Sums.{count_by_more_yes, count_by_more_no, sum_by-take-le}
 use Rattle.std.proofs.lemmas.Option.{slice_get_within, slice_get-get_or, get_or_from_slice_get, slice_get-map}
-use Rattle.std.proofs.Math.Seq.{take-append_seam}
+use Rattle.std.proofs.Math.Seq.{take-append_seam, take-length}
 use Rattle.std.specs.List.{AllByRecursion, list_any}
 use Rattle.std.specs.Option.{option_map, option_map_or}
 use Rattle.indexmap.specs.IndexMap.{set_value_at}
 use Rattle.byte_streams.proofs.ReadingLaws.{reads_none}
-use Rattle.upload_reader.specs.Upload.{UploadState, IsUntouched}
+use Rattle.byte_streams.specs.CompleteLines.{complete_lines}
+use Rattle.byte_streams.specs.Reading.{input}
+use Rattle.byte_streams.specs.declared.fault.LineFault.{LineFault}
+use Rattle.upload_reader.specs.Limits.{max_line_bytes}
+use Rattle.upload_reader.specs.Stream.{Costed, Stream, IsSaid, UnlessHad, IsStreamOf, BeginsWith, messages_in, line_end, stop_end}
+use Rattle.upload_reader.specs.Upload.{UploadState, IsUntouched, GivesFirst, lane_bytes}
+use Rattle.upload_reader.specs.declared.ending.Ending.{Ending}
+use Rattle.upload_reader.proofs.FrontLaws.{taken_exists, passes_none}
+use Rattle.upload_reader.proofs.LaneLaws.{is_stream}
 use Rattle.client_log.specs.Client.{OfClient}
 use Rattle.client_log.specs.Log.{kept}
 use Rattle.client_log.specs.Session.{session_of}
 use Rattle.warp_server.specs.lanes.Lane.{NotOver}
-use Rattle.warp_server.specs.lanes.Round.{has_twice, clients_of, log_before, resumed, rested, entries_of, ahead_of, IsTakenInTurn, IsLane, AreLanes}
+use Rattle.warp_server.specs.lanes.Round.{has_twice, clients_of, log_before, resumed, rested, entries_of, ahead_of, have_ended, IsAsked, IsTakenInTurn, IsLane, AreLanes}
 use Rattle.warp_server.specs.inside.Lanes.{begun_lane, rested_at, HasFewTaken, HaveFewTaken, one_more, only, none}
 use Rattle.warp_server.specs.declared.lanes.gathered.Stop.TheVariants as stop
 use Rattle.warp_server.specs.declared.lanes.gathered.LaneResult.{LaneResult}
@@ -26,6 +34,14 @@ pick_true false x y is = absurd (true≢false (sym is))
 pick_false : {A : Type 0} (b : Bool) (x y : A) → b ≡ false → (if b then x else y) ≡ y
 pick_false true x y is = absurd (true≢false is)
 pick_false false x y is = refl
+
+and_first : (a b : Bool) → (a && b) ≡ true → a ≡ true
+and_first true b is = refl
+and_first false b is = is
+
+and_then : (a b : Bool) → (a && b) ≡ true → b ≡ true
+and_then true b is = is
+and_then false b is = absurd (true≢false (sym is))
 
 -- ---- clients
 
@@ -103,6 +119,50 @@ entries_more schedule n within j = by (get_or schedule n 0 == j) refl
 pub only_there : (schedule : List ℕ) (n : ℕ) → n < length schedule → (j : ℕ) → only (get_or schedule n 0) j ≡ ahead_of schedule n stop.Memory j
 only_there schedule n within j = ap (λ entry. if option_map_or (λ e. e == j) entry false then 1 else 0) (sym (slice_get-get_or schedule n 0 within))
 
+-- the same of entries that all ask lane 0
+abbrev zeros : ℕ → List ℕ
+zeros n = replicate n 0
+
+module _ (asked n : ℕ) (within : n < asked) where
+  zero_there : get_or (zeros asked) n 0 ≡ 0
+  zero_there = get_or-replicate asked n 0 0 within
+
+  within_zeros : n < length (zeros asked)
+  within_zeros = omega (arith, within, length-replicate {A = ℕ} asked 0)
+
+  pub zeros_more : (j : ℕ) → one_more 0 (entries_of (take n (zeros asked))) j ≡ entries_of (take (n + 1) (zeros asked)) j
+  zeros_more j = ap (λ k. one_more k (entries_of (take n (zeros asked))) j) (sym zero_there) ∙ entries_more (zeros asked) n within_zeros j
+
+  pub zeros_there : (j : ℕ) → only 0 j ≡ ahead_of (zeros asked) n stop.Memory j
+  zeros_there j = ap (λ k. only k j) (sym zero_there) ∙ only_there (zeros asked) n within_zeros j
+
+pub entries_few : (schedule : List ℕ) (n j : ℕ) → entries_of (take n schedule) j ≤ entries_of (take (length schedule) schedule) j
+entries_few schedule n j = subst (λ all. entries_of (take n schedule) j ≤ entries_of all j) (sym (take-length schedule)) (sum_by-take-le _ schedule n)
+
+-- ---- a lane of which nothing was given
+
+nothing_first : {R : Type 0} (upload : UploadState R) → upload.given ≡ [] → GivesFirst upload
+nothing_first {R = R} upload fresh more ending = by upload.lane.fault refl
+  where
+    bytes : List ℕ
+    bytes = lane_bytes upload (input upload.lines ++ more)
+
+    First : Type 0
+    First = (stream : Stream) × IsStreamOf upload.lane bytes ending stream × BeginsWith upload.given stream.messages
+
+    front : (messages : List Costed) → BeginsWith upload.given messages
+    front messages = rw fresh refl
+
+    by : (had : Option LineFault) → upload.lane.fault ≡ had → First
+    by None none =
+        let lane = upload.lane in
+        let (lines, end, taken, extra, same) = taken_exists max_line_bytes (line_end lane) (stop_end lane) bytes ending [] (complete_lines bytes) (passes_none max_line_bytes (line_end lane) (stop_end lane)) refl in
+        let stream : Stream = record { messages = messages_in lines; end = end } in
+        (stream, is_stream lane bytes ending stream none (record { front = lines; taken = taken; messages = refl }), front stream.messages)
+    by (Some had) some =
+        let stream : Stream = record { messages = []; end = stop_end upload.lane [] had } in
+        (stream, subst (λ fault. UnlessHad fault upload.lane stream (IsSaid upload.lane bytes ending stream)) (sym some) refl, front [])
+
 -- ---- lanes
 
 pub few_set : {R : Type 0} (lanes : List (List ℕ × LaneResult R)) (k : ℕ) (lane : List ℕ × LaneResult R) → k < length lanes → HaveFewTaken lanes → HasFewTaken lane.1
@@ -132,6 +192,34 @@ module _ {R : Type 0} (known : List ℕ → Option (LaneResult R)) (quota : ℕ)
       → AreLanes known quota uploads asked ahead lanes → AreLanes known quota uploads asked' ahead' lanes
   lanes_asked asked asked' ahead ahead' lanes same same_ahead are =
       record { count = are.count; each = λ j lane at. lane_asked asked asked' ahead ahead' j lane (same j) (same_ahead j) (are.each j lane at) }
+
+  ended_more : (end : Option Ending) (asked asked' taken : ℕ) → is_some end ≡ true → asked ≤ asked' → IsAsked asked taken end → IsAsked asked' taken end
+  ended_more None asked asked' taken ended more is = absurd (true≢false (sym ended))
+  ended_more (Some end) asked asked' taken ended more is = omega (arith, more, is)
+
+  end_at : (lanes : List (List ℕ × LaneResult R)) (j : ℕ) (lane : List ℕ × LaneResult R) → slice_get lanes j ≡ Some lane → have_ended lanes ≡ true → is_some lane.1.end ≡ true
+  end_at [] j lane at ended = absurd (omega (arith, slice_get_within {A = List ℕ × LaneResult R} [] j lane at))
+  end_at (first ∷ lanes) zero lane at ended = let same : first ≡ lane = cc in ap (λ l. is_some l.1.end) (sym same) ∙ and_first (is_some first.1.end) (have_ended lanes) ended
+  end_at (first ∷ lanes) (suc j) lane at ended = end_at lanes j lane at (and_then (is_some first.1.end) (have_ended lanes) ended)
+
+  -- lanes that have ended may be asked more often
+  pub lanes_ended : (asked asked' : ℕ → ℕ) (lanes : List (List ℕ × LaneResult R)) → have_ended lanes ≡ true → ((j : ℕ) → asked j ≤ asked' j)
+      → AreLanes known quota uploads asked none lanes → AreLanes known quota uploads asked' none lanes
+  lanes_ended asked asked' lanes ended more are = record {
+    count = are.count;
+    each = λ j lane at.
+        let is = are.each j lane at in
+        record {
+          upload = is.upload;
+          upload_at = is.upload_at;
+          client = is.client;
+          in_turn = record {
+            is_taken = is.in_turn.is_taken;
+            asked_is = ended_more lane.1.end (asked j) (asked' j) lane.1.taken (end_at lanes j lane at ended) (more j) is.in_turn.asked_is;
+            ahead_is = is.in_turn.ahead_is;
+          };
+        };
+  }
 
   -- no lane has that number
   pub lanes_past : (asked : ℕ → ℕ) (k : ℕ) (lanes : List (List ℕ × LaneResult R)) → length lanes ≤ k → AreLanes known quota uploads asked none lanes → AreLanes known quota uploads (one_more k asked) none lanes
@@ -187,13 +275,14 @@ module _ {R : Type 0} (known : List ℕ → Option (LaneResult R)) (quota : ℕ)
 
   lane_begun : (before : OfClient) (upload : UploadState R) → upload.given ≡ [] → IsTakenInTurn before upload 0 0 (record { log = before; taken = 0; end = None; upload = Some upload })
   lane_begun before upload fresh =
-      let none : length upload.given ≡ 0 = ap length fresh in
+      let none_given : length upload.given ≡ 0 = ap length fresh in
       record {
         is_taken = record {
           now = upload;
           upload_is = refl;
           own = record { client = refl; lane = refl; start = refl; reads = reads_none (NotOver upload) upload.lines upload.lines refl refl };
-          first = inl fresh;
+          first = nothing_first upload fresh;
+          few = omega (arith, none_given);
           some = omega arith;
           goes_on = record {
             client = refl;
@@ -204,7 +293,7 @@ module _ {R : Type 0} (known : List ℕ → Option (LaneResult R)) (quota : ℕ)
           ends = tt;
         };
         asked_is = refl;
-        ahead_is = omega (arith, none);
+        ahead_is = omega (arith, none_given);
       }
 
   pub lanes_begun : (lanes : List (List ℕ × LaneResult R)) → AllByRecursion IsUntouched uploads → lanes ≡ map (begun_lane known quota) uploads → AreLanes known quota uploads (entries_of []) none lanes

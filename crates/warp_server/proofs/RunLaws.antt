@@ -1,10 +1,19 @@
 -- What a run does, by what was read and written.
-use Rattle.std.proofs.Common.{◌≡◌, ℕ, List, [], ◌∷◌, length, map, Bool, if◌then◌else◌, Option, refl, ◌∙◌, ap, inl, inr, ◌⊎◌}
+use Rattle.std.proofs.Common.{◌≡◌, ℕ, List, [], ◌∷◌, ◌++◌, length, map, take, drop, Bool, false, ◌||◌, if◌then◌else◌, true≢false, Option, Some, None, refl, sym, ap, subst, ◌∙◌, inl, inr, ◌⊎◌}
+use Rattle.std.specs.Prelude.{IsSome, IfSome}
 use Rattle.std.specs.List.{list_any}
+use Rattle.std.proofs.lemmas.List.{length-take-le, take-append-drop}
+use Rattle.std.proofs.Math.Seq.{take-length}
 use Rattle.byte_streams.specs.Answers.{Answer, bytes_of}
-use Rattle.byte_streams.specs.Cutting.{ending_of}
-use Rattle.upload_reader.specs.Stream.{Costed}
+use Rattle.byte_streams.specs.Cutting.{ending_of, StopsAtEnd}
+use Rattle.byte_streams.specs.Reading.{Reading, WasRead, input}
+use Rattle.byte_streams.specs.Writing.{Takes, TakesPart}
 use Rattle.byte_streams.specs.declared.fault.LineFault.{LineFault}
+use Rattle.indexmap.specs.IndexMap.{values}
+use Rattle.upload_reader.specs.Stream.{Costed, Lane, BeginsWith}
+use Rattle.upload_reader.specs.Upload.{UploadState}
+use Rattle.upload_reader.specs.declared.ending.Ending.{Ending}
+use Rattle.upload_reader.specs.declared.ending.Ending.TheVariants.{Over, GaveUp}
 use Rattle.upload_reader.specs.declared.lane_fault.LaneEnd.{LaneEnd}
 use Rattle.page_tree.specs.Tree.{Tree}
 use Rattle.xpath_child.specs.Path.{Step}
@@ -17,17 +26,23 @@ use Rattle.visit_replay.specs.declared.outcome.Outcome.{Outcome}
 use Rattle.visit_replay.specs.declared.outcome.Outcome.TheVariants.{Untouched}
 use Rattle.warp_server.specs.site.Site.{Site as PlainSite, page_of, signals_of}
 use Rattle.warp_server.specs.site.Reading.{Stands, site_patch, site_table, site_quota}
-use Rattle.warp_server.specs.report.Report.{Stop, none, End, over, visit_report, report_text}
-use Rattle.warp_server.specs.inside.ReplayedVisits.{replayed_by, report_of_visit}
-use Rattle.warp_server.specs.inside.Gathering.{stop_of, end_of}
-use Rattle.warp_server.specs.inside.Intake.{HasGathered}
-use Rattle.warp_server.specs.program.Run.{report_of, visit_of, IsReportOf, HasReport, HasShortReport, IsShort, Reads, Writes, WritesPart, Meets}
-use Rattle.warp_server.specs.inside.Running.{lane_report, status_of}
-use Rattle.byte_streams.specs.Writing.{Takes, TakesPart}
-use Rattle.warp_server.specs.declared.lanes.gathering.Gathered.{Gathered}
-use Rattle.warp_server.specs.declared.lanes.gathering.Stopped.{Stopped}
-use Rattle.warp_server.specs.declared.lanes.gathering.Stopped.TheVariants as stopped
+use Rattle.warp_server.specs.lanes.Lane.{EndsWith}
+use Rattle.warp_server.specs.report.Report.{visit_report, report_text}
+use Rattle.warp_server.specs.program.Run.{client_of, visit_of, Opening, OpensBy, lane_behind, lane_place, AreAll, AreFirst, IsReportOf, HasReport, HasShortReport, IsShort, Reads, Writes, WritesPart, WritesNothing, Meets}
+use Rattle.warp_server.specs.inside.Answering.{IsOpened, IsWhole, HasText, IsUnread, IsAnswered, gave_up, status_by, status_of, refused_status}
+use Rattle.warp_server.specs.inside.Reported.{replayed_by, report_of_visit, lane_report, gathered_report}
+use Rattle.warp_server.specs.declared.lanes.gathered.Gathered.{Gathered}
+use Rattle.warp_server.specs.declared.lanes.gathered.LaneResult.{LaneResult}
+use Rattle.warp_server.specs.declared.lanes.gathered.Stop.{Stop}
+use Rattle.warp_server.specs.declared.lanes.gathered.Stop.TheVariants as stops
+use Rattle.warp_server.specs.declared.program.intake.Refused.{Refused}
+use Rattle.warp_server.specs.declared.program.intake.Refused.TheVariants as refused
+use Rattle.warp_server.specs.declared.program.status.Status.{Status}
+use Rattle.warp_server.specs.declared.program.status.Status.TheVariants.{Done, BadSite, BadHello, OutOfMemory, InputOutput}
 use Rattle.warp_server.specs.declared.site.Site.{Site}
+use Rattle.warp_server.proofs.NeededLaws.{goes_nowhere, opening, opens_later, lane_needed}
+use Rattle.warp_server.proofs.IntakeLaws.{given_back}
+use Rattle.warp_server.proofs.LaneSteps.{shorter_front}
 
 -- ---- a site that stands for another gives the same outcomes
 
@@ -50,76 +65,165 @@ same_visits site plain (visit ∷ visits) stands =
 
 -- ---- the report of what was taken is that of the input
 
-same_report : (site : Site) (plain : PlainSite) (gathered : Gathered) (client : List ℕ) (messages : List Costed) → Stands site plain → gathered.log.client ≡ client → gathered.taken ≡ length messages
-    → gathered.log.log ≡ kept (site_quota site) messages → lane_report site gathered ≡ report_of plain (stop_of gathered.stopped) client messages (end_of gathered.stopped)
-same_report site plain gathered client messages stands clients takens logs =
-    let log : gathered.log.log ≡ kept plain.quota messages = rw (← stands.quota) logs in
-    let visits = same_visits site plain gathered.log.log.visits stands in
+same_lane : {R : Type 0} (site : Site) (plain : PlainSite) (lane : LaneResult R) (client : List ℕ) (messages : List Costed) → Stands site plain → lane.log.client ≡ client
+    → lane.taken ≡ length messages → lane.log.log ≡ kept (site_quota site) messages → lane_report site lane ≡ client_of plain client (length messages) lane.end (kept plain.quota messages)
+same_lane site plain lane client messages stands clients takens logs =
+    let log : lane.log.log ≡ kept plain.quota messages = rw (← stands.quota) logs in
+    let visits = same_visits site plain lane.log.log.visits stands in
     rw (visits, clients, takens, log) refl
 
--- ---- the report of the input
+module _ {R : Type 0} (fresh : Reading R) (site : Site) (upload : UploadState R) (opened : IsOpened fresh site upload) (gathered : Gathered R) (whole : IsWhole upload (site_quota site) gathered)
+    (text : List ℕ) (text_is : text ≡ report_text (gathered_report site gathered)) where
+  abbrev lane : LaneResult R
+  lane = whole.lane
 
-module _ (input : List ℕ) (ending : Option LineFault) (site : Site) (gathered : Gathered) (held : HasGathered input ending site gathered) (text : List ℕ)
-    (text_is : text ≡ report_text (lane_report site gathered)) where
-  same_text : text ≡ report_text (report_of held.opening.site (stop_of gathered.stopped) held.opening.client held.records.messages (end_of gathered.stopped))
-  same_text =
-      text_is
-      ∙ ap report_text
-      (same_report site held.opening.site gathered held.opening.client held.records.messages held.stands held.client held.records.count held.records.log_is)
+  abbrev now : UploadState R
+  now = whole.is_taken.now
 
-  abbrev reported : (stop : Stop) (end : End) → text ≡ report_text (report_of held.opening.site stop held.opening.client held.records.messages end)
-      → IsReportOf input ending stop held.records.messages end text
-  reported stop end is = record { opening = held.opening; opens = held.opens; text_is = is }
+  abbrev read : List ℕ
+  read = input now.lines
 
-  whole : (end : LaneEnd) → gathered.stopped ≡ stopped.Over end → HasReport input ending text
-  whole end is = record {
-    messages = held.records.messages;
+  abbrev ending : Option LineFault
+  ending = ending_of now.lines.answers
+
+  abbrev begun : Opening
+  begun = opening opened.at site opened.behind upload opened.begins
+
+  abbrev messages : List Costed
+  messages = take lane.taken now.given
+
+  opens : OpensBy read ending begun × (upload.start ≡ lane_place begun read)
+  opens =
+      opens_later opened.at site opened.behind upload opened.begins now.lines.answers whole.is_taken.own.reads.more ending whole.is_taken.own.reads.answers
+
+  kept_is : lane.log.log ≡ kept (site_quota site) messages
+  kept_is = whole.is_taken.goes_on.log_is [] refl
+
+  count : lane.taken ≡ length messages
+  count = sym (length-take-le lane.taken now.given whole.is_taken.some)
+
+  same_client : lane_report site lane ≡ client_of opened.behind.plain upload.client (length messages) lane.end (kept opened.behind.plain.quota messages)
+  same_client =
+      same_lane site opened.behind.plain lane upload.client messages opened.behind.stands whole.is_taken.goes_on.client count kept_is
+
+  abbrev reported : (stop : Stop) (end : Option Ending) → gathered.stop ≡ stop → lane.end ≡ end → IsReportOf read ending stop messages end text
+  reported stop end stops ends = record {
+    opening = begun;
+    opens = opens.0;
+    text_is =
+        text_is
+        ∙ ap (λ entries. report_text (record { stop = gathered.stop; clients = map (lane_report site) (map (λ entry. entry.1) entries) })) whole.only.entries_are
+        ∙ ap (λ client. report_text (record { stop = gathered.stop; clients = client ∷ [] })) same_client
+        ∙ ap (λ s. report_text (record { stop = s; clients = client_of begun.site begun.client (length messages) lane.end (kept begun.site.quota messages) ∷ [] })) stops
+        ∙ ap (λ e. report_text (record { stop = stop; clients = client_of begun.site begun.client (length messages) e (kept begun.site.quota messages) ∷ [] })) ends;
+  }
+
+  of_lane : (P : Lane → ℕ → Type 0) → P now.lane now.start → P (lane_behind begun) (lane_place begun read)
+  of_lane P holds =
+      let lane_is : now.lane ≡ lane_behind begun = whole.is_taken.own.lane ∙ opened.begins.lane in
+      let start_is : now.start ≡ lane_place begun read = whole.is_taken.own.start ∙ opens.1 in
+      subst (λ l. P l (lane_place begun read)) lane_is (subst (λ n. P now.lane n) start_is holds)
+
+  short : (stop : Stop) (end : Option Ending) → gathered.stop ≡ stop → lane.end ≡ end → IsShort stop end → HasShortReport read ending text
+  short stop end stops ends is_short = record {
+    messages = messages;
+    stop = stop;
     end = end;
-    report = reported none (over end) (rw is at same_text);
-    all = held.records.ends end is;
-  }
-
-  short : IsShort (stop_of gathered.stopped) (end_of gathered.stopped) → HasShortReport input ending text
-  short is_short = record {
-    messages = held.records.messages;
-    stop = stop_of gathered.stopped;
-    end = end_of gathered.stopped;
     is_short = is_short;
-    report = reported (stop_of gathered.stopped) (end_of gathered.stopped) same_text;
-    first = held.records.first;
+    report = reported stop end stops ends;
+    first =
+        of_lane (λ l place. AreFirst l place read messages)
+        (λ more last.
+        let (stream, said, front) = whole.is_taken.first more last in
+        (stream, said, shorter_front messages (drop lane.taken now.given) stream.messages (subst (λ all. BeginsWith all stream.messages) (sym (take-append-drop lane.taken now.given)) front)));
   }
 
-  any_by : (why : Stopped) → gathered.stopped ≡ why → HasReport input ending text ⊎ HasShortReport input ending text
-  any_by (stopped.Over end) is = inl (whole end is)
-  any_by stopped.GaveUp is = inr (short (rw is (inl (refl, refl))))
-  any_by stopped.Memory is = inr (short (rw is (inr (refl, refl))))
+  all_taken : (end : Ending) → EndsWith now lane.taken end → messages ≡ now.given
+  all_taken end ends = ap (λ n. take n now.given) ends.all ∙ take-length now.given
+
+  over : (end : LaneEnd) → gathered.stop ≡ stops.None → lane.end ≡ Some (Over end) → EndsWith now lane.taken (Over end) → HasReport read ending text
+  over end stop is ends = record {
+    messages = messages;
+    end = end;
+    report = reported stops.None (Some (Over end)) stop is;
+    all =
+        of_lane (λ l place. AreAll l place read ending messages end)
+        (subst (λ given. AreAll now.lane now.start read ending given end) (sym (all_taken (Over end) ends)) (ends.over read ending (goes_nowhere read ending)));
+  }
+
+  -- how a run ends whose only lane has that end
+  abbrev status_with : Option Ending → Status
+  status_with end = if gave_up end || false then OutOfMemory else Done
+
+  status_ended : (end : Ending) → gathered.stop ≡ stops.None → lane.end ≡ Some end → EndsWith now lane.taken end → HasText (status_by stops.None (lane ∷ [])) read ending text
+  status_ended (Over end) stop is ends = subst (λ e. HasText (status_with e) read ending text) (sym is) (over end stop is ends)
+  status_ended GaveUp stop is ends = subst (λ e. HasText (status_with e) read ending text) (sym is) (short stops.None (Some GaveUp) stop is (inl (refl, refl)))
+
+  ended_by : (end : Option Ending) → lane.end ≡ end → IsSome end → IfSome end (EndsWith now lane.taken) → gathered.stop ≡ stops.None → HasText (status_by stops.None (lane ∷ [])) read ending text
+  ended_by None is some ends stop = absurd (true≢false (sym some))
+  ended_by (Some end) is some ends stop = status_ended end stop is ends
+
+  status_is : (stop : Stop) → gathered.stop ≡ stop → status_of gathered ≡ status_by stop (lane ∷ [])
+  status_is stop is = ap (λ s. status_by s (values gathered.clients)) is ∙ ap (λ entries. status_by stop (map (λ entry. entry.1) entries)) whole.only.entries_are
+
+  pub has_text : HasText (status_of gathered) read ending text
+  has_text = elim whole.ends [
+    | inl (stop, some) ↦
+        subst (λ status. HasText status read ending text) (sym (status_is stops.None stop)) (ended_by lane.end refl some whole.is_taken.ends stop)
+    | inr (stop, none) ↦
+        subst (λ status. HasText status read ending text) (sym (status_is stops.Memory stop)) (short stops.Memory None stop none (inr (refl, refl)))
+  ]
+
+-- ---- the reader is given back
+
+-- the only lane of the clients is the last one
+pub last_only : {X : Type 0} (x y : X) (front : List X) → x ∷ [] ≡ front ++ y ∷ [] → x ≡ y
+last_only x y [] is = cc
+last_only x y (z ∷ []) is = cc
+last_only x y (z ∷ w ∷ front) is = cc
+
+module _ {R : Type 0} (answers : R → List Answer) (remaining : R → Option (List ℕ)) (fresh : Reading R) (site : Site) (upload : UploadState R) (opened : IsOpened fresh site upload)
+    (gathered : Gathered R) (whole : IsWhole upload (site_quota site) gathered) where
+  abbrev after : UploadState R
+  after = whole.is_taken.now
+
+  pub same_reader : after.lines.first ≡ fresh.first
+  same_reader = whole.is_taken.own.reads.first ∙ opened.begins.reads.first ∙ opened.first
+
+  pub answered : (text : List ℕ) → text ≡ report_text (gathered_report site gathered) → (reader : R) → WasRead answers remaining after.lines.first reader after.lines.answers → StopsAtEnd after.lines.answers
+      → IsAnswered (answers fresh.first) (answers reader) (remaining fresh.first) (remaining reader) (status_of gathered) text
+  answered text is reader read ends =
+      given_back answers remaining fresh.first reader after.lines same_reader read
+      (lane_needed opened.at site opened.behind upload opened.begins after.lines opened.needed whole.is_taken.own.reads) ends
+      (λ input ending. HasText (status_of gathered) input ending text) (has_text fresh site upload opened gathered whole text is)
 
 -- ---- what was written
 
-module _ (reads reads' : List Answer) (left left' : Option (List ℕ)) (puts puts' : List Answer) (contents contents' : Option (List ℕ)) (site : Site)
-    (gathered : Gathered) (text : List ℕ) (read : Reads reads reads' left left' (λ input ending. HasGathered input ending site gathered))
-    (is : text ≡ report_text (lane_report site gathered)) where
-  abbrev input : List ℕ
-  input = bytes_of read.more
+module _ (reads reads' : List Answer) (left left' : Option (List ℕ)) (puts puts' : List Answer) (contents contents' : Option (List ℕ)) where
+  any_text : (status : Status) (input : List ℕ) (end : Option LineFault) (text : List ℕ) → HasText status input end text → HasReport input end text ⊎ HasShortReport input end text
+  any_text Done input end text has = inl has
+  any_text OutOfMemory input end text has = inr has
+  any_text BadSite input end text has = absurd has
+  any_text BadHello input end text has = absurd has
+  any_text InputOutput input end text has = absurd has
 
-  abbrev ending : Option LineFault
-  ending = ending_of read.more
+  module _ (status : Status) (text : List ℕ) (read : IsAnswered reads reads' left left' status text) where
+    holding : (P : List ℕ → Option LineFault → Type 0) → P (bytes_of read.more) (ending_of read.more) → Reads reads reads' left left' P
+    holding P holds =
+        record { more = read.more; reads_are = read.reads_are; bytes_are = read.bytes_are; needed = read.needed; ends = read.ends; holds = holds }
 
-  holding : (P : List ℕ → Option LineFault → Type 0) → P input ending → Reads reads reads' left left' P
-  holding P holds =
-      record { more = read.more; reads_are = read.reads_are; bytes_are = read.bytes_are; needed = read.needed; ends = read.ends; holds = holds }
+    pub part_written : TakesPart puts puts' contents contents' text → Reads reads reads' left left' (WritesPart puts puts' contents contents')
+    part_written takes = holding (WritesPart puts puts' contents contents') (text, any_text status _ _ text read.holds, takes)
 
-  pub part_written : TakesPart puts puts' contents contents' text → Reads reads reads' left left' (WritesPart puts puts' contents contents')
-  part_written takes = holding (WritesPart puts puts' contents contents') (text, any_by input ending site gathered read.holds text is gathered.stopped refl, takes)
+  pub whole_written : (status : Status) (text : List ℕ) → IsAnswered reads reads' left left' status text → Takes puts puts' contents contents' text 0 → Meets reads reads' left left' puts puts' contents contents' status
+  whole_written Done text read takes = holding Done text read (Writes puts puts' contents contents' HasReport) (text, read.holds, takes)
+  whole_written OutOfMemory text read takes = inr (holding OutOfMemory text read (Writes puts puts' contents contents' HasShortReport) (text, read.holds, takes))
+  whole_written BadSite text read takes = absurd read.holds
+  whole_written BadHello text read takes = absurd read.holds
+  whole_written InputOutput text read takes = absurd read.holds
 
-  whole_by : (why : Stopped) → gathered.stopped ≡ why → Takes puts puts' contents contents' text 0
-      → Meets reads reads' left left' puts puts' contents contents' (status_of why)
-  whole_by (stopped.Over end) why takes =
-      holding (Writes puts puts' contents contents' HasReport) (text, whole input ending site gathered read.holds text is end why, takes)
-  whole_by stopped.GaveUp why takes =
-      inr (holding (Writes puts puts' contents contents' HasShortReport) (text, short input ending site gathered read.holds text is (rw why (inl (refl, refl))), takes))
-  whole_by stopped.Memory why takes =
-      inr (holding (Writes puts puts' contents contents' HasShortReport) (text, short input ending site gathered read.holds text is (rw why (inr (refl, refl))), takes))
-
-  pub whole_written : Takes puts puts' contents contents' text 0 → Meets reads reads' left left' puts puts' contents contents' (status_of gathered.stopped)
-  whole_written takes = whole_by gathered.stopped refl takes
+  pub nothing_written : (refused : Refused) → IsUnread reads reads' left left' refused → WritesNothing puts puts' contents contents' → Meets reads reads' left left' puts puts' contents contents' (refused_status refused)
+  nothing_written refused.ReadFailed unread nothing = inl (nothing, unread)
+  nothing_written refused.NoSite unread nothing = (nothing, unread)
+  nothing_written refused.NoHello unread nothing = (nothing, unread)
+  nothing_written refused.NoMemory unread nothing = inl nothing

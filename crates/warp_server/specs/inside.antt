@@ -1,6 +1,5 @@
 pub mod SiteMembers
-pub mod Gathering
 pub mod Lanes
-pub mod ReplayedVisits
+pub mod Reported
 pub mod Intake
-pub mod Running
+pub mod Answering

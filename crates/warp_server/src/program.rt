@@ -1,4 +1,5 @@
 //! One call of the program, and one run.
+mod answer;
 mod call;
 mod intake;
 mod running;

@@ -3,7 +3,7 @@ ghost use Rattle.std.specs.Prelude.{◌≡◌, IfOk, map};
 ghost use Rattle.page_tree.specs.Tree.{Tree};
 ghost use Rattle.site_hooks.specs.Closures.{AtAddresses, AtPages, MakesBy, TellsBy};
 ghost use Rattle.site_hooks.specs.Table.{table_page, signals_in};
-ghost use Rattle.warp_server.specs.inside.ReplayedVisits.{replayed_by};
+ghost use Rattle.warp_server.specs.inside.Reported.{replayed_by};
 
 use client_log::Visit;
 use page_tree::{NoMemory, Page};

@@ -1,63 +1,56 @@
 //! The text of a report.
-ghost use Rattle.std.specs.Prelude.{◌≡◌, [], ◌∷◌, ◌++◌, length, map, IfOk, OnOk, string_bytes};
+ghost use Rattle.std.specs.Prelude.{◌≡◌, [], ◌++◌, map, IfOk, OnOk, string_bytes};
 ghost use Rattle.std.specs.List.{flat_map};
-ghost use Rattle.client_log.specs.Log.{cost_of};
 ghost use Rattle.warp_server.specs.report.Report as plain;
-ghost use Rattle.warp_server.specs.report.Report.{visit_report, report_text};
-ghost use Rattle.warp_server.specs.inside.Gathering.{stop_of, end_of};
-ghost use Rattle.warp_server.specs.inside.ReplayedVisits.{report_of_visit, report_of_lane};
+ghost use Rattle.warp_server.specs.report.Report.{visit_report};
+ghost use Rattle.warp_server.specs.inside.Reported.{report_of_visit, client_report};
 
-use crate::lanes::gathering::{Gathered, Stopped};
+use crate::lanes::Stop;
 use crate::repair::Replayed;
 use client_log::ClientLog;
 use page_tree::NoMemory;
 use serde_json::Value;
 use std::alloc::Global;
-use upload_reader::LaneEnd;
+use upload_reader::{Ending, LaneEnd};
 use visit_replay::{Method, Outcome, Request};
 
-/// The report on one client, whose visits were replayed so.
-pub(crate) fn compose(
-    alloc: Global,
-    gathered: &Gathered,
-    replayed: &[Replayed],
-) -> Result<Vec<u8>, NoMemory>
-    ensures { IfOk result (λ text. text.items ≡ report_text (report_of_lane (stop_of gathered.now.stopped) gathered.now.log.client gathered.now.taken (end_of gathered.now.stopped) gathered.now.log.log replayed.now)) }
+/// The first line of a report.
+pub(crate) fn stop_line(stop: Stop) -> &'static str
+    ensures { result.now ≡ plain.stop_line stop }
 {
-    let mut text = String::new(alloc);
-    text.push_str(stop_line(gathered.stopped))?;
-    add_client(
-        alloc,
-        &mut text,
-        &gathered.log,
-        gathered.taken,
-        gathered.stopped,
-    )?;
-    add_visits(alloc, &mut text, replayed)?;
-    Ok(text.into_bytes())
-}
-
-fn stop_line(stopped: Stopped) -> &'static str
-    ensures { result.now ≡ plain.stop_line (stop_of stopped) }
-{
-    match stopped {
-        Stopped::Over(_) | Stopped::GaveUp => "stop none\n",
-        Stopped::Memory => "stop memory\n",
+    match stop {
+        Stop::None => "stop none\n",
+        Stop::Asked => "stop asked\n",
+        Stop::Memory => "stop memory\n",
     }
 }
 
-fn add_client(
+/// The lines on one client, whose visits were replayed so.
+pub(crate) fn add_client(
     alloc: Global,
     text: &mut String,
     log: &ClientLog,
     taken: u64,
-    stopped: Stopped,
+    end: Option<Ending>,
+    replayed: &[Replayed],
 ) -> Result<(), NoMemory>
-    ensures { OnOk result (string_bytes text.new
-        ≡ string_bytes text.old ++ plain.client_line (record { client = log.now.client; taken = taken; end = end_of stopped; cost = cost_of log.now.log.visits; lost = log.now.log.lost; visits = [] })) }
+    ensures { OnOk result (string_bytes text.new ≡ string_bytes text.old ++ plain.client_text (client_report log.now taken end replayed.now)) }
+{
+    add_client_line(alloc, text, log, taken, end)?;
+    add_visits(alloc, text, replayed)
+}
+
+fn add_client_line(
+    alloc: Global,
+    text: &mut String,
+    log: &ClientLog,
+    taken: u64,
+    end: Option<Ending>,
+) -> Result<(), NoMemory>
+    ensures { OnOk result (string_bytes text.new ≡ string_bytes text.old ++ plain.client_line (client_report log.now taken end [])) }
 {
     let client = log.client().text();
-    let end = end_word(alloc, stopped)?;
+    let end = end_word(alloc, end)?;
     let cost = log.cost();
     let lost = log.lost();
     write!(
@@ -68,13 +61,13 @@ fn add_client(
 
 // ---- how a lane ended
 
-fn end_word(alloc: Global, stopped: Stopped) -> Result<String, NoMemory>
-    ensures { IfOk result (λ word. string_bytes word ≡ plain.end_word (end_of stopped)) }
+fn end_word(alloc: Global, end: Option<Ending>) -> Result<String, NoMemory>
+    ensures { IfOk result (λ word. string_bytes word ≡ plain.end_word end) }
 {
-    match stopped {
-        Stopped::Over(end) => lane_word(alloc, end),
-        Stopped::GaveUp => String::from_str(alloc, "gaveup"),
-        Stopped::Memory => String::from_str(alloc, "none"),
+    match end {
+        None => String::from_str(alloc, "none"),
+        Some(Ending::Over(end)) => lane_word(alloc, end),
+        Some(Ending::GaveUp) => String::from_str(alloc, "gaveup"),
     }
 }
 

@@ -1,6 +1,5 @@
 -- What reading the site line and the lane behind it gives.
-use Rattle.std.specs.Prelude.{◌≡◌, ℕ, ◌+◌, List, [], length, Option, None, Result, Ok, Err}
-use Rattle.byte_streams.specs.Answers.{Answer}
+use Rattle.std.specs.Prelude.{◌≡◌, ℕ, ◌+◌, List, [], length, Option, None}
 use Rattle.byte_streams.specs.Cutting.{ending_of}
 use Rattle.byte_streams.specs.Reading.{Reading, input}
 use Rattle.byte_streams.specs.declared.fault.LineFault.{LineFault}
@@ -8,10 +7,8 @@ use Rattle.byte_streams.specs.declared.fault.LineFault.TheVariants as line_fault
 use Rattle.upload_reader.specs.declared.hello_fault.HelloFault.{HelloFault}
 use Rattle.upload_reader.specs.declared.hello_fault.HelloFault.TheVariants as hello_fault
 use Rattle.warp_server.specs.site.Site.{Site as PlainSite}
-use Rattle.warp_server.specs.site.Reading.{Stands, site_quota}
-use Rattle.warp_server.specs.program.Run.{HasBadSite, HasBadHello, HasFailedRead, HasSite, Opening, OpensBy, lane_behind, lane_place, Reads}
-use Rattle.warp_server.specs.inside.Gathering.{Records}
-use Rattle.warp_server.specs.declared.lanes.gathering.Gathered.{Gathered}
+use Rattle.warp_server.specs.site.Reading.{Stands}
+use Rattle.warp_server.specs.program.Run.{HasBadSite, HasBadHello, HasFailedRead, HasSite}
 use Rattle.warp_server.specs.declared.site.Site.{Site}
 use Rattle.warp_server.specs.declared.site.fault.SiteFault.{SiteFault}
 use Rattle.warp_server.specs.declared.site.fault.SiteFault.TheVariants as site_fault
@@ -32,26 +29,12 @@ pub record IsBehindSite {R : Type 0} (lines : Reading R) (site : Site) : Type 0 
   pub place : lines.place ≡ length lines.line + 1
   pub fault : lines.fault ≡ None
 
--- what was taken of the lane behind the site line, under the site's quota
-pub record HasGathered (input : List ℕ) (ending : Option LineFault) (site : Site) (gathered : Gathered) : Type 0 where
-  pub opening : Opening
-  pub opens : OpensBy input ending opening
-  pub stands : Stands site opening.site
-  pub client : gathered.log.client ≡ opening.client
-  pub records : Records (lane_behind opening) (lane_place opening input) input ending (site_quota site) gathered.log.log gathered.taken gathered.stopped
-
 -- why there is nothing to report
 abbrev pub IsRefused : Refused → List ℕ → Option LineFault → Type 0
 IsRefused ReadFailed input ending = HasFailedRead input ending
 IsRefused NoSite input ending = HasBadSite input ending
 IsRefused NoHello input ending = HasBadHello input ending
 IsRefused NoMemory input ending = Unit {0}
-
-module _ (reads reads' : List Answer) (left left' : Option (List ℕ)) where
-  abbrev pub Intakes : Result (Site × Gathered) Refused → Type 0
-  Intakes (Ok both) = Reads reads reads' left left' (λ input ending. HasGathered input ending both.0 both.1)
-  Intakes (Err NoMemory) = Unit {0}
-  Intakes (Err refused) = Reads reads reads' left left' (IsRefused refused)
 
 -- ---- what a fault of a line, of a site or of a hello means here
 

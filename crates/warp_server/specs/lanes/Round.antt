@@ -1,5 +1,5 @@
 -- What a round of lanes gives, taken in turn as a schedule says: this project's own rule.
-use Rattle.std.specs.Prelude.{◌≡◌, ℕ, ◌+◌, ◌≤◌, ◌<◌, List, [], ◌∷◌, length, map, take, Bool, true, false, ◌||◌, ◌==◌, if◌then◌else◌, bytes_eq, is_some, count_by, slice_get, Option, Some, None}
+use Rattle.std.specs.Prelude.{◌≡◌, ℕ, ◌+◌, ◌<◌, List, [], ◌∷◌, length, map, take, Bool, true, false, ◌||◌, ◌==◌, if◌then◌else◌, bytes_eq, is_some, count_by, slice_get, Option, Some, None}
 use Rattle.std.specs.List.{list_all, list_any}
 use Rattle.std.specs.Option.{option_map_or}
 use Rattle.indexmap.specs.IndexMap.{get, insert_all, IsUnchanged}
@@ -31,10 +31,10 @@ pub record IsRound {R : Type 0} (uploads : List (UploadState R)) : Type 0 where
   pub clients : has_twice (clients_of uploads) ≡ false
 
 -- why there is no round, the first in this order
-abbrev pub Refuses : {R : Type 0} → List (UploadState R) → GatherFault → Type 0
-Refuses uploads fault.BadLanes = limits.AreLanes (length uploads) → ⊥
-Refuses uploads fault.DuplicateClient = limits.AreLanes (length uploads) × (has_twice (clients_of uploads) ≡ true)
-Refuses uploads fault.NoMemory = IsRound uploads
+abbrev pub IsNoRound : {R : Type 0} → List (UploadState R) → GatherFault → Type 0
+IsNoRound uploads fault.BadLanes = limits.AreLanes (length uploads) → ⊥
+IsNoRound uploads fault.DuplicateClient = limits.AreLanes (length uploads) × (has_twice (clients_of uploads) ≡ true)
+IsNoRound uploads fault.NoMemory = IsRound uploads
 
 -- ---- what a lane begins behind
 
@@ -66,11 +66,11 @@ abbrev pub IsAsked : ℕ → ℕ → Option Ending → Type 0
 IsAsked asked taken None = taken ≡ asked
 IsAsked asked taken (Some end) = taken < asked
 
--- What was taken of a lane that was asked so often, and at most so many messages more were given than were recorded.
+-- What was taken of a lane that was asked so often, and so many messages more were given than were recorded.
 pub record IsTakenInTurn {R : Type 0} (before : OfClient) (begun : UploadState R) (asked ahead : ℕ) (lane : LaneResult R) : Type 0 where
   pub is_taken : IsTaken before begun lane
   pub asked_is : IsAsked asked lane.taken lane.end
-  pub ahead_is : length is_taken.now.given ≤ lane.taken + ahead
+  pub ahead_is : length is_taken.now.given ≡ lane.taken + ahead
 
 module _ {R : Type 0} (known : List ℕ → Option (LaneResult R)) (quota : ℕ) (uploads : List (UploadState R)) (asked ahead : ℕ → ℕ) where
   -- the lane of that number is that upload's, and nothing of another's went into it
@@ -87,7 +87,7 @@ module _ {R : Type 0} (known : List ℕ → Option (LaneResult R)) (quota : ℕ)
 abbrev pub have_ended : {R : Type 0} → List (List ℕ × LaneResult R) → Bool
 have_ended lanes = list_all (λ lane. is_some lane.1.end) lanes
 
--- where memory was refused, the lane that was asked then may have given one message more than were recorded
+-- where memory was refused, the lane that was asked then gave one message more than were recorded
 abbrev pub ahead_of : List ℕ → ℕ → Stop → ℕ → ℕ
 ahead_of schedule followed stop.Memory lane = if option_map_or (λ entry. entry == lane) (slice_get schedule followed) false then 1 else 0
 ahead_of schedule followed other lane = 0
@@ -112,8 +112,12 @@ pub record Gathers {R : Type 0} (earlier : Gathered R) (uploads : List (UploadSt
   pub followed : IsFollowed (get bytes_eq earlier.clients) quota uploads schedule lanes gathered.stop
   pub clients_are : gathered.clients.entries ≡ insert_all bytes_eq (map (λ entry. (entry.0, rested entry.1)) earlier.clients.entries) lanes
 
+-- the first round
+abbrev pub GathersFirst : {R : Type 0} → List (UploadState R) → ℕ → List ℕ → Gathered R → Type 0
+GathersFirst uploads quota schedule gathered = (earlier : Gathered _) × (earlier.clients.entries ≡ []) × Gathers earlier uploads quota schedule gathered
+
 -- The round is refused for that, and what was gathered before comes back.
 pub record RefusesRound {R : Type 0} (earlier : Gathered R) (uploads : List (UploadState R)) (fault : GatherFault) (back : Gathered R) : Type 0 where
-  pub why : Refuses uploads fault
+  pub why : IsNoRound uploads fault
   pub clients : IsUnchanged earlier.clients back.clients
   pub stop : back.stop ≡ earlier.stop

@@ -10,13 +10,17 @@ use Rattle.byte_streams.specs.declared.fault.LineFault.{LineFault}
 use Rattle.byte_streams.specs.declared.fault.LineFault.TheVariants.{ReadFailed}
 use Rattle.upload_reader.specs.Greeting.{IsGreetingOf, lines_length}
 use Rattle.upload_reader.specs.Stream.{Costed, Stream, Lane, IsStreamOf, BeginsWith}
+use Rattle.upload_reader.specs.declared.ending.Ending.{Ending}
+use Rattle.upload_reader.specs.declared.ending.Ending.TheVariants.{Over, GaveUp}
 use Rattle.upload_reader.specs.declared.hello_fault.HelloFault.{HelloFault}
 use Rattle.upload_reader.specs.declared.lane_fault.LaneEnd.{LaneEnd}
 use Rattle.client_log.specs.Log.{Log, kept, cost_of}
 use Rattle.client_log.specs.declared.visit.Visit.{Visit}
 use Rattle.visit_replay.specs.Outcome.{outcome}
 use Rattle.warp_server.specs.site.Site.{Site, IsSiteOf, IsJsonOf, page_of, signals_of}
-use Rattle.warp_server.specs.report.Report.{Report, ClientReport, VisitReport, Stop, none, memory, End, over, not_yet, gave_up, visit_report, report_text}
+use Rattle.warp_server.specs.report.Report.{Report, ClientReport, VisitReport, visit_report, report_text}
+use Rattle.warp_server.specs.declared.lanes.gathered.Stop.{Stop}
+use Rattle.warp_server.specs.declared.lanes.gathered.Stop.TheVariants as stops
 use Rattle.warp_server.specs.declared.program.status.Status.{Status}
 use Rattle.warp_server.specs.declared.program.status.Status.TheVariants.{Done, BadSite, BadHello, OutOfMemory, InputOutput}
 
@@ -26,12 +30,12 @@ use Rattle.warp_server.specs.declared.program.status.Status.TheVariants.{Done, B
 abbrev pub visit_of : Site → Visit → VisitReport
 visit_of site visit = visit_report visit.number (outcome (page_of site) (λ address. signals_of site) site.patched visit)
 
-abbrev pub client_of : Site → List ℕ → ℕ → End → Log → ClientReport
+abbrev pub client_of : Site → List ℕ → ℕ → Option Ending → Log → ClientReport
 client_of site client taken end log =
     record { client = client; taken = taken; end = end; cost = cost_of log.visits; lost = log.lost; visits = map (visit_of site) log.visits }
 
 -- of the messages the log keeps what the site's quota leaves
-abbrev pub report_of : Site → Stop → List ℕ → List Costed → End → Report
+abbrev pub report_of : Site → Stop → List ℕ → List Costed → Option Ending → Report
 report_of site stop client messages end =
     record { stop = stop; clients = client_of site client (length messages) end (kept site.quota messages) ∷ [] }
 
@@ -111,7 +115,7 @@ AreFirst lane place input messages =
 -- ---- the report of an input
 
 -- The text reports these messages of the client whose upload stands behind the site line, and how the lane ended or why the run stopped.
-pub record IsReportOf (input : List ℕ) (ending : Option LineFault) (stop : Stop) (messages : List Costed) (end : End) (text : List ℕ) : Type 0 where
+pub record IsReportOf (input : List ℕ) (ending : Option LineFault) (stop : Stop) (messages : List Costed) (end : Option Ending) (text : List ℕ) : Type 0 where
   pub opening : Opening
   pub opens : OpensBy input ending opening
   pub text_is : text ≡ report_text (report_of opening.site stop opening.client messages end)
@@ -120,18 +124,18 @@ pub record IsReportOf (input : List ℕ) (ending : Option LineFault) (stop : Sto
 pub record HasReport (input : List ℕ) (ending : Option LineFault) (text : List ℕ) : Type 0 where
   pub messages : List Costed
   pub end : LaneEnd
-  pub report : IsReportOf input ending none messages (over end) text
+  pub report : IsReportOf input ending stops.None messages (Some (Over end)) text
   pub all : AreAll (lane_behind report.opening) (lane_place report.opening input) input ending messages end
 
 -- how a run stops for want of memory: the lane gave up, or a message couldn't be recorded
-abbrev pub IsShort : Stop → End → Type 0
-IsShort stop end = ((stop ≡ none) × (end ≡ gave_up)) ⊎ ((stop ≡ memory) × (end ≡ not_yet))
+abbrev pub IsShort : Stop → Option Ending → Type 0
+IsShort stop end = ((stop ≡ stops.None) × (end ≡ Some GaveUp)) ⊎ ((stop ≡ stops.Memory) × (end ≡ None))
 
 -- of its first messages
 pub record HasShortReport (input : List ℕ) (ending : Option LineFault) (text : List ℕ) : Type 0 where
   pub messages : List Costed
   pub stop : Stop
-  pub end : End
+  pub end : Option Ending
   pub is_short : IsShort stop end
   pub report : IsReportOf input ending stop messages end text
   pub first : AreFirst (lane_behind report.opening) (lane_place report.opening input) input messages

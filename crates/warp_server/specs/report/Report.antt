@@ -1,9 +1,11 @@
 -- The text of a report: this project's own format.
-use Rattle.std.specs.Prelude.{ℕ, List, [], ◌∷◌, ◌++◌, codes, decimal}
+use Rattle.std.specs.Prelude.{ℕ, List, [], ◌∷◌, ◌++◌, codes, decimal, Option, Some, None}
 use Rattle.std.specs.List.{flat_map, join_with_byte}
 use Rattle.serde_json.specs.Data.{string}
 use Rattle.serde_json.specs.Written.{compact_text}
 use Rattle.upload_reader.specs.LaneFaultCode.{lane_fault_code}
+use Rattle.upload_reader.specs.declared.ending.Ending.{Ending}
+use Rattle.upload_reader.specs.declared.ending.Ending.TheVariants.{Over, GaveUp}
 use Rattle.upload_reader.specs.declared.lane_fault.LaneEnd.{LaneEnd}
 use Rattle.upload_reader.specs.declared.lane_fault.LaneEnd.TheVariants.{Bye, Fault}
 use Rattle.visit_replay.specs.Conflict.{conflict_code}
@@ -13,19 +15,10 @@ use Rattle.visit_replay.specs.declared.requests.Method.TheVariants.{Load, Get, P
 use Rattle.visit_replay.specs.declared.requests.Request.{Request}
 use Rattle.visit_replay.specs.declared.outcome.Outcome.{Outcome}
 use Rattle.visit_replay.specs.declared.outcome.Outcome.TheVariants.{Untouched, Done, Conflict}
+use Rattle.warp_server.specs.declared.lanes.gathered.Stop.{Stop}
+use Rattle.warp_server.specs.declared.lanes.gathered.Stop.TheVariants as stop
 
 -- ---- what is reported
-
--- why recording stopped
-pub data Stop : Type 0 where
-  none : Stop
-  memory : Stop
-
--- how a lane ended, if it did
-pub data End : Type 0 where
-  not_yet : End
-  over : LaneEnd → End
-  gave_up : End
 
 -- what became of a visit; a conflict stands at an event
 pub data Standing : Type 0 where
@@ -41,7 +34,7 @@ pub record VisitReport : Type 0 where
 pub record ClientReport : Type 0 where
   pub client : List ℕ
   pub taken : ℕ
-  pub end : End
+  pub end : Option Ending
   pub cost : ℕ
   pub lost : ℕ
   pub visits : List VisitReport
@@ -65,10 +58,10 @@ abbrev pub lane_word : LaneEnd → List ℕ
 lane_word Bye = codes "bye"
 lane_word (Fault line kind) = lane_fault_code kind ++ codes "@" ++ decimal line
 
-abbrev pub end_word : End → List ℕ
-end_word not_yet = codes "none"
-end_word (over end) = lane_word end
-end_word gave_up = codes "gaveup"
+abbrev pub end_word : Option Ending → List ℕ
+end_word None = codes "none"
+end_word (Some (Over end)) = lane_word end
+end_word (Some GaveUp) = codes "gaveup"
 
 abbrev pub standing_words : Standing → List (List ℕ)
 standing_words untouched = codes "untouched" ∷ []
@@ -78,8 +71,9 @@ standing_words (waiting kind at) = codes "waiting" ∷ conflict_code kind ∷ co
 -- ---- lines
 
 abbrev pub stop_line : Stop → List ℕ
-stop_line none = line (codes "stop" ∷ codes "none" ∷ [])
-stop_line memory = line (codes "stop" ∷ codes "memory" ∷ [])
+stop_line stop.None = line (codes "stop" ∷ codes "none" ∷ [])
+stop_line stop.Asked = line (codes "stop" ∷ codes "asked" ∷ [])
+stop_line stop.Memory = line (codes "stop" ∷ codes "memory" ∷ [])
 
 abbrev pub client_line : ClientReport → List ℕ
 client_line c =

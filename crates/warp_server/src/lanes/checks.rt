@@ -1,7 +1,7 @@
 //! Whether there may be a round of these lanes.
 ghost use Rattle.std.specs.Prelude.{◌≡◌, ◌≢◌, bytes_eq, IfErr, OnOk};
 ghost use Rattle.std.specs.List.{list_any};
-ghost use Rattle.warp_server.specs.lanes.Round.{IsRound, Refuses, has_twice, clients_of};
+ghost use Rattle.warp_server.specs.lanes.Round.{IsRound, IsNoRound, has_twice, clients_of};
 ghost use Rattle.warp_server.specs.declared.lanes.fault.GatherFault.TheVariants.{NoMemory};
 
 use crate::lanes::fault::GatherFault;
@@ -11,7 +11,7 @@ use upload_reader::{Client, Upload};
 
 pub(crate) fn check_round<R: Source>(uploads: &[Upload<R>]) -> Result<(), GatherFault>
     ensures ok { OnOk result (IsRound uploads.now) }
-    ensures refused { IfErr result (λ fault. (fault ≢ NoMemory) × Refuses uploads.now fault) }
+    ensures refused { IfErr result (λ fault. (fault ≢ NoMemory) × IsNoRound uploads.now fault) }
 {
     if uploads.is_empty() || uploads.len() > MAX_LANES as usize {
         return Err(GatherFault::BadLanes);

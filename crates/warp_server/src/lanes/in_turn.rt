@@ -1,9 +1,9 @@
 //! Lanes on one thread, in turn.
-ghost use Rattle.std.specs.Prelude.{ℕ, ◌≡◌, ◌+◌, ◌≤◌, ◌<◌, List, [], Option, length, map, bytes_eq, IfOk, IfErr, OnOk, OnErr};
+ghost use Rattle.std.specs.Prelude.{ℕ, ◌≡◌, ◌+◌, ◌≤◌, ◌<◌, List, [], Option, length, map, replicate, bytes_eq, IfOk, IfErr, OnOk, OnErr};
 ghost use Rattle.std.specs.List.{AllByRecursion};
 ghost use Rattle.indexmap.specs.IndexMap.{get, spare, insert_entry, insert_all, IsUnchanged};
 ghost use Rattle.upload_reader.specs.Upload.{UploadState, IsUntouched};
-ghost use Rattle.warp_server.specs.lanes.Round.{IsRound, AreLanes, IsFollowed, Gathers, Refuses, RefusesRound, have_ended, rested};
+ghost use Rattle.warp_server.specs.lanes.Round.{IsRound, AreLanes, IsFollowed, Gathers, GathersFirst, IsNoRound, RefusesRound, have_ended, rested};
 ghost use Rattle.warp_server.specs.declared.lanes.gathered.Gathered.{Gathered};
 ghost use Rattle.warp_server.specs.declared.lanes.gathered.LaneResult.{LaneResult};
 ghost use Rattle.warp_server.specs.inside.Lanes.{begun_lane, one_more, only, none, rested_at, HaveFewTaken};
@@ -27,13 +27,31 @@ pub fn gather_in_order<R: Source + Drop>(
     schedule: &[u32],
 ) -> Result<Gathered<R>, GatherFault>
     requires untouched { AllByRecursion IsUntouched uploads.items }
-    ensures ok { IfOk result (λ gathered. (earlier : Gathered R) × (earlier.clients.entries ≡ []) × Gathers earlier uploads.items quota schedule.now gathered) }
-    ensures refused { IfErr result (Refuses uploads.items) }
+    ensures ok { IfOk result (GathersFirst uploads.items quota schedule.now) }
+    ensures refused { IfErr result (IsNoRound uploads.items) }
 {
     match gather_again_in_order(alloc, Gathered::new(alloc), uploads, quota, schedule) {
         Ok(gathered) => Ok(gathered),
         Err(again) => Err(again.fault),
     }
+}
+
+/// The same of lane 0 alone, asked so often or until all lanes have ended: a schedule of so many zeros, which needn't be there.
+pub(crate) fn gather_first<R: Source + Drop>(
+    alloc: Global,
+    uploads: Vec<Upload<R>>,
+    quota: Quota,
+    asked: usize,
+) -> Result<Gathered<R>, GatherFault>
+    requires untouched { AllByRecursion IsUntouched uploads.items }
+    ensures { IfOk result (GathersFirst uploads.items quota (replicate asked 0)) }
+{
+    let mut gathered = Gathered::new(alloc);
+    let mut lanes = begin_round(alloc, &mut gathered.clients, uploads, quota)?;
+    let stop = take_first(lanes.as_mut_slice(), asked);
+    put_back(&mut gathered.clients, lanes);
+    gathered.stop = stop;
+    Ok(gathered)
 }
 
 /// A later round. A client that is known goes on behind its log and the session of that, with its own quota; a new one begins with this quota. Known clients
@@ -73,7 +91,7 @@ fn begin_round<R: Source + Drop>(
     requires untouched { AllByRecursion IsUntouched uploads.items }
     ensures same { IsUnchanged clients.old clients.new }
     ensures ok { IfOk result (λ lanes. IsRound uploads.items × (lanes.items ≡ map (begun_lane (get bytes_eq clients.old) quota) uploads.items) × (length lanes.items ≤ spare clients.new)) }
-    ensures refused { IfErr result (Refuses uploads.items) }
+    ensures refused { IfErr result (IsNoRound uploads.items) }
 {
     check_round(uploads.as_slice())?;
     let lanes = begin_all(alloc, clients, uploads, quota)?;
@@ -131,6 +149,26 @@ fn take_all<R: Source + Drop>(lanes: &mut [(Client, LaneResult<R>)], schedule: &
     for k in schedule {
         if take_at(lanes, *k as usize).is_err() {
             return Stop::Memory;
+        }
+    }
+    if have_ended(lanes) {
+        Stop::None
+    } else {
+        Stop::Asked
+    }
+}
+
+// Takes the next of lane 0 so often, or until all have ended.
+fn take_first<R: Source + Drop>(lanes: &mut [(Client, LaneResult<R>)], asked: usize) -> Stop
+    requires few { HaveFewTaken lanes.old }
+    ensures { (known : List ℕ → Option (LaneResult R)) (quota : ℕ) (uploads : List (UploadState R)) → AllByRecursion IsUntouched uploads → lanes.old ≡ map (begun_lane known quota) uploads → IsFollowed known quota uploads (replicate asked 0) lanes.new result }
+{
+    for _k in 0..asked {
+        if take_at(lanes, 0).is_err() {
+            return Stop::Memory;
+        }
+        if have_ended(lanes) {
+            return Stop::None;
         }
     }
     if have_ended(lanes) {

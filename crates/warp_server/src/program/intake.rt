@@ -1,11 +1,12 @@
-//! The site and the lane, read from the lines of a source.
-ghost use Rattle.std.specs.Prelude.{◌≡◌, MatchResult};
+//! The site and the upload behind it, read from the lines of a source.
+ghost use Rattle.std.specs.Prelude.{◌≡◌, IfOk, IfErr, MatchResult};
 ghost use Rattle.byte_streams.specs.Cutting.{ending_of};
 ghost use Rattle.byte_streams.specs.Reading.{input, ReadsWhile, NoLineYet};
 ghost use Rattle.warp_server.specs.program.Run.{max_site_bytes, ReadWhileUndecided};
-ghost use Rattle.warp_server.specs.inside.Intake.{IsFresh, IsBehindSite, IsRefused, Intakes, no_site, bad_site, no_hello};
+ghost use Rattle.upload_reader.specs.Upload.{Begins};
+ghost use Rattle.warp_server.specs.inside.Answering.{IsOpened, IsUnread};
+ghost use Rattle.warp_server.specs.inside.Intake.{IsFresh, IsBehindSite, IsRefused, no_site, bad_site, no_hello};
 
-use crate::lanes::gathering::{Gathered, gather};
 use crate::site::{Site, SiteFault};
 use byte_streams::{LineFault, Lines, Source};
 use std::alloc::Global;
@@ -27,54 +28,55 @@ pub(crate) enum Refused {
     NoMemory,
 }
 
-/// The site that a source gives, and what was taken of the lane behind it.
-pub(crate) fn read_input<R: Source>(
-    alloc: Global,
-    reader: &mut R,
-) -> Result<(Site, Gathered), Refused>
-    ensures { Intakes (R.answers reader.old) (R.answers reader.new) (R.remaining reader.old) (R.remaining reader.new) result }
-{
-    let Ok(lines) = Lines::over(alloc, &mut *reader) else {
-        return Err(Refused::NoMemory);
-    };
-    let (back, both) = read_both(alloc, lines);
-    let _reader = back;
-    both
+/// A source that gives no site with an upload behind it, and why.
+#[derive(Drop)]
+pub(crate) struct Unread<R: Source> {
+    pub(crate) reader: R,
+    pub(crate) refused: Refused,
 }
 
-// It gives the reader back.
-fn read_both<R: Source>(alloc: Global, lines: Lines<R>) -> (R, Result<(Site, Gathered), Refused>)
+/// The site that the first line says, and the upload behind it, up to its hello.
+pub(crate) fn read_input<R: Source>(
+    alloc: Global,
+    lines: Lines<R>,
+) -> Result<(Site, Upload<R>), Unread<R>>
     requires fresh { IsFresh lines }
-    ensures same { R.lender result.0 ≡ R.lender lines.first }
-    ensures both { Intakes (R.answers lines.first) (R.answers result.0) (R.remaining lines.first) (R.remaining result.0) result.1 }
+    ensures ok { IfOk result (λ both. IsOpened lines both.0 both.1) }
+    ensures same { IfErr result (λ unread. R.lender unread.reader ≡ R.lender lines.first) }
+    ensures unread { IfErr result (λ unread. IsUnread (R.answers lines.first) (R.answers unread.reader) (R.remaining lines.first) (R.remaining unread.reader) unread.refused) }
 {
     let mut lines = lines;
     match read_site(alloc, &mut lines) {
-        Err(refused) => (lines.into_reader(), Err(refused)),
-        Ok(site) => read_lane(alloc, lines, site),
+        Err(refused) => {
+            let reader = lines.into_reader();
+            Err(Unread { reader, refused })
+        }
+        Ok(site) => match read_hello(alloc, lines, &site) {
+            Ok(upload) => Ok((site, upload)),
+            Err(unread) => Err(unread),
+        },
     }
 }
 
-// The lane behind the site line. It gives the reader back.
-fn read_lane<R: Source>(
+// The upload behind the site line.
+fn read_hello<R: Source>(
     alloc: Global,
     lines: Lines<R>,
-    site: Site,
-) -> (R, Result<(Site, Gathered), Refused>)
+    site: &Site,
+) -> Result<Upload<R>, Unread<R>>
     requires needed { ReadWhileUndecided lines.answers }
-    requires behind { IsBehindSite lines site }
-    ensures same { R.lender result.0 ≡ R.lender lines.first }
-    ensures both { Intakes (R.answers lines.first) (R.answers result.0) (R.remaining lines.first) (R.remaining result.0) result.1 }
+    requires behind { IsBehindSite lines site.now }
+    ensures ok { IfOk result (λ upload. Begins lines upload) }
+    ensures same { IfErr result (λ unread. R.lender unread.reader ≡ R.lender lines.first) }
+    ensures unread { IfErr result (λ unread. IsUnread (R.answers lines.first) (R.answers unread.reader) (R.remaining lines.first) (R.remaining unread.reader) unread.refused) }
 {
-    let mut upload = match Upload::hello(alloc, lines) {
-        Ok(upload) => upload,
-        Err(refused) => return (refused.lines.into_reader(), Err(no_hello(refused.fault))),
-    };
-    let gathered = gather(alloc, &mut upload, site.quota());
-    let reader = upload.into_reader();
-    match gathered {
-        Ok(gathered) => (reader, Ok((site, gathered))),
-        Err(_) => (reader, Err(Refused::NoMemory)),
+    match Upload::hello(alloc, lines) {
+        Ok(upload) => Ok(upload),
+        Err(refused) => {
+            let reader = refused.lines.into_reader();
+            let refused = no_hello(refused.fault);
+            Err(Unread { reader, refused })
+        }
     }
 }
 

@@ -1,18 +1,33 @@
 //! One run: the site line and one upload in, the report out.
-ghost use Rattle.std.specs.Prelude.{◌≡◌, IfOk};
-ghost use Rattle.warp_server.specs.report.Report.{report_text};
+ghost use Rattle.std.specs.Prelude.{◌≡◌, ℕ, ◌<◌, List, [], ◌∷◌, Some, IfSome, IfOk, MatchResult};
+ghost use Rattle.byte_streams.specs.Cutting.{StopsAtEnd};
+ghost use Rattle.byte_streams.specs.Reading.{Reading, WasRead};
+ghost use Rattle.upload_reader.specs.Limits.{max_messages};
+ghost use Rattle.upload_reader.specs.Upload.{UploadState, IsUntouched};
 ghost use Rattle.warp_server.specs.program.Run.{Meets};
-ghost use Rattle.warp_server.specs.inside.Running.{status_of, lane_report};
+ghost use Rattle.warp_server.specs.inside.Answering.{IsOpened, IsUnread, IsAnswered, refused_status};
+ghost use Rattle.warp_server.specs.inside.Intake.{IsFresh};
+ghost use Rattle.warp_server.specs.declared.lanes.gathered.LaneResult.{LaneResult};
 
-use crate::lanes::gathering::{Gathered, Stopped};
+use crate::lanes::{Gathered, LaneResult};
+use crate::program::answer::{answer, status_of};
 use crate::program::intake::{Refused, read_input};
 use crate::program::status::Status;
-use crate::repair::repair;
-use crate::report::compose;
 use crate::site::Site;
-use byte_streams::{Sink, Source, write_text};
+use byte_streams::{Lines, Sink, Source, write_text};
 use page_tree::NoMemory;
 use std::alloc::Global;
+use upload_reader::Upload;
+
+/// One more than a lane has messages: the last time its end is taken.
+const ASKED: usize = 1_000_001;
+
+/// A text to be written, and how the run ends if it is.
+#[derive(Drop)]
+struct Written {
+    status: Status,
+    text: Vec<u8>,
+}
 
 /// Reads a site line and an upload, replays what the log keeps of it on the site, and writes the report.
 ///
@@ -22,33 +37,105 @@ pub fn run<T: AllocGlobal, R: Source, W: Sink>(rt: &T, reader: &mut R, writer: &
     ensures { Meets (R.answers reader.old) (R.answers reader.new) (R.remaining reader.old) (R.remaining reader.new) (W.puts writer.old) (W.puts writer.new) (W.contents writer.old) (W.contents writer.new) result }
 {
     let alloc = rt.alloc();
-    match read_input(alloc, reader) {
-        Err(Refused::ReadFailed) => Status::InputOutput,
-        Err(Refused::NoSite) => Status::BadSite,
-        Err(Refused::NoHello) => Status::BadHello,
-        Err(Refused::NoMemory) => Status::OutOfMemory,
-        Ok((site, gathered)) => match compose_report(alloc, &site, &gathered) {
-            Err(_) => Status::OutOfMemory,
-            Ok(text) => match write_text(writer, text.as_slice()) {
-                Err(_) => Status::InputOutput,
-                Ok(()) => status_of(gathered.stopped),
-            },
+    match answer_source(alloc, reader, ASKED) {
+        Err(refused) => refused_status(refused),
+        Ok(written) => match write_text(writer, written.text.as_slice()) {
+            Err(_) => Status::InputOutput,
+            Ok(()) => written.status,
         },
     }
 }
 
-fn compose_report(alloc: Global, site: &Site, gathered: &Gathered) -> Result<Vec<u8>, NoMemory>
-    ensures { IfOk result (λ text. text.items ≡ report_text (lane_report site.now gathered.now)) }
+// What is to be written for the input of this source.
+fn answer_source<R: Source>(alloc: Global, reader: &mut R, asked: usize) -> Result<Written, Refused>
+    requires enough { max_messages < asked }
+    ensures { MatchResult result (λ written. IsAnswered (R.answers reader.old) (R.answers reader.new) (R.remaining reader.old) (R.remaining reader.new) written.status written.text.items) (λ refused. IsUnread (R.answers reader.old) (R.answers reader.new) (R.remaining reader.old) (R.remaining reader.new) refused) }
 {
-    let replayed = repair(alloc, site.table(), site.patch(), gathered.log.visits())?;
-    compose(alloc, gathered, replayed.as_slice())
+    let Ok(lines) = Lines::over(alloc, &mut *reader) else {
+        return Err(Refused::NoMemory);
+    };
+    let Some((back, written)) = answer_input(alloc, lines, asked) else {
+        return Err(Refused::NoMemory);
+    };
+    let _reader = back;
+    written
 }
 
-fn status_of(stopped: Stopped) -> Status
-    ensures { result ≡ status_of stopped }
+// The same of its lines, with their reader, unless an allocation was refused.
+fn answer_input<R: Source + Drop>(
+    alloc: Global,
+    lines: Lines<R>,
+    asked: usize,
+) -> Option<(R, Result<Written, Refused>)>
+    requires fresh { IsFresh lines }
+    requires enough { max_messages < asked }
+    ensures same { IfSome result (λ both. R.lender both.0 ≡ R.lender lines.first) }
+    ensures answered { IfSome result (λ both. MatchResult both.1 (λ written. IsAnswered (R.answers lines.first) (R.answers both.0) (R.remaining lines.first) (R.remaining both.0) written.status written.text.items) (λ refused. IsUnread (R.answers lines.first) (R.answers both.0) (R.remaining lines.first) (R.remaining both.0) refused)) }
 {
-    match stopped {
-        Stopped::Over(_) => Status::Done,
-        Stopped::GaveUp | Stopped::Memory => Status::OutOfMemory,
+    match read_input(alloc, lines) {
+        Err(unread) => Some((unread.reader, Err(unread.refused))),
+        Ok((site, upload)) => {
+            let (reader, written) = answer_upload(alloc, &site, upload, asked)?;
+            Some((reader, Ok(written)))
+        }
+    }
+}
+
+// The same of the upload behind the site.
+fn answer_upload<R: Source + Drop>(
+    alloc: Global,
+    site: &Site,
+    upload: Upload<R>,
+    asked: usize,
+) -> Option<(R, Written)>
+    requires untouched { IsUntouched upload }
+    requires enough { max_messages < asked }
+    ensures same { (fresh : Reading R) → IsOpened fresh site.now upload → IfSome result (λ both. R.lender both.0 ≡ R.lender fresh.first) }
+    ensures answered { (fresh : Reading R) → IsOpened fresh site.now upload → IfSome result (λ both. IsAnswered (R.answers fresh.first) (R.answers both.0) (R.remaining fresh.first) (R.remaining both.0) both.1.status both.1.text.items) }
+{
+    let Ok(uploads) = only(alloc, upload) else {
+        return None;
+    };
+    let Ok(answer) = answer(alloc, site, uploads, asked) else {
+        return None;
+    };
+    let status = status_of(&answer.gathered);
+    let text = answer.text;
+    let reader = take_reader(answer.gathered)?;
+    Some((reader, Written { status, text }))
+}
+
+fn only<R: Source + Drop>(alloc: Global, upload: Upload<R>) -> Result<Vec<Upload<R>>, NoMemory>
+    ensures { IfOk result (λ uploads. uploads.items ≡ upload ∷ []) }
+{
+    let mut uploads = Vec::with_capacity(alloc, 1)?;
+    uploads.push(upload)?;
+    Ok(uploads)
+}
+
+// The reader of the only lane.
+fn take_reader<R: Source + Drop>(gathered: Gathered<R>) -> Option<R>
+    ensures { (client : List ℕ) (lane : LaneResult R) (now : UploadState R) → gathered.clients.entries ≡ (client, lane) ∷ [] → lane.upload ≡ Some now
+        → IfSome result (λ reader. (R.lender reader ≡ R.lender now.lines.first) × WasRead R.answers R.remaining now.lines.first reader now.lines.answers × StopsAtEnd now.lines.answers) }
+{
+    let mut clients = gathered.clients;
+    let Some((_, lane)) = clients.pop() else {
+        return None;
+    };
+    let LaneResult { upload, .. } = lane;
+    match upload {
+        Some(upload) => Some(upload.into_reader()),
+        None => None,
+    }
+}
+
+fn refused_status(refused: Refused) -> Status
+    ensures { result ≡ refused_status refused }
+{
+    match refused {
+        Refused::ReadFailed => Status::InputOutput,
+        Refused::NoSite => Status::BadSite,
+        Refused::NoHello => Status::BadHello,
+        Refused::NoMemory => Status::OutOfMemory,
     }
 }

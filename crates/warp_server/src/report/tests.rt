@@ -1,12 +1,12 @@
-use crate::lanes::gathering::{Gathered, Stopped};
+use crate::lanes::Stop;
 use crate::repair::Replayed;
-use crate::report::compose;
+use crate::report::{add_client, stop_line};
 use client_log::{ClientLog, Quota};
 use page_tree::{NoMemory, Page, PageFault, Text};
 use serde_json::Value;
 use std::alloc::Global;
 use std::test::Fail;
-use upload_reader::{Client, LaneEnd, LaneFault, Message, SessionFault};
+use upload_reader::{Client, Ending, LaneEnd, LaneFault, Message, SessionFault};
 use visit_replay::{ConflictKind, Method, Outcome, Request, Requests};
 use xpath_child::{PathFault, PathFaultKind};
 
@@ -49,23 +49,29 @@ fn request(
 // The report on a client of that log.
 fn composed(
     alloc: Global,
-    log: ClientLog,
+    log: &ClientLog,
     taken: u64,
-    stopped: Stopped,
+    stop: Stop,
+    end: Option<Ending>,
     replayed: &[Replayed],
 ) -> Result<String, Fail> {
-    let gathered = Gathered {
-        log,
-        taken,
-        stopped,
-    };
-    Ok(String::from_utf8(compose(alloc, &gathered, replayed)?)?)
+    let mut text = String::new(alloc);
+    text.push_str(stop_line(stop))?;
+    add_client(alloc, &mut text, log, taken, end, replayed)?;
+    Ok(text)
 }
 
 // The report on a client whose log is empty, and who said bye.
 fn composed_of(alloc: Global, replayed: &[Replayed]) -> Result<String, Fail> {
     let log = new_log(alloc, "c1", 100)?;
-    composed(alloc, log, 3, Stopped::Over(LaneEnd::Bye), replayed)
+    composed(
+        alloc,
+        &log,
+        3,
+        Stop::None,
+        Some(Ending::Over(LaneEnd::Bye)),
+        replayed,
+    )
 }
 
 #[test]
@@ -115,7 +121,14 @@ fn composes_what_was_taken_kept_and_lost(rt: HostRuntime) -> Result<(), Fail> {
     for visit in 2..14 {
         load(alloc, &mut log, visit, 6)?;
     }
-    let text = composed(alloc, log, 1000000, Stopped::Over(LaneEnd::Bye), &[])?;
+    let text = composed(
+        alloc,
+        &log,
+        1000000,
+        Stop::None,
+        Some(Ending::Over(LaneEnd::Bye)),
+        &[],
+    )?;
     let expected = "stop none\nclient a_B-9 taken 1000000 end bye cost 4294967290 lost 12\n";
     assert_eq!(rt; text.as_str(), expected);
     Ok(())
@@ -124,22 +137,30 @@ fn composes_what_was_taken_kept_and_lost(rt: HostRuntime) -> Result<(), Fail> {
 #[test]
 fn tells_why_no_more_was_taken(rt: HostRuntime) -> Result<(), Fail> {
     let alloc = rt.alloc();
-    for (stopped, expected) in [
+    for (stop, end, expected) in [
         (
-            Stopped::Over(LaneEnd::Bye),
+            Stop::None,
+            Some(Ending::Over(LaneEnd::Bye)),
             "stop none\nclient c1 taken 0 end bye cost 0 lost 0\n",
         ),
         (
-            Stopped::GaveUp,
+            Stop::None,
+            Some(Ending::GaveUp),
             "stop none\nclient c1 taken 0 end gaveup cost 0 lost 0\n",
         ),
         (
-            Stopped::Memory,
+            Stop::Memory,
+            None,
             "stop memory\nclient c1 taken 0 end none cost 0 lost 0\n",
+        ),
+        (
+            Stop::Asked,
+            None,
+            "stop asked\nclient c1 taken 0 end none cost 0 lost 0\n",
         ),
     ] {
         let log = new_log(alloc, "c1", 100)?;
-        let text = composed(alloc, log, 0, stopped, &[])?;
+        let text = composed(alloc, &log, 0, stop, end, &[])?;
         assert_eq!(rt; text.as_str(), expected);
     }
     Ok(())
@@ -148,8 +169,8 @@ fn tells_why_no_more_was_taken(rt: HostRuntime) -> Result<(), Fail> {
 // The word after `end` in the report on a lane with that fault.
 fn end_word(alloc: Global, line: u64, kind: LaneFault) -> Result<String, Fail> {
     let log = new_log(alloc, "c1", 100)?;
-    let stopped = Stopped::Over(LaneEnd::Fault { line, kind });
-    let text = composed(alloc, log, 0, stopped, &[])?;
+    let end = Some(Ending::Over(LaneEnd::Fault { line, kind }));
+    let text = composed(alloc, &log, 0, Stop::None, end, &[])?;
     let Some(rest) = text
         .as_str()
         .strip_prefix("stop none\nclient c1 taken 0 end ")

@@ -1,5 +1,5 @@
 use Rattle.std.proofs.Common.{◌≡◌, ◌++◌, drop, map}
-use Rattle.warp_server.specs.inside.ReplayedVisits.{replayed_by}
+use Rattle.warp_server.specs.inside.Reported.{replayed_by}
 use Rattle.warp_server.proofs.repair.replay_all.Given as goal
 
 abbrev pub invariant-loop-visit : goal.invariant-loop-visit

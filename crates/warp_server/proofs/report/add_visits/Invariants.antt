@@ -1,7 +1,7 @@
 use Rattle.std.proofs.Common.{◌≡◌, ◌++◌, drop, map, string_bytes}
 use Rattle.std.specs.List.{flat_map}
 use Rattle.warp_server.specs.report.Report.{visit_text}
-use Rattle.warp_server.specs.inside.ReplayedVisits.{report_of_visit}
+use Rattle.warp_server.specs.inside.Reported.{report_of_visit}
 use Rattle.warp_server.proofs.report.add_visits.Given as goal
 
 abbrev pub invariant-loop-one : goal.invariant-loop-one

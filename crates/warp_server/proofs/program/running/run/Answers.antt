@@ -4,9 +4,8 @@ use Rattle.warp_server.proofs.program.running.run.Goals as goal
 
 pub returns-in-Err-write_text : goal.returns-in-Err-write_text
 returns-in-Err-write_text g c =
-    inr (part_written _ _ _ _ _ _ _ _ c.in-Ok.site c.in-Ok.gathered c.in-Ok-compose_report.text.items c.in-Ok.ensures c.in-Ok-compose_report.ensures (rw c.as_slice.ensures.value at c.in-Err-write_text.ensures))
+    inr (part_written _ _ _ _ _ _ _ _ c.in-Ok.written.status c.in-Ok.written.text.items c.in-Ok.ensures (rw c.as_slice.ensures.value at c.in-Err-write_text.ensures))
 
 pub returns : goal.returns
 returns g c =
-    rw c.status_of.ensures
-    (whole_written _ _ _ _ _ _ _ _ c.in-Ok.site c.in-Ok.gathered c.in-Ok-compose_report.text.items c.in-Ok.ensures c.in-Ok-compose_report.ensures (rw c.as_slice.ensures.value at c.in-Ok-write_text.ensures))
+    whole_written _ _ _ _ _ _ _ _ c.in-Ok.written.status c.in-Ok.written.text.items c.in-Ok.ensures (rw c.as_slice.ensures.value at c.in-Ok-write_text.ensures)

@@ -1,0 +1,85 @@
+-- What a run makes of the upload that it reads.
+use Rattle.std.specs.Prelude.{◌≡◌, ℕ, List, [], ◌∷◌, Bool, true, false, if◌then◌else◌, Option, Some, None, IsSome, ◌⊎◌}
+use Rattle.std.specs.List.{list_any}
+use Rattle.byte_streams.specs.Answers.{Answer}
+use Rattle.byte_streams.specs.Reading.{Reading}
+use Rattle.byte_streams.specs.declared.fault.LineFault.{LineFault}
+use Rattle.indexmap.specs.IndexMap.{values}
+use Rattle.upload_reader.specs.Upload.{UploadState, Begins}
+use Rattle.upload_reader.specs.declared.ending.Ending.{Ending}
+use Rattle.upload_reader.specs.declared.ending.Ending.TheVariants.{GaveUp}
+use Rattle.warp_server.specs.lanes.Lane.{IsTaken}
+use Rattle.warp_server.specs.lanes.Round.{new_log}
+use Rattle.warp_server.specs.program.Run.{HasReport, HasShortReport, ReadWhileUndecided, Reads}
+use Rattle.warp_server.specs.inside.Intake.{IsBehindSite, IsRefused}
+use Rattle.warp_server.specs.declared.lanes.gathered.Gathered.{Gathered}
+use Rattle.warp_server.specs.declared.lanes.gathered.LaneResult.{LaneResult}
+use Rattle.warp_server.specs.declared.lanes.gathered.Stop.{Stop}
+use Rattle.warp_server.specs.declared.lanes.gathered.Stop.TheVariants as stops
+use Rattle.warp_server.specs.declared.program.intake.Refused.{Refused}
+use Rattle.warp_server.specs.declared.program.intake.Refused.TheVariants.{ReadFailed, NoSite, NoHello, NoMemory}
+use Rattle.warp_server.specs.declared.program.status.Status.{Status}
+use Rattle.warp_server.specs.declared.program.status.Status.TheVariants.{Done, BadSite, BadHello, OutOfMemory, InputOutput}
+use Rattle.warp_server.specs.declared.site.Site.{Site}
+
+-- ---- how a run ends
+
+abbrev pub gave_up : Option Ending → Bool
+gave_up (Some GaveUp) = true
+gave_up other = false
+
+module _ {R : Type 0} where
+  abbrev pub status_of_lanes : List (LaneResult R) → Status
+  status_of_lanes lanes = if list_any (λ lane. gave_up lane.end) lanes then OutOfMemory else Done
+
+  -- where memory was wanted, the report is of less than the uploads
+  abbrev pub status_by : Stop → List (LaneResult R) → Status
+  status_by stops.Memory lanes = OutOfMemory
+  status_by other lanes = status_of_lanes lanes
+
+  abbrev pub status_of : Gathered R → Status
+  status_of gathered = status_by gathered.stop (values gathered.clients)
+
+  -- ---- one upload
+
+  -- this lane alone was gathered
+  pub record IsOnly (gathered : Gathered R) (client : List ℕ) (lane : LaneResult R) : Type 0 where
+    pub entries_are : gathered.clients.entries ≡ (client, lane) ∷ []
+
+  -- the lane of that upload was taken to its end, or until memory was refused
+  pub record IsWhole (upload : UploadState R) (quota : ℕ) (gathered : Gathered R) : Type 0 where
+    pub client : List ℕ
+    pub lane : LaneResult R
+    pub only : IsOnly gathered client lane
+    pub is_taken : IsTaken (new_log quota upload.client) upload lane
+    pub ends : ((gathered.stop ≡ stops.None) × IsSome lane.end) ⊎ ((gathered.stop ≡ stops.Memory) × (lane.end ≡ None))
+
+  -- the site and the upload behind it, read of lines of which nothing was read before
+  pub record IsOpened (fresh : Reading R) (site : Site) (upload : UploadState R) : Type 0 where
+    pub at : Reading R
+    pub first : at.first ≡ fresh.first
+    pub needed : ReadWhileUndecided at.answers
+    pub behind : IsBehindSite at site
+    pub begins : Begins at upload
+
+abbrev pub refused_status : Refused → Status
+refused_status ReadFailed = InputOutput
+refused_status NoSite = BadSite
+refused_status NoHello = BadHello
+refused_status NoMemory = OutOfMemory
+
+-- ---- what a run writes
+
+-- a text that goes with a status
+abbrev pub HasText : Status → List ℕ → Option LineFault → List ℕ → Type 0
+HasText Done input ending text = HasReport input ending text
+HasText OutOfMemory input ending text = HasShortReport input ending text
+HasText other input ending text = ⊥
+
+module _ (reads reads' : List Answer) (left left' : Option (List ℕ)) where
+  abbrev pub IsUnread : Refused → Type 0
+  IsUnread NoMemory = Unit {0}
+  IsUnread refused = Reads reads reads' left left' (IsRefused refused)
+
+  abbrev pub IsAnswered : Status → List ℕ → Type 0
+  IsAnswered status text = Reads reads reads' left left' (λ input ending. HasText status input ending text)
