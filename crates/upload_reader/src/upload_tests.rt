@@ -252,20 +252,30 @@ fn a_message_costs_its_line(rt: HostRuntime) -> Result<(), Fail> {
     Ok(())
 }
 
+fn accept_next<R: Source>(upload: &mut Upload<R>, session: &mut Session) -> Result<(), Fail> {
+    match upload.next() {
+        Next::Got(message, _) => Ok(session.accept(&message)?),
+        _ => Err(Fail::new("no message")),
+    }
+}
+
+// The client of a first lane, whose message the session then has.
+fn first_lane(alloc: Global, session: &mut Session) -> Result<Client, Fail> {
+    let text = text_of(alloc, &[HELLO, LOAD, BYE])?;
+    let mut first = begin(alloc, Lines::over(alloc, Fed::new(text.as_slice()))?)?;
+    accept_next(&mut first, session)?;
+    Ok(first.client().copy()?)
+}
+
 // A session that has the first lane's message, before the second lane. Without a hello the first line has the number 1.
 #[test]
 fn a_lane_can_go_on_with_a_session(rt: HostRuntime) -> Result<(), Fail> {
     let alloc = rt.alloc();
-    let text = text_of(alloc, &[HELLO, LOAD, BYE])?;
-    let mut first = begin(alloc, Lines::over(alloc, Fed::new(text.as_slice()))?)?;
-    let Next::Got(load, _) = first.next() else {
-        return Err(Fail::new("no message"));
-    };
-    let mut session = Session::new(alloc);
-    session.accept(&load)?;
     let text = text_of(alloc, &[INPUT, b"", LOAD])?;
     let lines = Lines::over(alloc, Fed::new(text.as_slice()))?;
-    let mut second = Upload::open(lines, first.client().copy()?, session);
+    let mut session = Session::new(alloc);
+    let client = first_lane(alloc, &mut session)?;
+    let mut second = Upload::open(lines, client, session);
     assert!(rt; second.client().text() == "c1");
     assert_eq!(rt; run(alloc, &mut second)?.as_str(), "taken 1, E9.S1@3");
     Ok(())
