@@ -1,0 +1,189 @@
+-- What an open docket keeps.
+use Rattle.std.proofs.Common.{◌≡◌, ◌≢◌, ℕ, zero, suc, ◌+◌, ◌<◌, ◌≤◌, List, [], ◌∷◌, ◌++◌, length, get_or, take, drop, Bool, true, false, not, ◌&&◌, Option, Some, None, slice_get, option_map, ◌⊎◌, inl, inr, ap, sym, refl, subst, ◌∙◌, length-append, append-nil, arith}
+use Rattle.std.proofs.Math.ListN.{set}
+use Rattle.std.specs.Option.{option_map_or}
+use Rattle.std.proofs.lemmas.Bool.{cases_lt, true≢false, and_from, and_left, and_right, and_cases}
+use Rattle.std.proofs.lemmas.List.{length-set}
+use Rattle.std.proofs.lemmas.Option.{slice_get-get_or}
+use Rattle.conflict_desk.specs.Docket.{AreAscending, is_conflict}
+use Rattle.conflict_desk.specs.Book.{Book, opened, is_cancel, is_decided, is_cancelled, waits, front_of, with_decision}
+use Rattle.conflict_desk.specs.inside.Links.{Follows, AreLinks}
+use Rattle.conflict_desk.specs.inside.Settling.{Tell, AllSaid, IsSettled}
+use Rattle.conflict_desk.specs.inside.Kept.{cancelled_at, IsKept}
+use Rattle.conflict_desk.specs.declared.docket.Case.{Case}
+use Rattle.conflict_desk.specs.declared.decided.Choice.{Choice}
+use Rattle.conflict_desk.specs.declared.links.Link.{Link}
+use Rattle.conflict_desk.proofs.Gets.{same_some, there_is, is_within, find_is, find_none}
+use Rattle.conflict_desk.proofs.Places.{in_order}
+use Rattle.conflict_desk.proofs.Chains.{decided_other, decided_now, decided_still, cancelled_before, cancelled_still, cancelled_now}
+use Rattle.conflict_desk.proofs.Ways.{cancelled_follows}
+use Rattle.conflict_desk.proofs.Fronts.{tell_more}
+
+-- ---- who waits
+
+pub not_false : (b : Bool) → not b ≡ false → b ≡ true
+not_false true is = refl
+not_false false is = absurd (true≢false is)
+
+pub not_true : (b : Bool) → not b ≡ true → b ≡ false
+not_true true is = absurd (true≢false (sym is))
+not_true false is = refl
+
+pub both : (a b : Bool) → (a && b) ≡ true → (a ≡ true) × (b ≡ true)
+both true b is = (refl, is)
+both false b is = absurd (true≢false (sym is))
+
+module _ (book : Book) (c : Case) where
+  -- why a case doesn't wait
+  why : waits book c ≡ false → (is_conflict c.outcome ≡ false) ⊎ ((is_decided book.decisions c.visit ≡ true) ⊎ (is_cancelled book c ≡ true))
+  why none = elim (and_cases _ _ none) [
+    | inl left ↦ elim (and_cases _ _ left) [
+      | inl quiet ↦ inl quiet
+      | inr done ↦ inr (inl (not_false _ done))
+    ]
+    | inr went ↦ inr (inr (not_false _ went))
+  ]
+
+  pub no_wait : (is_conflict c.outcome ≡ false) ⊎ ((is_decided book.decisions c.visit ≡ true) ⊎ (is_cancelled book c ≡ true)) → waits book c ≡ false
+  no_wait (inl quiet) = and_left _ _ (and_left _ _ quiet)
+  no_wait (inr (inl done)) = and_left _ _ (and_right _ _ (ap not done))
+  no_wait (inr (inr went)) = and_right _ _ (ap not went)
+
+  pub it_waits : is_conflict c.outcome ≡ true → is_decided book.decisions c.visit ≡ false → is_cancelled book c ≡ false → waits book c ≡ true
+  it_waits conflict undecided stays = and_from _ _ (and_from _ _ conflict (ap not undecided)) (ap not stays)
+
+  pub waiting_parts : waits book c ≡ true → (is_conflict c.outcome ≡ true) × (is_decided book.decisions c.visit ≡ false) × (is_cancelled book c ≡ false)
+  waiting_parts is = let outer = both _ _ is in let inner = both _ _ outer.0 in (inner.0, not_true _ inner.1, not_true _ outer.1)
+
+  quiet_or : (b : Bool) → is_conflict c.outcome ≡ b → (is_conflict c.outcome ≡ true → is_cancelled book c ≡ true) → waits book c ≡ false
+  quiet_or true is went = no_wait (inr (inr (went is)))
+  quiet_or false is went = no_wait (inl is)
+
+  pub no_wait_where : (is_conflict c.outcome ≡ true → is_cancelled book c ≡ true) → waits book c ≡ false
+  no_wait_where went = quiet_or (is_conflict c.outcome) refl went
+
+pub no_wait_still : (book : Book) (visit : ℕ) (choice : Choice) (c : Case) → waits book c ≡ false → waits (with_decision visit choice book) c ≡ false
+no_wait_still book visit choice c none = elim (why book c none) [
+  | inl quiet ↦ no_wait (with_decision visit choice book) c (inl quiet)
+  | inr other ↦ elim other [
+    | inl done ↦ no_wait (with_decision visit choice book) c (inr (inl (decided_still book.decisions visit choice c.visit done)))
+    | inr went ↦ no_wait (with_decision visit choice book) c (inr (inr (cancelled_still book visit choice c went)))
+  ]
+]
+
+-- ---- the front
+
+module _ (book : Book) (links : List Link) (flags : List Bool) (next : ℕ) (kept : IsKept book links flags next) where
+  pub front_at : (items : List Case) (d : Case) → items ≡ book.cases → next < length items → Some (get_or items next d).visit ≡ front_of book
+  front_at items d same within =
+      let at = ap (λ l. slice_get l next) (sym same) ∙ slice_get-get_or items next d within in
+      sym (ap (option_map (λ case. case.visit)) (find_is (waits book) book.cases next (get_or items next d) at (kept.front _ at) (λ j y less here. kept.passed j y less here)))
+
+  pub front_none : (items : List Case) → items ≡ book.cases → length items ≤ next → None ≡ front_of book
+  front_none items same past =
+      sym (ap (option_map (λ case. case.visit)) (find_none (waits book) book.cases (λ j y here. kept.passed j y (omega (arith, is_within book.cases j y here, ap length same, past)) here)))
+
+-- ---- an opened docket
+
+at_case : (book : Book) (k : ℕ) (c : Case) → slice_get book.cases k ≡ Some c → cancelled_at book k ≡ is_cancelled book c
+at_case book k c at = ap (λ o. option_map_or (is_cancelled book) o false) at
+
+pub opened_kept : (cases : List Case) (links : List Link) (before after : List Bool) (next : ℕ) → AreAscending cases → AreLinks cases links → length links ≡ length cases → length after ≡ length cases → next ≤ length cases
+    → ((said : ℕ → Bool) → Follows 0 links said → Tell said 0 before → IsSettled said cases 0 next after) → IsKept (opened cases) links after next
+opened_kept cases links before after next up are links_count flags_count within settled =
+    let s = settled (cancelled_at (opened cases)) (cancelled_follows (opened cases) links are 0 (λ k c le at. refl)) (λ k less. absurd (omega (arith, less))) in
+    record {
+      ascending = up;
+      links_are = are;
+      links_count = links_count;
+      flags_count = flags_count;
+      within = within;
+      tell = s.tell;
+      passed = λ k c less at. no_wait_where (opened cases) c (λ conflict. sym (at_case (opened cases) k c at) ∙ s.passed k c (omega arith) less at conflict);
+      undecided = λ k c le at. refl;
+      front = λ c at. let stop = s.stops c at in it_waits (opened cases) c stop.0 refl (sym (at_case (opened cases) next c at) ∙ stop.1);
+      few = omega arith;
+    }
+
+-- ---- a decision
+
+module _ (book : Book) (links : List Link) (flags : List Bool) (next : ℕ) (kept : IsKept book links flags next) (c : Case) (at : slice_get book.cases next ≡ Some c) (choice : Choice) where
+  pub then_follows : Follows (next + 1) links (cancelled_at (with_decision c.visit choice book))
+  then_follows = cancelled_follows (with_decision c.visit choice book) links kept.links_are (next + 1) (λ k d le here.
+      decided_other book.decisions c.visit choice d.visit (λ same. omega (arith, same, in_order book.cases kept.ascending next k c d at here (omega (arith, le))))
+      ∙ kept.undecided k d (omega (arith, le)) here)
+
+  still_told : Tell (cancelled_at (with_decision c.visit choice book)) next flags
+  still_told k less =
+      let there = there_is book.cases k (omega (arith, less, kept.within)) in
+      kept.tell k less
+      ∙ at_case book k there.0 there.1
+      ∙ sym (cancelled_before book c.visit choice there.0 (in_order book.cases kept.ascending k next there.0 c there.1 at less))
+      ∙ sym (at_case (with_decision c.visit choice book) k there.0 there.1)
+
+  pub then_tell : Tell (cancelled_at (with_decision c.visit choice book)) (next + 1) (set flags next (is_cancel choice))
+  then_tell =
+      let parts = waiting_parts book c (kept.front c at) in
+      tell_more (cancelled_at (with_decision c.visit choice book)) flags next (is_cancel choice) still_told (omega (arith, is_within book.cases next c at, kept.flags_count))
+      (sym (at_case (with_decision c.visit choice book) next c at ∙ cancelled_now book c.visit choice c refl parts.1 parts.2))
+
+  module _ (after : List Bool) (then : ℕ) (later : next + 1 ≤ then) (within : then ≤ length book.cases) (count : length after ≡ length book.cases)
+      (s : IsSettled (cancelled_at (with_decision c.visit choice book)) book.cases (next + 1) then after) where
+    then_passed : (k : ℕ) (d : Case) → k < then → slice_get book.cases k ≡ Some d → waits (with_decision c.visit choice book) d ≡ false
+    then_passed k d less here = elim (cases_lt k next) [
+      | inl before ↦ no_wait_still book c.visit choice d (kept.passed k d before here)
+      | inr from ↦ elim (cases_lt next k) [
+        | inl behind ↦ no_wait_where (with_decision c.visit choice book) d (λ conflict.
+            sym (at_case (with_decision c.visit choice book) k d here) ∙ s.passed k d (omega (arith, behind)) less here conflict)
+        | inr up_to ↦
+            let same : next ≡ k = omega (arith, from, up_to) in
+            let it : c ≡ d = same_some c d (sym at ∙ ap (slice_get book.cases) same ∙ here) in
+            no_wait (with_decision c.visit choice book) d (inr (inl (subst (λ (x : Case). is_decided (book.decisions ++ record { visit = c.visit; choice = choice } ∷ []) x.visit ≡ true) it (decided_now book.decisions c.visit choice))))
+      ]
+    ]
+
+    then_undecided : (k : ℕ) (d : Case) → then ≤ k → slice_get book.cases k ≡ Some d → is_decided (book.decisions ++ record { visit = c.visit; choice = choice } ∷ []) d.visit ≡ false
+    then_undecided k d le here =
+        decided_other book.decisions c.visit choice d.visit (λ same. omega (arith, same, in_order book.cases kept.ascending next k c d at here (omega (arith, le, later))))
+        ∙ kept.undecided k d (omega (arith, le, later)) here
+
+    pub decided_kept : IsKept (with_decision c.visit choice book) links after then
+    decided_kept = record {
+      ascending = kept.ascending;
+      links_are = kept.links_are;
+      links_count = kept.links_count;
+      flags_count = count;
+      within = within;
+      tell = s.tell;
+      passed = then_passed;
+      undecided = then_undecided;
+      front = λ d here. let stop = s.stops d here in
+          it_waits (with_decision c.visit choice book) d stop.0 (then_undecided then d (omega arith) here) (sym (at_case (with_decision c.visit choice book) then d here) ∙ stop.1);
+      few = omega (arith, kept.few, later, length-append book.decisions (record { visit = c.visit; choice = choice } ∷ []));
+    }
+
+-- ---- what is settled, of equal lists
+
+pub settled_as : (cases shown : List Case) (links listed : List Link) (before after : List Bool) (from next : ℕ) → shown ≡ cases → listed ≡ links
+    → ((said : ℕ → Bool) → Follows from listed said → Tell said from before → IsSettled said shown from next after)
+    → (said : ℕ → Bool) → Follows from links said → Tell said from before → IsSettled said cases from next after
+settled_as cases shown links listed before after from next same_cases same_links settled said follows tell =
+    subst (λ cs. IsSettled said cs from next after) same_cases (settled said (subst (λ ls. Follows from ls said) (sym same_links) follows) tell)
+
+module _ (book : Book) (links : List Link) (flags : List Bool) (next : ℕ) (kept : IsKept book links flags next) (choice : Choice) where
+  decide_at : (c : Case) (written after : List Bool) (then : ℕ) → slice_get book.cases next ≡ Some c → written ≡ set flags next (is_cancel choice) → length after ≡ length written → next + 1 ≤ then → then ≤ length book.cases
+      → ((said : ℕ → Bool) → Follows (next + 1) links said → Tell said (next + 1) written → IsSettled said book.cases (next + 1) then after)
+      → IsKept (with_decision c.visit choice book) links after then
+  decide_at c written after then at is count later within settled =
+      let said = cancelled_at (with_decision c.visit choice book) in
+      decided_kept book links flags next kept c at choice after then later within
+      (count ∙ ap length is ∙ length-set flags next (is_cancel choice) ∙ kept.flags_count)
+      (settled said (then_follows book links flags next kept c at choice) (subst (Tell said (next + 1)) (sym is) (then_tell book links flags next kept c at choice)))
+
+  pub decide_kept : (items : List Case) (d : Case) (visit : ℕ) (written after : List Bool) (then : ℕ) → items ≡ book.cases → next < length items → (get_or items next d).visit ≡ visit
+      → written ≡ set flags next (is_cancel choice) → length after ≡ length written → next + 1 ≤ then → then ≤ length book.cases
+      → ((said : ℕ → Bool) → Follows (next + 1) links said → Tell said (next + 1) written → IsSettled said book.cases (next + 1) then after)
+      → IsKept (with_decision visit choice book) links after then
+  decide_kept items d visit written after then same there is written_is count later within settled =
+      subst (λ v. IsKept (with_decision v choice book) links after then) is
+      (decide_at (get_or items next d) written after then (ap (λ l. slice_get l next) (sym same) ∙ slice_get-get_or items next d there) written_is count later within settled)

@@ -1,0 +1,6 @@
+pub mod Gets
+pub mod Places
+pub mod Chains
+pub mod Ways
+pub mod Fronts
+pub mod Keeping

@@ -1,0 +1,24 @@
+use Rattle.std.proofs.Common.{◌≡◌, ℕ, ◌<◌, length, nat_lt, Some, slice_get, ap, sym, subst, ◌∙◌, rules, arith}
+use Rattle.std.specs.Option.{IsSome}
+use Rattle.std.proofs.lemmas.Bool.{false≢true}
+use Rattle.std.proofs.lemmas.Option.{slice_get-get_or}
+use Rattle.std.proofs.lemmas.List.Sorted.{IsPartitionPoint-from_clause}
+use Rattle.conflict_desk.proofs.Places.{case_at, parted, not_there}
+use Rattle.conflict_desk.proofs.docket.place_of.Goals as goal
+
+pub returns-in-Some-clause-place : goal.returns-in-Some-clause-place
+returns-in-Some-clause-place c =
+    let found = c.in-Some.ensures.lookup in
+    let at : slice_get c.args.cases.now c.partition_point-place.result ≡ Some c.in-Some.case.now =
+        slice_get-get_or c.args.cases.now c.partition_point-place.result c.in-Some.case.now found.3.0 ∙ ap (λ case. Some case) (sym (found.3.1 c.in-Some.case.now)) in
+    at ∙ sym (case_at c.args.cases.now c.requires c.args.visit _ _ at c.if-case-visit.true)
+
+pub returns-in_default-clause-place : goal.returns-in_default-clause-place
+returns-in_default-clause-place c =
+    let point = IsPartitionPoint-from_clause (λ v. nat_lt v.visit c.args.visit) c.args.cases.now _ c.partition_point-place.ensures.partitioned (parted _ c.requires _) (λ a r f called. search rules) in
+    sym (not_there _ _ _ c.requires point (λ _ d here. c.if-case-visit.false (ap (λ v. v.visit) (c.in-Some.ensures.lookup.3.1 d) ∙ here)))
+
+pub returns-in_default-2-clause-place : goal.returns-in_default-2-clause-place
+returns-in_default-2-clause-place c =
+    let point = IsPartitionPoint-from_clause (λ v. nat_lt v.visit c.args.visit) c.args.cases.now _ c.partition_point-place.ensures.partitioned (parted _ c.requires _) (λ a r f called. search rules) in
+    sym (not_there _ _ _ c.requires point (λ within d here. absurd (false≢true (subst IsSome c.in_default.is (c.get.ensures.lookup.2 within)))))

@@ -1,0 +1,12 @@
+use Rattle.std.proofs.Common.{length, sym, refl, rules, arith}
+use Rattle.conflict_desk.proofs.Ways.{root_link, new_link, parent_there}
+use Rattle.conflict_desk.proofs.links.link_of.Goals as goal
+
+pub jump_over-jump-requires-clause-parent : goal.jump_over-jump-requires-clause-parent
+jump_over-jump-requires-clause-parent c = parent_there c.args.cases.now c.requires.ascending _ _ c.args.case.now c.requires.at c.in-Some.ensures.place c.in-Some.ensures.within
+
+pub jump_over-jump-requires-clause-jumps : goal.jump_over-jump-requires-clause-jumps
+jump_over-jump-requires-clause-jumps c = λ k link at. (c.requires.links k link at).jump
+
+pub returns : goal.returns
+returns c = new_link c.args.cases.now c.args.links.now c.args.case.now _ _ _ c.requires.at c.in-Some.ensures.place (parent_there c.args.cases.now c.requires.ascending _ _ c.args.case.now c.requires.at c.in-Some.ensures.place c.in-Some.ensures.within) c.jump_over-jump.ensures

@@ -1,0 +1,86 @@
+-- What a desk answers and what a decision does: this project's own rule.
+use Rattle.std.specs.Prelude.{ℕ, List, [], ◌∷◌, Bool, true, false, ◌==◌, if◌then◌else◌, bytes_eq, map, fold, Option, Some, None, option_map, option_and_then}
+use Rattle.std.specs.List.{IsDistinct, AllByRecursion}
+use Rattle.std.specs.Map.{lookup}
+use Rattle.indexmap.specs.IndexMap.{insert_entry}
+use Rattle.visit_replay.specs.declared.outcome.Outcome.{Outcome}
+use Rattle.visit_replay.specs.declared.requests.Request.{Request}
+use Rattle.conflict_desk.specs.Docket.{AreAscending, case_of}
+use Rattle.conflict_desk.specs.Book.{Book, opened, front_of, with_decision, standing_in, requests_of}
+use Rattle.conflict_desk.specs.declared.docket.Case.{Case}
+use Rattle.conflict_desk.specs.declared.docket.Docket.{Docket}
+use Rattle.conflict_desk.specs.declared.decided.Choice.{Choice}
+use Rattle.conflict_desk.specs.declared.decided.Standing.{Standing}
+use Rattle.conflict_desk.specs.declared.fault.DeskFault.{DeskFault}
+use Rattle.conflict_desk.specs.declared.fault.DeskFault.TheVariants.{NoClient, NotFront}
+
+-- the book of each client, in the order of the dockets
+abbrev pub Books : Type 0
+Books = List (List ℕ × Book)
+
+-- ---- the dockets that a desk takes
+
+pub record AreDockets (dockets : List Docket) : Type 0 where
+  pub clients : IsDistinct bytes_eq (map (λ docket. docket.client) dockets)
+  pub visits : AllByRecursion (λ docket. AreAscending docket.cases) dockets
+
+-- nothing is decided yet
+abbrev pub opened_all : List Docket → Books
+opened_all dockets = map (λ docket. (docket.client, opened docket.cases)) dockets
+
+-- ---- what it answers
+
+abbrev pub book_of : List ℕ → Books → Option Book
+book_of client books = lookup (bytes_eq client) books
+
+abbrev pub by_case : {T : Type 0} → (Book → Case → T) → List ℕ → ℕ → Books → Option T
+by_case f client visit books = option_and_then (λ book. option_map (f book) (case_of book.cases visit)) (book_of client books)
+
+abbrev pub standing_on : List ℕ → ℕ → Books → Option Standing
+standing_on client visit books = by_case standing_in client visit books
+
+abbrev pub outcome_on : List ℕ → ℕ → Books → Option Outcome
+outcome_on client visit books = by_case (λ book case. case.outcome) client visit books
+
+abbrev pub requests_on : List ℕ → ℕ → Books → Option (List Request)
+requests_on client visit books = by_case requests_of client visit books
+
+-- ---- what a decision does
+
+abbrev pub is_front : ℕ → Option ℕ → Bool
+is_front visit None = false
+is_front visit (Some front) = front == visit
+
+-- Why that visit can't be decided: its client isn't there (C1), or it isn't its client's front (C2).
+abbrev pub refusal_in : ℕ → Option Book → Option DeskFault
+refusal_in visit None = Some NoClient
+refusal_in visit (Some book) = if is_front visit (front_of book) then None else Some (NotFront (front_of book))
+
+abbrev pub refusal : List ℕ → ℕ → Books → Option DeskFault
+refusal client visit books = refusal_in visit (book_of client books)
+
+-- a decision more in a client's book
+abbrev pub decided_in : List ℕ → ℕ → Choice → Books → Option Book → Books
+decided_in client visit choice books None = books
+decided_in client visit choice books (Some book) = insert_entry bytes_eq books client (with_decision visit choice book)
+
+abbrev pub decided_on : List ℕ → ℕ → Choice → Books → Books
+decided_on client visit choice books = decided_in client visit choice books (book_of client books)
+
+-- ---- any calls
+
+-- a call of `decide`
+pub record Call : Type 0 where
+  pub client : List ℕ
+  pub visit : ℕ
+  pub choice : Choice
+
+abbrev pub unless_refused : Option DeskFault → Books → Books → Books
+unless_refused None new old = new
+unless_refused (Some fault) new old = old
+
+abbrev pub after_call : Books → Call → Books
+after_call books call = unless_refused (refusal call.client call.visit books) (decided_on call.client call.visit call.choice books) books
+
+abbrev pub after_calls : Books → List Call → Books
+after_calls books calls = fold after_call books calls

@@ -1,0 +1,40 @@
+-- What holds of every book on a desk, whatever calls were made.
+use Rattle.std.specs.Prelude.{◌≡◌, ℕ, List, map, Bool, true, None, Some, ◌⊎◌}
+use Rattle.std.specs.List.{AllByRecursion}
+use Rattle.std.specs.List.Sorted.{IsStrictlyIncreasing}
+use Rattle.conflict_desk.specs.Docket.{case_of, parent_of, is_conflict}
+use Rattle.conflict_desk.specs.Book.{Book, is_decided, was_cancelled, is_cancelled, front_of}
+use Rattle.conflict_desk.specs.Desk.{Books}
+use Rattle.conflict_desk.specs.declared.docket.Case.{Case}
+use Rattle.conflict_desk.specs.declared.decided.Decided.{Decided}
+
+-- ---- the chain of parents
+
+-- that visit is this case's own, or its parent's, or the parent's of that, and so on
+pub data IsOnChain (cases : List Case) (visit : ℕ) : Case → Type 0 where
+  itself : (case : Case) → case.visit ≡ visit → IsOnChain cases visit case
+  above : (case parent : Case) → parent_of cases case ≡ Some parent → IsOnChain cases visit parent → IsOnChain cases visit case
+
+-- it, or a visit on its chain of parents, was cancelled by a decision
+abbrev pub IsBelowCancelled : Book → Case → Type 0
+IsBelowCancelled book case = (visit : ℕ) × IsOnChain book.cases visit case × (was_cancelled book.decisions visit ≡ true)
+
+-- ---- how conflicts leave
+
+pub record IsConflictOf (cases : List Case) (decided : Decided) : Type 0 where
+  pub case : Case
+  pub is_case : case_of cases decided.visit ≡ Some case
+  pub conflict : is_conflict case.outcome ≡ true
+
+-- a conflict that left: it was decided, or a visit above it was cancelled
+abbrev pub HasLeft : Book → Case → Type 0
+HasLeft book case = is_conflict case.outcome ≡ true → (is_decided book.decisions case.visit ≡ true) ⊎ IsBelowCancelled book case
+
+-- The visits that were decided ascend, so none was decided twice; each is a conflict; and where no front is left, every conflict has left.
+pub record LeaveInOrder (book : Book) : Type 0 where
+  pub ascend : IsStrictlyIncreasing (map (λ decided. decided.visit) book.decisions)
+  pub conflicts : AllByRecursion (IsConflictOf book.cases) book.decisions
+  pub all : front_of book ≡ None → AllByRecursion (HasLeft book) book.cases
+
+abbrev pub AllLeaveInOrder : Books → Type 0
+AllLeaveInOrder books = AllByRecursion (λ entry. LeaveInOrder entry.1) books

@@ -1,0 +1,6 @@
+pub mod Docket
+pub mod Book
+pub mod Desk
+pub mod Laws
+pub mod Fault
+pub mod inside

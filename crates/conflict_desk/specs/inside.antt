@@ -1,0 +1,3 @@
+pub mod Links
+pub mod Settling
+pub mod Kept

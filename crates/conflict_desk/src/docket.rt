@@ -1,0 +1,127 @@
+//! Dockets: what became of a client's visits.
+ghost use Rattle.std.specs.Prelude.{◌≡◌, ◌<◌, ◌++◌, [], ◌∷◌, length, slice_get, option_and_then, OnOk, OnErr, IfSome};
+ghost use Rattle.conflict_desk.specs.Docket.{AreAscending, case_of, parent_of, is_conflict, requests_in};
+
+use page_tree::NoMemory;
+use std::alloc::Global;
+use std::marker::Model;
+use upload_reader::Client;
+use visit_replay::{Outcome, Request};
+
+/// A visit and what became of it.
+#[derive(Debug, Drop)]
+pub struct Case {
+    pub visit: u64,
+    /// The number of the visit that opened it; 0 for none. One that isn't below the visit's own, or that the docket doesn't have, counts for none too.
+    pub parent: u64,
+    pub outcome: Outcome,
+}
+
+impl Case {
+    pub(crate) fn is_conflict(&self) -> bool
+        ensures { result ≡ is_conflict self.now.outcome }
+    {
+        match self.outcome {
+            Outcome::Conflict { .. } => true,
+            _ => false,
+        }
+    }
+
+    pub(crate) fn requests(&self) -> &[Request]
+        ensures { result.now ≡ requests_in self.now.outcome }
+    {
+        match &self.outcome {
+            Outcome::Untouched => &[],
+            Outcome::Done { requests } => requests.as_slice(),
+            Outcome::Conflict { requests, .. } => requests.as_slice(),
+        }
+    }
+}
+
+/// Cases, in the order of their visits' numbers. Contracts see them as a list.
+#[derive(Debug, Drop)]
+pub struct Cases {
+    items: Vec<Case>,
+}
+
+impl Model for Cases {
+    ghost use Rattle.std.specs.Prelude.{List};
+    ghost use Rattle.conflict_desk.specs.declared.docket.Case.{Case};
+
+    ghost Value = { List Case };
+
+    ghost view = { λ c. c.items.items };
+}
+
+impl Cases {
+    /// No cases. It takes no memory.
+    pub fn new(alloc: Global) -> Cases
+        ensures { result ≡ [] }
+    {
+        Cases {
+            items: Vec::new(alloc),
+        }
+    }
+
+    /// One case more, or nothing changed.
+    pub fn push(&mut self, case: Case) -> Result<(), NoMemory>
+        ensures ok { OnOk result (self.new ≡ self.old ++ case ∷ []) }
+        ensures err { OnErr result (self.new ≡ self.old) }
+    {
+        self.items.push(case)?;
+        Ok(())
+    }
+
+    pub fn as_slice(&self) -> &[Case]
+        ensures { result.now ≡ self.now }
+    {
+        self.items.as_slice()
+    }
+
+    pub fn into_vec(self) -> Vec<Case>
+        ensures { result.items ≡ self }
+    {
+        self.items
+    }
+}
+
+impl From<Vec<Case>> for Cases {
+    ghost from_gives = { λ items cases. cases ≡ items.items };
+
+    fn from(items: Vec<Case>) -> Cases {
+        Cases { items }
+    }
+}
+
+/// The cases of one client.
+#[derive(Debug, Drop)]
+pub struct Docket {
+    pub client: Client,
+    pub cases: Cases,
+}
+
+// Where the visit of that number stands.
+pub(crate) fn place_of(cases: &[Case], visit: u64) -> Option<usize>
+    requires { AreAscending cases.now }
+    ensures place { option_and_then (slice_get cases.now) result ≡ case_of cases.now visit }
+    ensures within { IfSome result (λ place. place < length cases.now) }
+{
+    let place = cases.partition_point(|case| case.visit < visit);
+    match cases.get(place) {
+        Some(case) if case.visit == visit => Some(place),
+        _ => None,
+    }
+}
+
+// Where the visit stands that opened this one.
+pub(crate) fn parent_of(cases: &[Case], case: &Case) -> Option<usize>
+    requires { AreAscending cases.now }
+    ensures place { option_and_then (slice_get cases.now) result ≡ parent_of cases.now case.now }
+    ensures within { IfSome result (λ place. place < length cases.now) }
+{
+    if case.parent < case.visit {
+        place_of(cases, case.parent)
+    } else {
+        None
+    }
+}

@@ -1,0 +1,149 @@
+//! A docket on the desk.
+ghost use Rattle.std.specs.Prelude.{ℕ, ◌≡◌, ◌≢◌, ◌+◌, ◌≤◌, ◌<◌, Bool, List, length, slice_get, Some, false, IfSome, IfOk, IfErr, OnOk};
+ghost use Rattle.std.specs.Option.{option_map_or};
+ghost use Rattle.std.specs.List.{slice_index_or};
+ghost use Rattle.conflict_desk.specs.declared.links.Link.{Link as Linked};
+ghost use Rattle.conflict_desk.specs.Docket.{AreAscending, case_of};
+ghost use Rattle.conflict_desk.specs.Book.{opened, is_cancel, front_of, with_decision, standing_in, requests_of};
+ghost use Rattle.conflict_desk.specs.Laws.{LeaveInOrder};
+ghost use Rattle.conflict_desk.specs.inside.Links.{AreLinks, Follows};
+ghost use Rattle.conflict_desk.specs.inside.Settling.{Tell, IsSettled};
+
+use crate::decided::{Choice, Decided, Standing};
+use crate::docket::{Case, Cases, place_of};
+use crate::links::{Link, links_of};
+use page_tree::NoMemory;
+use std::alloc::Global;
+use std::marker::Model;
+use visit_replay::{Outcome, Request};
+
+/// A client's docket with the decisions made on it. Contracts see it as a book.
+#[derive(Drop)]
+pub(crate) struct OpenDocket {
+    cases: Cases,
+    // with room for a decision on each case
+    decisions: Vec<Decided>,
+    links: Vec<Link>,
+    // of each case before `next`, whether it is cancelled
+    gone: Vec<bool>,
+    // where the front stands, or the number of cases
+    next: usize,
+}
+
+impl Model for OpenDocket {
+    ghost use Rattle.conflict_desk.specs.Book.{Book};
+
+    ghost Value = { Book };
+
+    ghost use Rattle.conflict_desk.specs.inside.Kept.{book_in, IsOpenDocket};
+
+    ghost view = { book_in };
+
+    ghost invariant = { IsOpenDocket };
+}
+
+impl OpenDocket {
+    /// With nothing decided yet.
+    pub(crate) fn open(alloc: Global, cases: Cases) -> Result<OpenDocket, NoMemory>
+        requires { AreAscending cases }
+        ensures { IfOk result (λ book. book ≡ opened cases) }
+    {
+        let count = cases.as_slice().len();
+        let links = links_of(alloc, cases.as_slice())?;
+        let decisions = Vec::with_capacity(alloc, count)?;
+        let mut gone = Vec::from_elem(alloc, false, count)?;
+        let next = settle(cases.as_slice(), links.as_slice(), gone.as_mut_slice(), 0);
+        Ok(OpenDocket {
+            cases,
+            decisions,
+            links,
+            gone,
+            next,
+        })
+    }
+
+    pub(crate) fn cases(&self) -> &[Case]
+        ensures { result.now ≡ self.now.cases }
+    {
+        self.cases.as_slice()
+    }
+
+    /// The least visit that waits.
+    pub(crate) fn front(&self) -> Option<u64>
+        ensures { result ≡ front_of self.now }
+    {
+        let cases = self.cases.as_slice();
+        if self.next < cases.len() {
+            Some(cases[self.next].visit)
+        } else {
+            None
+        }
+    }
+
+    /// Decides the front. Another visit is refused, with the front.
+    pub(crate) fn decide(&mut self, visit: u64, choice: Choice) -> Result<(), Option<u64>>
+        ensures front { OnOk result (front_of self.old ≡ Some visit) }
+        ensures decided { OnOk result (self.new ≡ with_decision visit choice self.old) }
+        ensures refused { IfErr result (λ front. (front ≡ front_of self.old) × (front ≢ Some visit) × (self.new ≡ self.old)) }
+    {
+        let next = self.next;
+        if next >= self.cases.as_slice().len() {
+            return Err(None);
+        }
+        let front = self.cases.as_slice()[next].visit;
+        if front != visit {
+            return Err(Some(front));
+        }
+        self.decisions.push_reserved(Decided { visit, choice });
+        self.gone[next] = is_cancel(choice);
+        self.next = settle(
+            self.cases.as_slice(),
+            self.links.as_slice(),
+            self.gone.as_mut_slice(),
+            next + 1,
+        );
+        Ok(())
+    }
+}
+
+fn is_cancel(choice: Choice) -> bool
+    ensures { result ≡ is_cancel choice }
+{
+    match choice {
+        Choice::Cancel => true,
+        Choice::Keep => false,
+    }
+}
+
+// Goes from there to the next conflict that isn't below a cancelled visit, or to the end, and marks the cancelled visits before it.
+fn settle(cases: &[Case], links: &[Link], gone: &mut [bool], from: usize) -> usize
+    requires links { AreLinks cases.now links.now }
+    requires links_count { length links.now ≡ length cases.now }
+    requires gone_count { length gone.old ≡ length cases.now }
+    requires from { from ≤ length cases.now }
+    ensures from { from ≤ result }
+    ensures within { result ≤ length cases.now }
+    ensures settled { (said : ℕ → Bool) → Follows from links.now said → Tell said from gone.old → IsSettled said cases.now from result gone.new }
+{
+    let mut place = from;
+    while place < cases.len() {
+        gone[place] = is_below_gone(links, gone, place);
+        if !gone[place] && cases[place].is_conflict() {
+            return place;
+        }
+        place += 1;
+    }
+    place
+}
+
+// Whether the visit at that place has a parent that is marked.
+fn is_below_gone(links: &[Link], gone: &[bool], place: usize) -> bool
+    requires place { place < length links.now }
+    requires parent { (link : Linked) → slice_get links.now place ≡ Some link → IfSome link.parent (λ parent. parent < length gone.now) }
+    ensures { (link : Linked) → slice_get links.now place ≡ Some link → result ≡ option_map_or (λ parent. slice_index_or gone.now parent false) link.parent false }
+{
+    match links[place].parent {
+        Some(parent) => gone[parent],
+        None => false,
+    }
+}
