@@ -1,12 +1,15 @@
 -- What an open docket keeps.
-use Rattle.std.proofs.Common.{◌≡◌, ◌≢◌, ℕ, zero, suc, ◌+◌, ◌<◌, ◌≤◌, List, [], ◌∷◌, ◌++◌, length, get_or, take, drop, Bool, true, false, not, ◌&&◌, Option, Some, None, slice_get, option_map, ◌⊎◌, inl, inr, ap, sym, refl, subst, ◌∙◌, length-append, append-nil, arith}
+use Rattle.std.proofs.Common.{◌≡◌, ◌≢◌, ℕ, zero, suc, ◌+◌, ◌<◌, ◌≤◌, List, [], ◌∷◌, ◌++◌, length, get_or, take, drop, Bool, true, false, not, ◌&&◌, Option, Some, None, slice_get, option_map, nat_lt, cond, ◌⊎◌, inl, inr, ap, sym, refl, subst, ◌∙◌, length-append, append-nil, arith}
 use Rattle.std.proofs.Math.ListN.{set}
 use Rattle.std.specs.Option.{option_map_or}
-use Rattle.std.proofs.lemmas.Bool.{cases_lt, true≢false, and_from, and_left, and_right, and_cases}
+use Rattle.std.proofs.lemmas.Bool.{cases_lt, true≢false, and_from, and_left, and_right, and_cases, cond-true, cond-false, ltb-true, ltb-false}
 use Rattle.std.proofs.lemmas.List.{length-set}
 use Rattle.std.proofs.lemmas.Option.{slice_get-get_or}
+use Rattle.visit_replay.specs.declared.outcome.Outcome.{Outcome}
+use Rattle.visit_replay.specs.declared.outcome.Outcome.TheVariants.{Untouched, Done, Conflict}
 use Rattle.conflict_desk.specs.Docket.{AreAscending, is_conflict}
-use Rattle.conflict_desk.specs.Book.{Book, opened, is_cancel, is_decided, is_cancelled, waits, front_of, with_decision}
+use Rattle.conflict_desk.specs.Book.{Book, opened, is_cancel, is_decided, is_cancelled, waits, front_of, with_decision, standing_by, standing_in}
+use Rattle.conflict_desk.specs.declared.decided.Standing.TheVariants as standing
 use Rattle.conflict_desk.specs.inside.Links.{Follows, AreLinks}
 use Rattle.conflict_desk.specs.inside.Settling.{Tell, AllSaid, IsSettled}
 use Rattle.conflict_desk.specs.inside.Kept.{cancelled_at, IsKept}
@@ -187,3 +190,32 @@ module _ (book : Book) (links : List Link) (flags : List Bool) (next : ℕ) (kep
   decide_kept items d visit written after then same there is written_is count later within settled =
       subst (λ v. IsKept (with_decision v choice book) links after then) is
       (decide_at (get_or items next d) written after then (ap (λ l. slice_get l next) (sym same) ∙ slice_get-get_or items next d there) written_is count later within settled)
+
+-- ---- how a visit stands
+
+conflict_only : (o : Outcome) (b d : Bool) → (is_conflict o ≡ true → b ≡ d) → standing_by o b ≡ standing_by o d
+conflict_only Untouched b d same = refl
+conflict_only (Done requests) b d same = refl
+conflict_only (Conflict requests at kind) b d same = ap (λ x. cond x standing.Kept standing.Waiting) (same refl)
+
+module _ (book : Book) (links : List Link) (flags : List Bool) (next : ℕ) (kept : IsKept book links flags next) (place : ℕ) (c : Case) (at : slice_get book.cases place ≡ Some c) where
+  pub cancelled_is_said : (b : Bool) → ((said : ℕ → Bool) → Follows next links said → Tell said next flags → b ≡ said place) → b ≡ is_cancelled book c
+  cancelled_is_said b is = is (cancelled_at book) (cancelled_follows book links kept.links_are next kept.undecided) kept.tell ∙ at_case book place c at
+
+  decided_by : is_conflict c.outcome ≡ true → is_cancelled book c ≡ false → (b : Bool) → nat_lt place next ≡ b → b ≡ is_decided book.decisions c.visit
+  decided_by conflict stays true before = elim (why book c (kept.passed place c (ltb-true _ _ before) at)) [
+    | inl quiet ↦ absurd (true≢false (sym conflict ∙ quiet))
+    | inr other ↦ elim other [
+      | inl done ↦ sym done
+      | inr went ↦ absurd (true≢false (sym went ∙ stays))
+    ]
+  ]
+  decided_by conflict stays false after = sym (kept.undecided place c (ltb-false _ _ after) at)
+
+  pub cancelled_standing : is_cancelled book c ≡ true → standing.Cancelled ≡ standing_in book c
+  cancelled_standing went = sym (cond-true (is_cancelled book c) standing.Cancelled (standing_by c.outcome (is_decided book.decisions c.visit)) went)
+
+  pub other_standing : is_cancelled book c ≡ false → standing_by c.outcome (nat_lt place next) ≡ standing_in book c
+  other_standing stays =
+      conflict_only c.outcome (nat_lt place next) (is_decided book.decisions c.visit) (λ conflict. decided_by conflict stays (nat_lt place next) refl)
+      ∙ sym (cond-false (is_cancelled book c) standing.Cancelled (standing_by c.outcome (is_decided book.decisions c.visit)) stays)

@@ -1,10 +1,10 @@
 -- Ways up the chains of parents.
-use Rattle.std.proofs.Common.{◌≡◌, ℕ, zero, suc, ◌+◌, ◌<◌, ◌≤◌, List, [], ◌∷◌, ◌++◌, length, get_or, Bool, true, false, ◌||◌, Option, Some, None, slice_get, IfSome, option_and_then, inl, inr, ap, sym, refl, subst, ◌∙◌, arith}
+use Rattle.std.proofs.Common.{◌≡◌, ℕ, zero, suc, ◌+◌, ◌<◌, ◌≤◌, List, [], ◌∷◌, ◌++◌, length, get_or, Bool, true, false, ◌||◌, Option, Some, None, slice_get, IfSome, option_and_then, ◌⊎◌, inl, inr, ap, sym, refl, subst, ◌∙◌, arith}
 use Rattle.std.specs.Option.{option_map_or}
 use Rattle.std.proofs.lemmas.Option.{slice_get-get_or, get_or_from_slice_get}
 use Rattle.conflict_desk.specs.Docket.{AreAscending, parent_of}
 use Rattle.conflict_desk.specs.Book.{Book, is_decided, was_cancelled, is_cancelled}
-use Rattle.conflict_desk.specs.inside.Links.{Follows, LeadsTo, IsLink, AreLinks, HaveJumps, IsUp}
+use Rattle.conflict_desk.specs.inside.Links.{Follows, LeadsTo, IsLink, AreLinks, HaveJumps, HaveParents, IsUp}
 use Rattle.conflict_desk.specs.inside.Kept.{cancelled_at}
 use Rattle.conflict_desk.specs.declared.docket.Case.{Case}
 use Rattle.conflict_desk.specs.declared.links.Link.{Link}
@@ -88,3 +88,21 @@ module _ (book : Book) (links : List Link) (are : AreLinks book.cases links) whe
       ∙ ap (λ b. b || option_map_or (is_cancelled book) (parent_of book.cases is.case) false) (undecided_stays book.decisions is.case.visit (none k is.case after is.at))
       ∙ ap (λ o. option_map_or (is_cancelled book) o false) is.parent
       ∙ parent_follows link.parent
+
+-- ---- one step up
+
+module _ (links : List Link) (parents : HaveParents links) (jumps : HaveJumps links) (k up next : ℕ) (d : Link) (within : k < length links) (after : next ≤ k) where
+  jump_up : (get_or links k d).jump ≡ Some up → next ≤ up → (up < k) × ((said : ℕ → Bool) → Follows next links said → said k ≡ said up)
+  jump_up is le = let leads = jump_leads links jumps k up d within is in (leads.0, λ said follows. leads.1 next said follows le)
+
+  parent_up : (get_or links k d).parent ≡ Some up → (up < k) × ((said : ℕ → Bool) → Follows next links said → said k ≡ said up)
+  parent_up is =
+      let at = slice_get-get_or links k d within in
+      (subst (λ o. IfSome o (λ p. p < k)) is (parents k (get_or links k d) at), λ said follows. follows k (get_or links k d) after at ∙ ap (λ o. option_map_or said o false) is)
+
+  pub step_leads : (((get_or links k d).jump ≡ Some up) × (next ≤ up)) ⊎ ((get_or links k d).parent ≡ Some up) → (up < k) × ((said : ℕ → Bool) → Follows next links said → said k ≡ said up)
+  step_leads (inl by_jump) = jump_up by_jump.0 by_jump.1
+  step_leads (inr by_parent) = parent_up by_parent
+
+  pub at_root : (get_or links k d).parent ≡ None → (said : ℕ → Bool) → Follows next links said → said k ≡ false
+  at_root none said follows = follows k (get_or links k d) after (slice_get-get_or links k d within) ∙ ap (λ o. option_map_or said o false) none

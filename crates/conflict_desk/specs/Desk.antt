@@ -1,5 +1,6 @@
 -- What a desk answers and what a decision does: this project's own rule.
-use Rattle.std.specs.Prelude.{ℕ, List, [], ◌∷◌, Bool, true, false, ◌==◌, if◌then◌else◌, bytes_eq, map, fold, Option, Some, None, option_map, option_and_then}
+use Rattle.std.specs.Prelude.{ℕ, List, [], ◌∷◌, Bool, true, false, ◌==◌, if◌then◌else◌, bytes_eq, map, fold, Option, Some, None, option_map, option_and_then, Result, Ok, Err}
+use Rattle.std.specs.Option.{option_map_or}
 use Rattle.std.specs.List.{IsDistinct, AllByRecursion}
 use Rattle.std.specs.Map.{lookup}
 use Rattle.indexmap.specs.IndexMap.{insert_entry}
@@ -32,6 +33,10 @@ opened_all dockets = map (λ docket. (docket.client, opened docket.cases)) docke
 
 abbrev pub book_of : List ℕ → Books → Option Book
 book_of client books = lookup (bytes_eq client) books
+
+-- the client's front; C1 where the client isn't there
+abbrev pub front_on : List ℕ → Books → Result (Option ℕ) DeskFault
+front_on client books = option_map_or (λ book. Ok (front_of book)) (book_of client books) (Err NoClient)
 
 abbrev pub by_case : {T : Type 0} → (Book → Case → T) → List ℕ → ℕ → Books → Option T
 by_case f client visit books = option_and_then (λ book. option_map (f book) (case_of book.cases visit)) (book_of client books)

@@ -7,14 +7,14 @@
 #![tactic(auto)]
 
 mod decided;
-//mod desk;
+mod desk;
 mod docket;
 mod fault;
 mod links;
 mod open_docket;
 
 pub use decided::{Choice, Decided, Standing};
-//pub use desk::Desk;
+pub use desk::Desk;
 pub use docket::{Case, Cases, Docket};
 pub use fault::DeskFault;
 

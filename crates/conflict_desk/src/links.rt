@@ -1,7 +1,8 @@
 //! Short ways up the chains of parents.
-ghost use Rattle.std.specs.Prelude.{◌≡◌, ◌≤◌, ◌<◌, ◌++◌, [], ◌∷◌, length, slice_get, Some, IfOk, IfSome};
+ghost use Rattle.std.specs.Prelude.{ℕ, ◌≡◌, ◌≤◌, ◌⊎◌, Bool, None, ◌<◌, ◌++◌, [], ◌∷◌, length, slice_get, Some, IfOk, IfSome};
 ghost use Rattle.conflict_desk.specs.Docket.{AreAscending};
-ghost use Rattle.conflict_desk.specs.inside.Links.{IsLink, AreLinks, HaveJumps, IsUp};
+ghost use Rattle.conflict_desk.specs.inside.Settling.{Tell};
+ghost use Rattle.conflict_desk.specs.inside.Links.{IsLink, AreLinks, HaveJumps, HaveParents, IsUp, Follows};
 
 use crate::docket::{Case, parent_of};
 use page_tree::NoMemory;
@@ -67,4 +68,33 @@ fn jump_over(links: &[Link], parent: usize) -> (usize, usize)
         }
     }
     (parent, 1)
+}
+
+// Whether the case at that place is below one before `next` that is marked, or is itself such a one.
+pub(crate) fn is_gone(links: &[Link], gone: &[bool], next: usize, place: usize) -> bool
+    requires parents { HaveParents links.now }
+    requires jumps { HaveJumps links.now }
+    requires count { length gone.now ≡ length links.now }
+    requires place { place < length links.now }
+    ensures { (said : ℕ → Bool) → Follows next links.now said → Tell said next gone.now → result ≡ said place }
+{
+    let mut at = place;
+    while at >= next {
+        let Some(above) = above(links[at], next) else {
+            return false;
+        };
+        at = above;
+    }
+    gone[at]
+}
+
+// A place further up the chain of parents: by the jump, where that isn't before `next`, else the parent's.
+fn above(link: Link, next: usize) -> Option<usize>
+    ensures up { IfSome result (λ above. ((link.jump ≡ Some above) × (next ≤ above)) ⊎ (link.parent ≡ Some above)) }
+    ensures none { result ≡ None → link.parent ≡ None }
+{
+    match link.jump {
+        Some(jump) if jump >= next => Some(jump),
+        _ => link.parent,
+    }
 }

@@ -1,17 +1,18 @@
 //! A docket on the desk.
-ghost use Rattle.std.specs.Prelude.{ℕ, ◌≡◌, ◌≢◌, ◌+◌, ◌≤◌, ◌<◌, Bool, List, length, slice_get, Some, false, IfSome, IfOk, IfErr, OnOk};
+ghost use Rattle.std.specs.Prelude.{ℕ, ◌≡◌, ◌≢◌, ◌+◌, ◌≤◌, ◌<◌, Bool, List, length, slice_get, Some, false, option_map, IfSome, IfOk, IfErr, OnOk};
 ghost use Rattle.std.specs.Option.{option_map_or};
 ghost use Rattle.std.specs.List.{slice_index_or};
 ghost use Rattle.conflict_desk.specs.declared.links.Link.{Link as Linked};
 ghost use Rattle.conflict_desk.specs.Docket.{AreAscending, case_of};
-ghost use Rattle.conflict_desk.specs.Book.{opened, is_cancel, front_of, with_decision, standing_in, requests_of};
+ghost use Rattle.conflict_desk.specs.Book.{opened, is_cancel, is_cancelled, front_of, with_decision, standing_by, standing_in, requests_of};
+ghost use Rattle.conflict_desk.specs.declared.docket.Case.{Case as OneCase};
 ghost use Rattle.conflict_desk.specs.Laws.{LeaveInOrder};
 ghost use Rattle.conflict_desk.specs.inside.Links.{AreLinks, Follows};
 ghost use Rattle.conflict_desk.specs.inside.Settling.{Tell, IsSettled};
 
 use crate::decided::{Choice, Decided, Standing};
 use crate::docket::{Case, Cases, place_of};
-use crate::links::{Link, links_of};
+use crate::links::{Link, is_gone, links_of};
 use page_tree::NoMemory;
 use std::alloc::Global;
 use std::marker::Model;
@@ -103,6 +104,79 @@ impl OpenDocket {
             next + 1,
         );
         Ok(())
+    }
+
+    /// How the visit of that number stands.
+    pub(crate) fn standing(&self, visit: u64) -> Option<Standing>
+        ensures { result ≡ option_map (standing_in self.now) (case_of self.now.cases visit) }
+    {
+        let place = place_of(self.cases.as_slice(), visit)?;
+        Some(self.standing_at(place))
+    }
+
+    /// The case of the visit of that number.
+    pub(crate) fn case(&self, visit: u64) -> Option<&Case>
+        ensures { option_map (λ case. case.now) result ≡ case_of self.now.cases visit }
+    {
+        let place = place_of(self.cases.as_slice(), visit)?;
+        Some(&self.cases.as_slice()[place])
+    }
+
+    /// The requests of the visit of that number: none where it is cancelled.
+    pub(crate) fn requests(&self, visit: u64) -> Option<&[Request]>
+        ensures { option_map (λ requests. requests.now) result ≡ option_map (requests_of self.now) (case_of self.now.cases visit) }
+    {
+        let place = place_of(self.cases.as_slice(), visit)?;
+        Some(self.requests_at(place))
+    }
+
+    fn is_cancelled_at(&self, place: usize) -> bool
+        requires { place < length self.now.cases }
+        ensures { (case : OneCase) → slice_get self.now.cases place ≡ Some case → result ≡ is_cancelled self.now case }
+    {
+        is_gone(
+            self.links.as_slice(),
+            self.gone.as_slice(),
+            self.next,
+            place,
+        )
+    }
+
+    fn standing_at(&self, place: usize) -> Standing
+        requires { place < length self.now.cases }
+        ensures { (case : OneCase) → slice_get self.now.cases place ≡ Some case → result ≡ standing_in self.now case }
+    {
+        if self.is_cancelled_at(place) {
+            return Standing::Cancelled;
+        }
+        standing_by(&self.cases.as_slice()[place].outcome, place < self.next)
+    }
+
+    fn requests_at(&self, place: usize) -> &[Request]
+        requires { place < length self.now.cases }
+        ensures { (case : OneCase) → slice_get self.now.cases place ≡ Some case → result.now ≡ requests_of self.now case }
+    {
+        if self.is_cancelled_at(place) {
+            return &[];
+        }
+        self.cases.as_slice()[place].requests()
+    }
+}
+
+// How a visit stands that isn't cancelled.
+fn standing_by(outcome: &Outcome, decided: bool) -> Standing
+    ensures { result ≡ standing_by outcome.now decided }
+{
+    match outcome {
+        Outcome::Untouched => Standing::Untouched,
+        Outcome::Done { .. } => Standing::Done,
+        Outcome::Conflict { .. } => {
+            if decided {
+                Standing::Kept
+            } else {
+                Standing::Waiting
+            }
+        }
     }
 }
 

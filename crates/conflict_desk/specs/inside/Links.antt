@@ -26,6 +26,9 @@ AreLinks cases links = (k : ℕ) (link : Link) → slice_get links k ≡ Some li
 abbrev pub HaveJumps : List Link → Type 0
 HaveJumps links = (k : ℕ) (link : Link) → slice_get links k ≡ Some link → IfSome link.jump (LeadsTo links k)
 
+abbrev pub HaveParents : List Link → Type 0
+HaveParents links = (k : ℕ) (link : Link) → slice_get links k ≡ Some link → IfSome link.parent (λ p. p < k)
+
 -- that place, or one further up
 abbrev pub IsUp : List Link → ℕ → ℕ → Type 0
 IsUp links k j = (j ≡ k) ⊎ LeadsTo links k j

@@ -1,0 +1,134 @@
+//! A desk with the dockets of several clients.
+ghost use Rattle.std.specs.Prelude.{ℕ, ◌≡◌, ◌≢◌, ◌<◌, ◌+◌, ◌≤◌, List, length, option_map, Option, Some, None, bytes_eq, slice_get, IfOk, IfErr, OnOk};
+ghost use Rattle.indexmap.specs.IndexMap.{values, spare, insert_entry, set_value_at};
+ghost use Rattle.conflict_desk.specs.Book.{Book, front_of, with_decision};
+ghost use Rattle.conflict_desk.specs.Desk.{AreDockets, opened_all, book_of, standing_on, outcome_on, requests_on, refusal, front_on, decided_on, Call, after_calls};
+ghost use Rattle.conflict_desk.specs.Laws.{AllLeaveInOrder, IsBelowCancelled};
+ghost use Rattle.conflict_desk.specs.declared.fault.DeskFault.TheVariants.{NoMemory};
+
+use crate::decided::{Choice, Standing};
+use crate::docket::{Case, Docket};
+use crate::fault::DeskFault;
+use crate::open_docket::OpenDocket;
+use indexmap::IndexMap;
+use std::alloc::Global;
+use std::marker::Model;
+use upload_reader::Client;
+use visit_replay::{Outcome, Request};
+
+/// What waits for decisions, by client. Contracts see each client's cases as they were opened, and the decisions that were made on them.
+#[derive(Drop)]
+pub struct Desk {
+    dockets: IndexMap<Client, OpenDocket>,
+}
+
+impl Model for Desk {
+    ghost use Rattle.std.specs.Prelude.{ℕ, List};
+    ghost use Rattle.conflict_desk.specs.Book.{Book};
+
+    ghost Value = { List (List ℕ × Book) };
+
+    ghost view = { λ d. d.dockets.entries };
+}
+
+impl Desk {
+    /// A desk with these dockets, on which nothing is decided. Each is of a client of its own, and its visits' numbers ascend.
+    pub fn open(alloc: Global, dockets: Vec<Docket>) -> Result<Desk, DeskFault>
+        requires { AreDockets dockets.items }
+        ensures opened { IfOk result (λ desk. desk ≡ opened_all dockets.items) }
+        ensures refused { IfErr result (λ fault. fault ≡ NoMemory) }
+
+        // Whatever calls follow, each client's conflicts leave in order, each once.
+        ensures leave { (calls : List Call) → AllLeaveInOrder (after_calls (opened_all dockets.items) calls) }
+    {
+        let mut open = IndexMap::new(alloc);
+        open.reserve(dockets.len())?;
+        for docket in dockets {
+            let Docket { client, cases } = docket;
+            let docket = OpenDocket::open(alloc, cases)?;
+            put(&mut open, client, docket);
+        }
+        Ok(Desk { dockets: open })
+    }
+
+    /// The least visit of a client whose conflict waits, if any does.
+    pub fn front(&self, client: &Client) -> Result<Option<u64>, DeskFault>
+        ensures { result ≡ front_on client.now self.now }
+    {
+        match self.dockets.get(client) {
+            Some(docket) => Ok(docket.front()),
+            None => Err(DeskFault::NoClient),
+        }
+    }
+
+    /// Decides a client's front. Any other visit is refused, and a refusal changes nothing. It takes no memory.
+    pub fn decide(&mut self, client: &Client, visit: u64, choice: Choice) -> Result<(), DeskFault>
+        ensures ok { OnOk result (refusal client.now visit self.old ≡ None) }
+        ensures decided { OnOk result (self.new ≡ decided_on client.now visit choice self.old) }
+        ensures refused { IfErr result (λ fault. (refusal client.now visit self.old ≡ Some fault) × (self.new ≡ self.old)) }
+    {
+        let Some(place) = self.dockets.get_index_of(client) else {
+            return Err(DeskFault::NoClient);
+        };
+        match decide_at(&mut self.dockets, place, visit, choice) {
+            Ok(()) => Ok(()),
+            Err(front) => Err(DeskFault::NotFront(front)),
+        }
+    }
+
+    /// How a client's visit stands; none where the client or the visit isn't there.
+    pub fn standing(&self, client: &Client, visit: u64) -> Option<Standing>
+        ensures { result ≡ standing_on client.now visit self.now }
+    {
+        self.dockets.get(client)?.standing(visit)
+    }
+
+    /// What became of a client's visit, as it was opened.
+    pub fn outcome(&self, client: &Client, visit: u64) -> Option<&Outcome>
+        ensures { option_map (λ outcome. outcome.now) result ≡ outcome_on client.now visit self.now }
+    {
+        let case = self.dockets.get(client)?.case(visit)?;
+        Some(&case.outcome)
+    }
+
+    /// The requests of a client's visit: those of its outcome, and none where it is cancelled.
+    pub fn requests(&self, client: &Client, visit: u64) -> Option<&[Request]>
+        ensures { option_map (λ requests. requests.now) result ≡ requests_on client.now visit self.now }
+    {
+        self.dockets.get(client)?.requests(visit)
+    }
+
+    /// A client's cases, as they were opened.
+    pub fn cases(&self, client: &Client) -> Option<&[Case]>
+        ensures { option_map (λ cases. cases.now) result ≡ option_map (λ book. book.cases) (book_of client.now self.now) }
+    {
+        Some(self.dockets.get(client)?.cases())
+    }
+}
+
+// There is room for it.
+fn put(dockets: &mut IndexMap<Client, OpenDocket>, client: Client, docket: OpenDocket)
+    requires { 0 < spare dockets.old }
+    ensures entries { dockets.new.entries ≡ insert_entry bytes_eq dockets.old.entries client docket }
+    ensures room { spare dockets.old ≤ spare dockets.new + 1 }
+{
+    let _known = dockets.insert(client, docket);
+}
+
+// Decides the front of the docket at that place.
+fn decide_at(
+    dockets: &mut IndexMap<Client, OpenDocket>,
+    place: usize,
+    visit: u64,
+    choice: Choice,
+) -> Result<(), Option<u64>>
+    requires { place < length dockets.old.entries }
+    ensures front { (book : Book) → slice_get (values dockets.old) place ≡ Some book → OnOk result (front_of book ≡ Some visit) }
+    ensures decided { (book : Book) → slice_get (values dockets.old) place ≡ Some book → OnOk result (dockets.new.entries ≡ set_value_at dockets.old.entries place (with_decision visit choice book)) }
+    ensures refused { (book : Book) → slice_get (values dockets.old) place ≡ Some book → IfErr result (λ front. (front ≡ front_of book) × (front ≢ Some visit) × (dockets.new ≡ dockets.old)) }
+{
+    match dockets.get_index_mut(place) {
+        Some(docket) => docket.decide(visit, choice),
+        None => Err(None),
+    }
+}
