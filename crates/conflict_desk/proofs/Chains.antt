@@ -76,7 +76,7 @@ undecided_stays (d ∷ decisions) visit none =
     or_from _ _ (and_left (d.visit == visit) (is_cancel d.choice) parts.0) (undecided_stays decisions visit parts.1)
 
 module _ (decisions : List Decided) (visit : ℕ) (choice : Choice) where
-  decided_more : (other : ℕ) → is_decided (decisions ++ record { visit = visit; choice = choice } ∷ []) other ≡ (is_decided decisions other || visit == other)
+  pub decided_more : (other : ℕ) → is_decided (decisions ++ record { visit = visit; choice = choice } ∷ []) other ≡ (is_decided decisions other || visit == other)
   decided_more other = list_any-append (λ d. d.visit == other) decisions (record { visit = visit; choice = choice } ∷ []) ∙ ap (λ b. is_decided decisions other || b) (or_nothing _)
 
   pub decided_other : (other : ℕ) → visit ≢ other → is_decided (decisions ++ record { visit = visit; choice = choice } ∷ []) other ≡ is_decided decisions other

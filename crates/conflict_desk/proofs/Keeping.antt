@@ -38,7 +38,7 @@ both false b is = absurd (true≢false (sym is))
 
 module _ (book : Book) (c : Case) where
   -- why a case doesn't wait
-  why : waits book c ≡ false → (is_conflict c.outcome ≡ false) ⊎ ((is_decided book.decisions c.visit ≡ true) ⊎ (is_cancelled book c ≡ true))
+  pub why : waits book c ≡ false → (is_conflict c.outcome ≡ false) ⊎ ((is_decided book.decisions c.visit ≡ true) ⊎ (is_cancelled book c ≡ true))
   why none = elim (and_cases _ _ none) [
     | inl left ↦ elim (and_cases _ _ left) [
       | inl quiet ↦ inl quiet

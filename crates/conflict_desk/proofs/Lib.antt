@@ -4,3 +4,5 @@ pub mod Chains
 pub mod Ways
 pub mod Fronts
 pub mod Keeping
+pub mod Books
+pub mod Leaving

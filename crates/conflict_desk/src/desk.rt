@@ -1,10 +1,13 @@
 //! A desk with the dockets of several clients.
-ghost use Rattle.std.specs.Prelude.{ℕ, ◌≡◌, ◌≢◌, ◌<◌, ◌+◌, ◌≤◌, List, length, option_map, Option, Some, None, bytes_eq, slice_get, IfOk, IfErr, OnOk};
+ghost use Rattle.std.specs.Prelude.{ℕ, ◌≡◌, ◌≢◌, ◌<◌, ◌+◌, ◌≤◌, List, length, option_map, Option, Some, None, bytes_eq, ◌↔◌, slice_get, IfOk, IfErr, OnOk};
 ghost use Rattle.indexmap.specs.IndexMap.{values, spare, insert_entry, set_value_at};
 ghost use Rattle.conflict_desk.specs.Book.{Book, front_of, with_decision};
 ghost use Rattle.conflict_desk.specs.Desk.{AreDockets, opened_all, book_of, standing_on, outcome_on, requests_on, refusal, front_on, decided_on, Call, after_calls};
 ghost use Rattle.conflict_desk.specs.Laws.{AllLeaveInOrder, IsBelowCancelled};
-ghost use Rattle.conflict_desk.specs.declared.fault.DeskFault.TheVariants.{NoMemory};
+ghost use Rattle.conflict_desk.specs.Docket.{case_of};
+ghost use Rattle.conflict_desk.specs.declared.docket.Case.{Case as OneCase};
+ghost use Rattle.conflict_desk.specs.declared.decided.Standing.TheVariants.{Cancelled};
+ghost use Rattle.conflict_desk.specs.declared.fault.DeskFault.TheVariants.{NotFront, NoMemory};
 
 use crate::decided::{Choice, Standing};
 use crate::docket::{Case, Docket};
@@ -39,7 +42,7 @@ impl Desk {
         ensures refused { IfErr result (λ fault. fault ≡ NoMemory) }
 
         // Whatever calls follow, each client's conflicts leave in order, each once.
-        ensures leave { (calls : List Call) → AllLeaveInOrder (after_calls (opened_all dockets.items) calls) }
+        ensures leave { IfOk result (λ desk. (calls : List Call) → AllLeaveInOrder (after_calls desk calls)) }
     {
         let mut open = IndexMap::new(alloc);
         open.reserve(dockets.len())?;
@@ -70,15 +73,15 @@ impl Desk {
         let Some(place) = self.dockets.get_index_of(client) else {
             return Err(DeskFault::NoClient);
         };
-        match decide_at(&mut self.dockets, place, visit, choice) {
-            Ok(()) => Ok(()),
-            Err(front) => Err(DeskFault::NotFront(front)),
-        }
+        decide_at(&mut self.dockets, place, visit, choice)
     }
 
     /// How a client's visit stands; none where the client or the visit isn't there.
     pub fn standing(&self, client: &Client, visit: u64) -> Option<Standing>
-        ensures { result ≡ standing_on client.now visit self.now }
+        ensures standing { result ≡ standing_on client.now visit self.now }
+
+        // A visit stands cancelled exactly where it, or a visit on its chain of parents, was cancelled by a decision.
+        ensures chain { (book : Book) (case : OneCase) → book_of client.now self.now ≡ Some book → case_of book.cases visit ≡ Some case → (result ≡ Some Cancelled) ↔ IsBelowCancelled book case }
     {
         self.dockets.get(client)?.standing(visit)
     }
@@ -121,14 +124,14 @@ fn decide_at(
     place: usize,
     visit: u64,
     choice: Choice,
-) -> Result<(), Option<u64>>
+) -> Result<(), DeskFault>
     requires { place < length dockets.old.entries }
     ensures front { (book : Book) → slice_get (values dockets.old) place ≡ Some book → OnOk result (front_of book ≡ Some visit) }
     ensures decided { (book : Book) → slice_get (values dockets.old) place ≡ Some book → OnOk result (dockets.new.entries ≡ set_value_at dockets.old.entries place (with_decision visit choice book)) }
-    ensures refused { (book : Book) → slice_get (values dockets.old) place ≡ Some book → IfErr result (λ front. (front ≡ front_of book) × (front ≢ Some visit) × (dockets.new ≡ dockets.old)) }
+    ensures refused { (book : Book) → slice_get (values dockets.old) place ≡ Some book → IfErr result (λ fault. (fault ≡ NotFront (front_of book)) × (front_of book ≢ Some visit) × (dockets.new.entries ≡ dockets.old.entries)) }
 {
     match dockets.get_index_mut(place) {
         Some(docket) => docket.decide(visit, choice),
-        None => Err(None),
+        None => Err(DeskFault::NoClient),
     }
 }

@@ -7,11 +7,13 @@ ghost use Rattle.conflict_desk.specs.Docket.{AreAscending, case_of};
 ghost use Rattle.conflict_desk.specs.Book.{opened, is_cancel, is_cancelled, front_of, with_decision, standing_by, standing_in, requests_of};
 ghost use Rattle.conflict_desk.specs.declared.docket.Case.{Case as OneCase};
 ghost use Rattle.conflict_desk.specs.Laws.{LeaveInOrder};
+ghost use Rattle.conflict_desk.specs.declared.fault.DeskFault.TheVariants.{NotFront};
 ghost use Rattle.conflict_desk.specs.inside.Links.{AreLinks, Follows};
 ghost use Rattle.conflict_desk.specs.inside.Settling.{Tell, IsSettled};
 
 use crate::decided::{Choice, Decided, Standing};
 use crate::docket::{Case, Cases, place_of};
+use crate::fault::DeskFault;
 use crate::links::{Link, is_gone, links_of};
 use page_tree::NoMemory;
 use std::alloc::Global;
@@ -82,18 +84,18 @@ impl OpenDocket {
     }
 
     /// Decides the front. Another visit is refused, with the front.
-    pub(crate) fn decide(&mut self, visit: u64, choice: Choice) -> Result<(), Option<u64>>
+    pub(crate) fn decide(&mut self, visit: u64, choice: Choice) -> Result<(), DeskFault>
         ensures front { OnOk result (front_of self.old ≡ Some visit) }
         ensures decided { OnOk result (self.new ≡ with_decision visit choice self.old) }
-        ensures refused { IfErr result (λ front. (front ≡ front_of self.old) × (front ≢ Some visit) × (self.new ≡ self.old)) }
+        ensures refused { IfErr result (λ fault. (fault ≡ NotFront (front_of self.old)) × (front_of self.old ≢ Some visit) × (self.new ≡ self.old)) }
     {
         let next = self.next;
         if next >= self.cases.as_slice().len() {
-            return Err(None);
+            return Err(DeskFault::NotFront(None));
         }
         let front = self.cases.as_slice()[next].visit;
         if front != visit {
-            return Err(Some(front));
+            return Err(DeskFault::NotFront(Some(front)));
         }
         self.decisions.push_reserved(Decided { visit, choice });
         self.gone[next] = is_cancel(choice);

@@ -1,0 +1,101 @@
+-- The books on a desk.
+use Rattle.std.proofs.Common.{◌≡◌, ◌≢◌, ℕ, zero, suc, ◌<◌, List, [], ◌∷◌, ◌++◌, length, map, Bool, true, false, ◌==◌, cond, bytes_eq, position, Option, Some, None, slice_get, ◌⊎◌, inl, inr, ap, sym, refl, subst, ◌∙◌, Result, Ok, Err, append-nil, append_assoc, arith}
+use Rattle.std.specs.Map.{keys_of, values_of, lookup}
+use Rattle.std.specs.List.{AllByRecursion}
+use Rattle.std.proofs.lemmas.Bool.{cond-true, cond-false, ne_eqb, eq-eqb, true≢false}
+use Rattle.std.specs.Result.{IfErr, OnOk}
+use Rattle.std.specs.List.{IsDistinct}
+use Rattle.std.specs.Cmp.Lexicographic.{nat_list_eq_equiv}
+use Rattle.indexmap.specs.IndexMap.{insert_entry, insert_all, set_value_at}
+use Rattle.indexmap.proofs.MapLemmas.{insert_entry-first, insert_entry-absent, absent_from_lookup, Found-position}
+use Rattle.conflict_desk.specs.Book.{Book, opened, front_of, with_decision}
+use Rattle.conflict_desk.specs.Desk.{Books, book_of, is_front, refusal_in, decided_on, decided_in, opened_all}
+use Rattle.conflict_desk.specs.declared.docket.Docket.{Docket}
+use Rattle.conflict_desk.specs.declared.decided.Choice.{Choice}
+use Rattle.conflict_desk.specs.declared.fault.DeskFault.{DeskFault}
+use Rattle.conflict_desk.specs.declared.fault.DeskFault.TheVariants.{NotFront}
+use Rattle.conflict_desk.proofs.Gets.{same_some, not_none, there_is}
+
+pub value_same : (books : List (List ℕ × Book)) (place : ℕ) (book : Book) → slice_get (values_of books) place ≡ Some book → set_value_at books place book ≡ books
+value_same [] place book at = refl
+value_same (e ∷ books) zero book at = ap (λ b. (e.0, b) ∷ books) (sym (same_some e.1 book at))
+value_same (e ∷ books) (suc place) book at = ap (λ l. e ∷ l) (value_same books place book at)
+
+module _ (client : List ℕ) (visit : ℕ) (books : List (List ℕ × Book)) (place : ℕ) (at : position (bytes_eq client) (keys_of books) ≡ Some place) where
+  pub book_at : (book : Book) → book_of client books ≡ Some book → slice_get (values_of books) place ≡ Some book
+  book_at book is = sym (Found-position (bytes_eq client) books place at).value ∙ is
+
+  pub decided_by : (choice : Choice) (new : List (List ℕ × Book)) (book : Book) → book_of client books ≡ Some book → new ≡ set_value_at books place (with_decision visit choice book) → new ≡ decided_on client visit choice books
+  decided_by choice new book is made =
+      made
+      ∙ sym (insert_entry-first bytes_eq client (with_decision visit choice book) books place (Found-position (bytes_eq client) books place at).first)
+      ∙ sym (ap (decided_in client visit choice books) is)
+
+-- the client's book, where it has a place
+pub record IsThere (client : List ℕ) (books : List (List ℕ × Book)) (place : ℕ) : Type 0 where
+  pub book : Book
+  pub is : book_of client books ≡ Some book
+  pub at : slice_get (values_of books) place ≡ Some book
+
+values_length : (books : List (List ℕ × Book)) → length (values_of books) ≡ length books
+values_length [] = refl
+values_length (e ∷ books) = ap suc (values_length books)
+
+pub there_at : (client : List ℕ) (books : List (List ℕ × Book)) (place : ℕ) → position (bytes_eq client) (keys_of books) ≡ Some place → IsThere client books place
+there_at client books place at =
+    let found = Found-position (bytes_eq client) books place at in
+    let there = there_is (values_of books) place (omega (arith, found.within, values_length books)) in
+    record { book = there.0; is = found.value ∙ there.1; at = there.1 }
+
+pub not_front : (visit : ℕ) (o : Option ℕ) → o ≢ Some visit → is_front visit o ≡ false
+not_front visit None other = refl
+not_front visit (Some front) other = ne_eqb _ _ (λ same. other (ap (λ v. Some v) same))
+
+pub refused_is : (visit : ℕ) (book : Book) → front_of book ≢ Some visit → refusal_in visit (Some book) ≡ Some (NotFront (front_of book))
+refused_is visit book other = cond-false (is_front visit (front_of book)) None (Some (NotFront (front_of book))) (not_front visit (front_of book) other)
+
+pub accepted_is : (visit : ℕ) (book : Book) → front_of book ≡ Some visit → refusal_in visit (Some book) ≡ None
+accepted_is visit book front = cond-true (is_front visit (front_of book)) None (Some (NotFront (front_of book))) (ap (is_front visit) front ∙ eq-eqb visit visit refl)
+
+pub err_more : {T E : Type 0} (r : Result T E) (P Q : E → Type 0) → ((e : E) → P e → Q e) → IfErr r P → IfErr r Q
+err_more (Ok x) P Q more holds = holds
+err_more (Err e) P Q more holds = more e holds
+
+pub ok_more : {T E : Type 0} (r : Result T E) (P Q : Type 0) → (P → Q) → OnOk r P → OnOk r Q
+ok_more (Ok x) P Q more holds = more holds
+ok_more (Err e) P Q more holds = holds
+
+-- ---- dockets of clients that differ
+
+absent_push : (k key : List ℕ) (book : Book) (books : List (List ℕ × Book)) → lookup (bytes_eq k) books ≡ None → bytes_eq k key ≡ false → lookup (bytes_eq k) (books ++ (key, book) ∷ []) ≡ None
+absent_push k key book [] none other = cond-false (bytes_eq k key) (Some book) None other
+absent_push k key book (e ∷ books) none other = absent_by (bytes_eq k e.0) refl (absent_push k key book books)
+  where
+    absent_by : (b : Bool) → bytes_eq k e.0 ≡ b → (lookup (bytes_eq k) books ≡ None → bytes_eq k key ≡ false → lookup (bytes_eq k) (books ++ (key, book) ∷ []) ≡ None) → lookup (bytes_eq k) ((e ∷ books) ++ (key, book) ∷ []) ≡ None
+    absent_by true is rest = absurd (not_none e.1 (sym (cond-true (bytes_eq k e.0) (Some e.1) (lookup (bytes_eq k) books) is) ∙ none))
+    absent_by false is rest =
+        cond-false (bytes_eq k e.0) (Some e.1) (lookup (bytes_eq k) (books ++ (key, book) ∷ [])) is
+        ∙ rest (sym (cond-false (bytes_eq k e.0) (Some e.1) (lookup (bytes_eq k) books) is) ∙ none) other
+
+all_absent : (key : List ℕ) (book : Book) (books : List (List ℕ × Book)) (dockets : List Docket) → AllByRecursion (λ docket. lookup (bytes_eq docket.client) books ≡ None) dockets
+    → AllByRecursion (λ client. bytes_eq key client ≡ false) (map (λ docket. docket.client) dockets) → AllByRecursion (λ docket. lookup (bytes_eq docket.client) (books ++ (key, book) ∷ []) ≡ None) dockets
+all_absent key book books [] none others = tt
+all_absent key book books (docket ∷ dockets) none others =
+    (absent_push docket.client key book books none.0 (nat_list_eq_equiv.symm docket.client key ∙ others.0), all_absent key book books dockets none.1 others.1)
+
+-- with no client twice, the dockets stand behind one another
+insert_behind : (books : List (List ℕ × Book)) (dockets : List Docket) → AllByRecursion (λ docket. lookup (bytes_eq docket.client) books ≡ None) dockets → IsDistinct bytes_eq (map (λ docket. docket.client) dockets)
+    → insert_all bytes_eq books (opened_all dockets) ≡ books ++ opened_all dockets
+unfolding IsDistinct
+insert_behind books [] none distinct = sym (append-nil books)
+insert_behind books (docket ∷ dockets) none distinct =
+    ap (λ es. insert_all bytes_eq es (opened_all dockets)) (insert_entry-absent bytes_eq docket.client (opened docket.cases) books (absent_from_lookup (bytes_eq docket.client) books none.0))
+    ∙ insert_behind (books ++ (docket.client, opened docket.cases) ∷ []) dockets (all_absent docket.client (opened docket.cases) books dockets none.1 distinct.0) distinct.1
+    ∙ append_assoc books ((docket.client, opened docket.cases) ∷ []) (opened_all dockets)
+
+none_yet : (dockets : List Docket) → AllByRecursion (λ docket. lookup {X = Book} (bytes_eq docket.client) [] ≡ None) dockets
+none_yet [] = tt
+none_yet (docket ∷ dockets) = (refl, none_yet dockets)
+
+pub all_inserted : (dockets : List Docket) → IsDistinct bytes_eq (map (λ docket. docket.client) dockets) → insert_all bytes_eq [] (opened_all dockets) ≡ opened_all dockets
+all_inserted dockets distinct = insert_behind [] dockets (none_yet dockets) distinct
