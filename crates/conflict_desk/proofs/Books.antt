@@ -8,12 +8,18 @@ use Rattle.std.specs.List.{IsDistinct}
 use Rattle.std.specs.Cmp.Lexicographic.{nat_list_eq_equiv}
 use Rattle.indexmap.specs.IndexMap.{insert_entry, insert_all, set_value_at}
 use Rattle.indexmap.proofs.MapLemmas.{insert_entry-first, insert_entry-absent, absent_from_lookup, Found-position}
-use Rattle.conflict_desk.specs.Book.{Book, opened, front_of, with_decision}
+use Rattle.conflict_desk.specs.Book.{Book, opened, is_decided, is_cancelled, standing_by, standing_in, front_of, with_decision}
 use Rattle.conflict_desk.specs.Desk.{Books, book_of, is_front, refusal_in, decided_on, decided_in, opened_all}
 use Rattle.conflict_desk.specs.declared.docket.Docket.{Docket}
 use Rattle.conflict_desk.specs.declared.decided.Choice.{Choice}
 use Rattle.conflict_desk.specs.declared.fault.DeskFault.{DeskFault}
 use Rattle.conflict_desk.specs.declared.fault.DeskFault.TheVariants.{NotFront}
+use Rattle.visit_replay.specs.declared.outcome.Outcome.{Outcome}
+use Rattle.visit_replay.specs.declared.outcome.Outcome.TheVariants as outcome
+use Rattle.conflict_desk.specs.Laws.{IsBelowCancelled}
+use Rattle.conflict_desk.specs.declared.docket.Case.{Case}
+use Rattle.conflict_desk.specs.declared.decided.Standing.TheVariants as standing
+use Rattle.conflict_desk.proofs.Chains.{below_cancelled, cancelled_below}
 use Rattle.conflict_desk.proofs.Gets.{same_some, not_none, there_is}
 
 pub value_same : (books : List (List ℕ × Book)) (place : ℕ) (book : Book) → slice_get (values_of books) place ≡ Some book → set_value_at books place book ≡ books
@@ -99,3 +105,26 @@ none_yet (docket ∷ dockets) = (refl, none_yet dockets)
 
 pub all_inserted : (dockets : List Docket) → IsDistinct bytes_eq (map (λ docket. docket.client) dockets) → insert_all bytes_eq [] (opened_all dockets) ≡ opened_all dockets
 all_inserted dockets distinct = insert_behind [] dockets (none_yet dockets) distinct
+
+-- ---- cancelled visits stand cancelled, and no others
+
+never_by : (o : Outcome) (decided : Bool) → standing_by o decided ≡ standing.Cancelled → ⊥
+never_by outcome.Untouched decided is = cc
+never_by (outcome.Done requests) decided is = cc
+never_by (outcome.Conflict requests at kind) true is = cc
+never_by (outcome.Conflict requests at kind) false is = cc
+
+only_by : (book : Book) (c : Case) (b : Bool) → is_cancelled book c ≡ b → standing_in book c ≡ standing.Cancelled → is_cancelled book c ≡ true
+only_by book c true is stands = is
+only_by book c false is stands = absurd (never_by c.outcome (is_decided book.decisions c.visit) (sym (cond-false (is_cancelled book c) standing.Cancelled (standing_by c.outcome (is_decided book.decisions c.visit)) is) ∙ stands))
+
+pub stands_below : (book : Book) (c : Case) → standing_in book c ≡ standing.Cancelled → IsBelowCancelled book c
+stands_below book c stands = below_cancelled book c (only_by book c (is_cancelled book c) refl stands)
+
+pub below_stands : (book : Book) (c : Case) → IsBelowCancelled book c → standing_in book c ≡ standing.Cancelled
+below_stands book c below = cond-true (is_cancelled book c) standing.Cancelled (standing_by c.outcome (is_decided book.decisions c.visit)) (cancelled_below book c below)
+
+pub all_opened : (books : List (List ℕ × Book)) (rest first dockets : List Docket) → insert_all bytes_eq books (opened_all rest) ≡ insert_all bytes_eq [] (opened_all first) → length rest ≡ 0 → first ≡ dockets
+    → IsDistinct bytes_eq (map (λ docket. docket.client) dockets) → books ≡ opened_all dockets
+all_opened books [] first dockets so_far none same distinct = so_far ∙ ap (λ ds. insert_all bytes_eq [] (opened_all ds)) same ∙ all_inserted dockets distinct
+all_opened books (docket ∷ rest) first dockets so_far none same distinct = absurd (omega (arith, none))

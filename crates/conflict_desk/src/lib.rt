@@ -18,5 +18,5 @@ pub use desk::Desk;
 pub use docket::{Case, Cases, Docket};
 pub use fault::DeskFault;
 
-//#[cfg(test)]
-//mod tests;
+#[cfg(test)]
+mod tests;

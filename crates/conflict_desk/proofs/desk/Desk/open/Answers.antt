@@ -1,0 +1,20 @@
+use Rattle.std.proofs.Common.{◌≡◌, sym, subst, ◌∙◌, rules}
+use Rattle.conflict_desk.specs.Desk.{after_calls}
+use Rattle.conflict_desk.specs.Laws.{AllLeaveInOrder}
+use Rattle.conflict_desk.proofs.Books.{all_opened}
+use Rattle.conflict_desk.proofs.Leaving.{all_leave}
+use Rattle.conflict_desk.proofs.desk.Desk.open.Goals as goal
+
+pub returns-clause-opened : goal.returns-clause-opened
+returns-clause-opened c =
+    let rest = c.loop-docket.docket-iterator.rest in
+    all_opened c.loop-docket.open.entries rest.items c.into_iter-docket-iterator.result.rest.items c.args.dockets.items c.loop-docket.invariant.entries (sym rest.ok.0 ∙ c.in-None.ensures.steps.0)
+    c.into_iter-docket-iterator.ensures.into_iter_gives.0 c.requires.clients
+
+pub returns-clause-leave : goal.returns-clause-leave
+returns-clause-leave c = λ calls.
+    let rest = c.loop-docket.docket-iterator.rest in
+    subst (λ books. AllLeaveInOrder (after_calls books calls))
+    (sym (all_opened c.loop-docket.open.entries rest.items c.into_iter-docket-iterator.result.rest.items c.args.dockets.items c.loop-docket.invariant.entries (sym rest.ok.0 ∙ c.in-None.ensures.steps.0)
+    c.into_iter-docket-iterator.ensures.into_iter_gives.0 c.requires.clients))
+    (all_leave c.args.dockets.items c.requires.visits calls)
