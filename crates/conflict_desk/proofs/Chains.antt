@@ -130,7 +130,7 @@ module _ (book : Book) (visit : ℕ) (choice : Choice) where
       let up : (was_cancelled book.decisions c.visit ≡ false) × (option_map_or (is_cancelled book) (parent_of book.cases c) false ≡ false) = or_parts _ _ (sym (cancelled_is book c) ∙ stays) in
       cancelled_is (with_decision visit choice book) c
       ∙ ap (λ b. was_cancelled (book.decisions ++ record { visit = visit; choice = choice } ∷ []) c.visit || b)
-          (parent_before c (parent_of book.cases c) refl (λ p less. cancelled_before p (omega (arith, less, is))) ∙ up.1)
+      (parent_before c (parent_of book.cases c) refl (λ p less. cancelled_before p (omega (arith, less, is))) ∙ up.1)
       ∙ or_nothing _
       ∙ ap (was_cancelled (book.decisions ++ record { visit = visit; choice = choice } ∷ [])) is
       ∙ went_now book.decisions visit choice (undecided_stays book.decisions visit none)

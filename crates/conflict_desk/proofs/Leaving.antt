@@ -90,7 +90,7 @@ module _ (book : Book) (goes : Goes book) (choice : Choice) (c : Case) (found : 
               let same : first.place ≡ k = omega (arith, from, up_to) in
               let it : c ≡ d = same_some c d (sym first.at ∙ ap (slice_get book.cases) same ∙ at) in
               absurd (true≢false (sym waiting ∙ no_wait (with_decision c.visit choice book) d (inr (inl
-                (subst (λ (x : Case). is_decided (book.decisions ++ record { visit = c.visit; choice = choice } ∷ []) x.visit ≡ true) it (decided_now book.decisions c.visit choice))))))
+              (subst (λ (x : Case). is_decided (book.decisions ++ record { visit = c.visit; choice = choice } ∷ []) x.visit ≡ true) it (decided_now book.decisions c.visit choice))))))
         ]
       ]
 

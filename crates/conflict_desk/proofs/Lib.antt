@@ -6,3 +6,4 @@ pub mod Fronts
 pub mod Keeping
 pub mod Books
 pub mod Leaving
+pub mod Dockets

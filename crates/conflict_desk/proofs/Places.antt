@@ -10,7 +10,6 @@ use Rattle.conflict_desk.specs.Docket.{AreAscending, case_of, parent_of}
 use Rattle.conflict_desk.specs.declared.docket.Case.{Case}
 use Rattle.conflict_desk.proofs.Gets.{same_some, not_none, is_within, find_passes, find_is, find_none, find_where}
 
-
 -- numbers ascend with the places
 pub in_order : (cases : List Case) → AreAscending cases → (i j : ℕ) (c d : Case) → slice_get cases i ≡ Some c → slice_get cases j ≡ Some d → i < j → c.visit < d.visit
 in_order cases up i j c d at_i at_j less =
@@ -50,8 +49,11 @@ is_of cases visit c found = eqb-true _ _ (find_passes (λ case. case.visit == vi
 -- numbers ascend, so those below that number come first
 pub parted : (cases : List Case) → AreAscending cases → (visit : ℕ) → IsPartitionedBy (λ case. nat_lt case.visit visit) cases
 parted cases up visit i j d le within holds = elim (cases_lt i j) [
-  | inl before ↦ lt-ltb _ _ (omega (arith, ltb-true _ _ holds,
-      in_order cases up i j (get_or cases i d) (get_or cases j d) (slice_get-get_or cases i d (omega (arith, before, within))) (slice_get-get_or cases j d within) before))
+  | inl before ↦ lt-ltb _ _ (omega (
+    arith,
+    ltb-true _ _ holds,
+    in_order cases up i j (get_or cases i d) (get_or cases j d) (slice_get-get_or cases i d (omega (arith, before, within))) (slice_get-get_or cases j d within) before,
+  ))
   | inr after ↦ let same : j ≡ i = omega (arith, le, after) in ap (λ k. nat_lt (get_or cases k d).visit visit) (sym same) ∙ holds
 ]
 
@@ -63,8 +65,13 @@ not_there cases visit i up point other = find_none (λ case. case.visit == visit
     elim (cases_lt k i) [
       | inl before ↦ absurd (omega (arith, number, ltb-true _ _ (point.0 k c (omega arith) before)))
       | inr after ↦ elim (cases_lt i k) [
-        | inl above ↦ absurd (omega (arith, number, ltb-false _ _ (point.1 i c (omega arith) (omega (arith, after, within))),
-            in_order cases up i k (get_or cases i c) c (slice_get-get_or cases i c (omega (arith, above, within))) at above, same))
+        | inl above ↦ absurd (omega (
+          arith,
+          number,
+          ltb-false _ _ (point.1 i c (omega arith) (omega (arith, after, within))),
+          in_order cases up i k (get_or cases i c) c (slice_get-get_or cases i c (omega (arith, above, within))) at above,
+          same,
+        ))
         | inr below ↦ let here : i ≡ k = omega (arith, after, below) in
             absurd (other (omega (arith, here, within)) c (ap (λ j. (get_or cases j c).visit) here ∙ number))
       ]

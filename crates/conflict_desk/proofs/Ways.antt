@@ -65,10 +65,16 @@ pub new_link : (cases : List Case) (links : List Link) (c : Case) (p j reach : �
 new_link cases links c p j reach at is less up =
     let link : Link = record { parent = Some p; jump = Some j; reach = reach } in
     let step : LeadsTo (links ++ link ∷ []) (length links) p = step_up (links ++ link ∷ []) (length links) p link (at_end links link) refl less in
-    record { case = c; at = at; parent = sym is; before = less; jump = elim up [
-      | inl same ↦ subst (LeadsTo (links ++ link ∷ []) (length links)) (sym same) step
-      | inr further ↦ leads_on (links ++ link ∷ []) (length links) p j step (leads_more links (link ∷ []) p j further)
-    ] }
+    record {
+      case = c;
+      at = at;
+      parent = sym is;
+      before = less;
+      jump = elim up [
+        | inl same ↦ subst (LeadsTo (links ++ link ∷ []) (length links)) (sym same) step
+        | inr further ↦ leads_on (links ++ link ∷ []) (length links) p j step (leads_more links (link ∷ []) p j further)
+      ];
+    }
 
 -- ---- what is cancelled follows the links where nothing is decided
 

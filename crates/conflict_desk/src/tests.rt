@@ -168,13 +168,26 @@ fn a_desk_gives_its_dockets_as_opened(rt: HostRuntime) -> Result<(), Fail> {
     let client = Client::read(alloc, "c1")?;
     let rows = [(1, 0, End::Conflict), (2, 1, End::Done)];
     let mut desk = desk_of(alloc, rows.as_slice())?;
-    run(&rt, &mut desk, &client, [(1, Choice::Cancel, Ok(()))].as_slice());
+    run(
+        &rt,
+        &mut desk,
+        &client,
+        [(1, Choice::Cancel, Ok(()))].as_slice(),
+    );
     let Some(cases) = desk.cases(&client) else {
         return Err(Fail::from("no cases"));
     };
-    let seen: Vec<(u64, u64)> = cases.iter().map(|case| (case.visit, case.parent)).collect(alloc)?;
+    let seen: Vec<(u64, u64)> = cases
+        .iter()
+        .map(|case| (case.visit, case.parent))
+        .collect(alloc)?;
     assert_eq!(rt; seen.as_slice(), [(1, 0), (2, 1)].as_slice());
-    assert!(rt; matches!(desk.outcome(&client, 1), Some(Outcome::Conflict { at: 1, .. })));
+    assert!(rt;
+        matches!(
+            desk.outcome(&client, 1),
+            Some(Outcome::Conflict { at: 1, .. })
+        )
+    );
     assert!(rt; matches!(desk.outcome(&client, 2), Some(Outcome::Done { .. })));
     Ok(())
 }
@@ -186,10 +199,7 @@ fn others_are_not_there(rt: HostRuntime) -> Result<(), Fail> {
     let client = Client::read(alloc, "c1")?;
     let other = Client::read(alloc, "c9")?;
     let mut desk = desk_of(alloc, [(1, 0, End::Conflict)].as_slice())?;
-    let steps = [
-        (2, Choice::Keep, not_front(1)),
-        (1, Choice::Cancel, Ok(())),
-    ];
+    let steps = [(2, Choice::Keep, not_front(1)), (1, Choice::Cancel, Ok(()))];
     run(&rt, &mut desk, &client, steps.as_slice());
     let steps = [(1, Choice::Keep, Err(DeskFault::NoClient))];
     run(&rt, &mut desk, &other, steps.as_slice());
@@ -216,7 +226,12 @@ fn a_cancelled_visit_takes_along_what_it_led_to(rt: HostRuntime) -> Result<(), F
     let alloc = rt.alloc();
     let client = Client::read(alloc, "c1")?;
     let mut desk = desk_of(alloc, FAMILY.as_slice())?;
-    run(&rt, &mut desk, &client, [(1, Choice::Cancel, Ok(()))].as_slice());
+    run(
+        &rt,
+        &mut desk,
+        &client,
+        [(1, Choice::Cancel, Ok(()))].as_slice(),
+    );
     let standings = [
         (1, Standing::Cancelled),
         (2, Standing::Cancelled),
@@ -226,10 +241,7 @@ fn a_cancelled_visit_takes_along_what_it_led_to(rt: HostRuntime) -> Result<(), F
     ];
     assert_standings(&rt, &desk, &client, standings.as_slice());
     assert_eq!(rt; desk.front(&client), Ok(Some(3)));
-    let steps = [
-        (2, Choice::Keep, not_front(3)),
-        (3, Choice::Keep, Ok(())),
-    ];
+    let steps = [(2, Choice::Keep, not_front(3)), (3, Choice::Keep, Ok(()))];
     run(&rt, &mut desk, &client, steps.as_slice());
     assert_eq!(rt; desk.front(&client), Ok(None));
     assert_eq!(rt; desk.standing(&client, 3), Some(Standing::Kept));
@@ -242,9 +254,19 @@ fn a_kept_visit_leaves_the_others_waiting(rt: HostRuntime) -> Result<(), Fail> {
     let alloc = rt.alloc();
     let client = Client::read(alloc, "c1")?;
     let mut desk = desk_of(alloc, FAMILY.as_slice())?;
-    run(&rt, &mut desk, &client, [(1, Choice::Keep, Ok(()))].as_slice());
+    run(
+        &rt,
+        &mut desk,
+        &client,
+        [(1, Choice::Keep, Ok(()))].as_slice(),
+    );
     assert_eq!(rt; desk.front(&client), Ok(Some(2)));
-    run(&rt, &mut desk, &client, [(2, Choice::Cancel, Ok(()))].as_slice());
+    run(
+        &rt,
+        &mut desk,
+        &client,
+        [(2, Choice::Cancel, Ok(()))].as_slice(),
+    );
     let standings = [
         (1, Standing::Kept),
         (2, Standing::Cancelled),
@@ -269,7 +291,12 @@ fn a_visit_without_a_parent_stands_by_itself(rt: HostRuntime) -> Result<(), Fail
         (7, 3, End::Untouched),
     ];
     let mut desk = desk_of(alloc, rows.as_slice())?;
-    run(&rt, &mut desk, &client, [(3, Choice::Cancel, Ok(()))].as_slice());
+    run(
+        &rt,
+        &mut desk,
+        &client,
+        [(3, Choice::Cancel, Ok(()))].as_slice(),
+    );
     let standings = [
         (2, Standing::Done),
         (3, Standing::Cancelled),
@@ -306,10 +333,20 @@ fn clients_are_decided_by_themselves(rt: HostRuntime) -> Result<(), Fail> {
     let second = Client::read(alloc, "c2")?;
     let rows = [(1, 0, End::Conflict), (2, 1, End::Conflict)];
     let mut desk = desk_of_two(alloc, rows.as_slice(), FAMILY.as_slice())?;
-    run(&rt, &mut desk, &second, [(1, Choice::Cancel, Ok(()))].as_slice());
+    run(
+        &rt,
+        &mut desk,
+        &second,
+        [(1, Choice::Cancel, Ok(()))].as_slice(),
+    );
     assert_eq!(rt; desk.front(&first), Ok(Some(1)));
     assert_eq!(rt; desk.front(&second), Ok(Some(3)));
-    run(&rt, &mut desk, &first, [(1, Choice::Keep, Ok(()))].as_slice());
+    run(
+        &rt,
+        &mut desk,
+        &first,
+        [(1, Choice::Keep, Ok(()))].as_slice(),
+    );
     assert_eq!(rt; desk.front(&first), Ok(Some(2)));
     assert_eq!(rt; desk.front(&second), Ok(Some(3)));
     Ok(())

@@ -10,7 +10,8 @@ pub returns-in-Some-clause-refused : goal.returns-in-Some-clause-refused
 returns-in-Some-clause-refused c = λ book at.
     let is : c.in-Some.docket.now ≡ book = same_some c.in-Some.docket.now book (c.in-Some.ensures.value ∙ at) in
     err_more c.decide.result _ _ (λ fault all. (
-        all.0 ∙ ap (λ b. NotFront (front_of b)) is,
-        (λ same. all.1 (ap front_of is ∙ same)),
-        ap (set_value_at c.args.dockets.now.entries c.args.place) all.2 ∙ value_same c.args.dockets.now.entries c.args.place c.in-Some.docket.now (sym c.in-Some.ensures.value)))
+      all.0 ∙ ap (λ b. NotFront (front_of b)) is,
+      (λ same. all.1 (ap front_of is ∙ same)),
+      ap (set_value_at c.args.dockets.now.entries c.args.place) all.2 ∙ value_same c.args.dockets.now.entries c.args.place c.in-Some.docket.now (sym c.in-Some.ensures.value),
+    ))
     c.decide.ensures.refused

@@ -10,7 +10,7 @@ pub returns-in-Some-clause-place : goal.returns-in-Some-clause-place
 returns-in-Some-clause-place c =
     let found = c.in-Some.ensures.lookup in
     let at : slice_get c.args.cases.now c.partition_point-place.result ≡ Some c.in-Some.case.now =
-        slice_get-get_or c.args.cases.now c.partition_point-place.result c.in-Some.case.now found.3.0 ∙ ap (λ case. Some case) (sym (found.3.1 c.in-Some.case.now)) in
+    slice_get-get_or c.args.cases.now c.partition_point-place.result c.in-Some.case.now found.3.0 ∙ ap (λ case. Some case) (sym (found.3.1 c.in-Some.case.now)) in
     at ∙ sym (case_at c.args.cases.now c.requires c.args.visit _ _ at c.if-case-visit.true)
 
 pub returns-in_default-clause-place : goal.returns-in_default-clause-place

@@ -18,7 +18,8 @@ returns-then-is_conflict-clause-settled c = λ said follows was.
       passed = c.loop-place.invariant.passed said follows was;
       stops = λ case at. (
         ap (λ item. is_conflict item.outcome) (sym (item_is c.args.cases.now c.loop-place.place _ case c.index-cases-place.is at)) ∙ sym c.is_conflict.ensures ∙ c.if-is_conflict.true,
-        written said c.loop-place.gone c.loop-place.place c.is_below_gone.result false (omega arith) is c.if-not-gone-place.true);
+        written said c.loop-place.gone c.loop-place.place c.is_below_gone.result false (omega arith) is c.if-not-gone-place.true,
+      );
     }
 
 pub loop-place-preserved : goal.loop-place-preserved

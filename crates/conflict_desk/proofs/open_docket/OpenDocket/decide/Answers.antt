@@ -27,14 +27,15 @@ invariant_of-self c =
     let next = c.settle-self-inside.result in
     let long : length after ≡ o.gone.len = c.settle-self-inside.auto.gone ∙ c.as_mut_slice.ensures.len in
     let kept = decide_kept (book_in o) o.links.items o.gone.items o.next c.self.invariant.0 c.args.choice c.as_slice-2.result.now _ c.args.visit written after next
-        c.as_slice-2.ensures (omega (arith, c.if-next-as_slice.false, ap length c.as_slice.ensures, ap length c.as_slice-2.ensures)) c.if-front-visit.false
-        (c.as_mut_slice.ensures.value ∙ ap (set o.gone.items o.next) c.is_cancel.ensures)
-        c.settle-self-inside.auto.gone c.settle-self-inside.ensures.from (subst (λ cs. next ≤ length cs) c.as_slice-3.ensures c.settle-self-inside.ensures.within)
-        (settled_as o.cases c.as_slice-3.result.now o.links.items c.as_slice-4.result.now written after (o.next + 1) next c.as_slice-3.ensures c.as_slice-4.ensures.value c.settle-self-inside.ensures.settled) in
-    (subst (λ flags. IsKept record { cases = o.cases; decisions = c.push_reserved.new.self.items } o.links.items flags next)
-        (sym (written_back o.gone.len after (set o.gone.items o.next cancelled) (sym long) (sym (ap length c.as_mut_slice.ensures.value) ∙ sym c.settle-self-inside.auto.gone)))
-        (subst (λ decisions. IsKept record { cases = o.cases; decisions = decisions } o.links.items after next) (sym c.push_reserved.ensures.items) kept),
-    omega (arith, c.self.invariant.1, c.push_reserved.ensures.capacity))
+    c.as_slice-2.ensures (omega (arith, c.if-next-as_slice.false, ap length c.as_slice.ensures, ap length c.as_slice-2.ensures)) c.if-front-visit.false
+    (c.as_mut_slice.ensures.value ∙ ap (set o.gone.items o.next) c.is_cancel.ensures)
+    c.settle-self-inside.auto.gone c.settle-self-inside.ensures.from (subst (λ cs. next ≤ length cs) c.as_slice-3.ensures c.settle-self-inside.ensures.within)
+    (settled_as o.cases c.as_slice-3.result.now o.links.items c.as_slice-4.result.now written after (o.next + 1) next c.as_slice-3.ensures c.as_slice-4.ensures.value c.settle-self-inside.ensures.settled) in (
+      subst (λ flags. IsKept record { cases = o.cases; decisions = c.push_reserved.new.self.items } o.links.items flags next)
+          (sym (written_back o.gone.len after (set o.gone.items o.next cancelled) (sym long) (sym (ap length c.as_mut_slice.ensures.value) ∙ sym c.settle-self-inside.auto.gone)))
+          (subst (λ decisions. IsKept record { cases = o.cases; decisions = decisions } o.links.items after next) (sym c.push_reserved.ensures.items) kept),
+      omega (arith, c.self.invariant.1, c.push_reserved.ensures.capacity),
+    )
 
 pub returns-clause-front : goal.returns-clause-front
 returns-clause-front c =

@@ -13,12 +13,13 @@ invariant_of-result c =
     let next = c.settle-next.result in
     let long : length after ≡ c.in_ok-gone.gone.len = c.settle-next.auto.gone ∙ c.as_mut_slice.ensures.len in
     let kept = opened_kept c.args.cases links c.as_mut_slice.result.now after next c.requires
-        (subst (λ cs. AreLinks cs links) c.as_slice.ensures c.in_ok-links.ensures.links)
-        (c.in_ok-links.ensures.count ∙ ap length c.as_slice.ensures)
-        (long ∙ c.in_ok-gone.ensures.len ∙ ap length c.as_slice-count.ensures)
-        (subst (λ cs. next ≤ length cs) c.as_slice-2.ensures c.settle-next.ensures.within)
-        (settled_as c.args.cases c.as_slice-2.result.now links c.as_slice-3.result.now c.as_mut_slice.result.now after 0 next c.as_slice-2.ensures c.as_slice-3.ensures.value c.settle-next.ensures.settled) in
-    (subst (λ flags. IsKept record { cases = c.args.cases; decisions = c.in_ok-decisions.decisions.items } links flags next)
-        (sym (written_back c.in_ok-gone.gone.len after c.in_ok-gone.gone.items (sym long) (sym c.in_ok-gone.gone.ok.0 ∙ sym long)))
-        (subst (λ decisions. IsKept record { cases = c.args.cases; decisions = decisions } links after next) (sym c.in_ok-decisions.ensures.items) kept),
-    omega (arith, ap length c.as_slice-count.ensures, c.in_ok-decisions.ensures.exact))
+    (subst (λ cs. AreLinks cs links) c.as_slice.ensures c.in_ok-links.ensures.links)
+    (c.in_ok-links.ensures.count ∙ ap length c.as_slice.ensures)
+    (long ∙ c.in_ok-gone.ensures.len ∙ ap length c.as_slice-count.ensures)
+    (subst (λ cs. next ≤ length cs) c.as_slice-2.ensures c.settle-next.ensures.within)
+    (settled_as c.args.cases c.as_slice-2.result.now links c.as_slice-3.result.now c.as_mut_slice.result.now after 0 next c.as_slice-2.ensures c.as_slice-3.ensures.value c.settle-next.ensures.settled) in (
+      subst (λ flags. IsKept record { cases = c.args.cases; decisions = c.in_ok-decisions.decisions.items } links flags next)
+          (sym (written_back c.in_ok-gone.gone.len after c.in_ok-gone.gone.items (sym long) (sym c.in_ok-gone.gone.ok.0 ∙ sym long)))
+          (subst (λ decisions. IsKept record { cases = c.args.cases; decisions = decisions } links after next) (sym c.in_ok-decisions.ensures.items) kept),
+      omega (arith, ap length c.as_slice-count.ensures, c.in_ok-decisions.ensures.exact),
+    )
