@@ -60,6 +60,7 @@ fn decide_few(alloc: Global, count: u64, chain: u64) -> Option<(u64, u64)> {
 }
 
 /// What it took to open a docket, to decide a third of it, to ask how all visits stand then, and to decide the rest.
+#[derive(Drop)]
 struct Times {
     open: Duration,
     first: Duration,
