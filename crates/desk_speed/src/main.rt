@@ -102,8 +102,12 @@ fn print_times<R: Print>(rt: &R, count: u64, chain: u64, times: &Times) {
     let rest = micros(times.rest);
     let decided = times.decided;
     let cancelled = times.cancelled;
-    let _ = println!(rt; "{count} conflicts in chains of {chain}: {decided} decided, {cancelled} cancelled");
-    let _ = println!(rt; "  opened {open} us, a third decided {first} us, all standings {standings} us, the rest {rest} us");
+    let _ = println!(rt;
+        "{count} conflicts in chains of {chain}: {decided} decided, {cancelled} cancelled"
+    );
+    let _ = println!(rt;
+        "  opened {open} us, a third decided {first} us, all standings {standings} us, the rest {rest} us"
+    );
 }
 
 // Decides the front so often, while there is one. Every 77th visit is cancelled, the others are kept.
@@ -141,14 +145,20 @@ fn desk_of(alloc: Global, count: u64, chain: u64) -> Option<Desk> {
     let mut cases = Cases::new(alloc);
     for visit in 0..count {
         let visit = visit.saturating_add(1);
-        let parent = if visit % chain.max(1) == 0 { 0 } else { visit.saturating_sub(1) };
+        let parent = if visit % chain.max(1) == 0 {
+            0
+        } else {
+            visit.saturating_sub(1)
+        };
         cases.push(conflict(alloc, visit, parent)).ok()?;
     }
     if !ascends(cases.as_slice()) {
         return None;
     }
     let client = Client::read(alloc, "c1").ok()?;
-    let dockets = vec![in alloc; Docket { client, cases }].ok()?;
+    let Ok(dockets) = vec![in alloc; Docket { client, cases }] else {
+        return None;
+    };
     Desk::open(alloc, dockets).ok()
 }
 
