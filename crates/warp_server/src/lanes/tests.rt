@@ -9,7 +9,7 @@ use std::alloc::{AllocError, Global};
 use std::process::Abort;
 use std::test::Fail;
 use stream_fakes::Drip;
-use upload_reader::Upload;
+use upload_reader::{Ending, LaneEnd, Upload};
 
 type Reader = Fed<Drip>;
 
@@ -323,6 +323,41 @@ fn known_clients_stand_before_new_ones(rt: HostRuntime) -> Result<(), Fail> {
         &gathered,
         "c1 taken 1 end None visit 1 events 2 ended true; c0 taken 0 end None; stop Asked",
     )
+}
+
+// Whether the log keeps so many of its messages: the load, three clicks and the end.
+fn keeps(log: &ClientLog, taken: u64) -> bool {
+    match log.visits().first() {
+        None => taken == 0,
+        Some(visit) => {
+            let clicks = visit.events.as_slice().len() as u64;
+            taken > 0 && clicks == (taken - 1).min(3) && visit.ended == (taken == 5)
+        }
+    }
+}
+
+// Two lanes, each asked once more than it has messages. With ample memory both have their ends. Where an allocation of the round is refused, a lane gives up
+// and the other goes on to its end, or the taking stops, and what is counted is what is kept.
+#[test]
+fn want_of_memory_ends_a_lane_or_the_taking(rt: HostRuntime) -> Result<(), Fail> {
+    let alloc = rt.alloc();
+    let first = upload(alloc, "c1", &THREE_CLICKS)?;
+    let second = upload(alloc, "c2", &THREE_CLICKS)?;
+    let uploads = pair(alloc, first, second)?;
+    let quota = Quota::new(1_048_576)?;
+    let schedule = [0, 1, 0, 1, 0, 1, 0, 1, 0, 1, 0, 1];
+    let Ok(gathered) = gather_in_order(alloc, uploads, quota, &schedule) else {
+        return Ok(());
+    };
+    for lane in gathered.clients.values() {
+        assert!(rt; keeps(&lane.log, lane.taken));
+        match lane.end {
+            Some(Ending::GaveUp) => {}
+            Some(end) => assert!(rt; end == Ending::Over(LaneEnd::Bye) && lane.taken == 5),
+            None => assert!(rt; gathered.stop == Stop::Memory),
+        }
+    }
+    Ok(())
 }
 
 #[test]

@@ -23,12 +23,14 @@ returns g c =
     let followed = c.take_first-stop.ensures (get bytes_eq c.new-gathered.result.clients) c.args.quota c.args.uploads.items c.requires.untouched (c.as_mut_slice.ensures.value ∙ c.in_ok-lanes.ensures.ok.1) in
     let new = c.take_first-stop.new.lanes in
     let size = ap length c.in_ok-lanes.ensures.ok.1 ∙ length-map c.args.uploads.items (begun_lane (get bytes_eq c.new-gathered.result.clients) c.args.quota) in
-    let same = written c.in_ok-lanes.lanes.items new c.in_ok-lanes.lanes.len (omega (arith, followed.lanes_are.count, size, c.as_mut_slice.ensures.len)) in
-    (c.new-gathered.result, c.new-gathered.ensures.clients,
-    record {
-      is_round = c.in_ok-lanes.ensures.ok.0;
-      lanes = new;
-      followed = followed;
-      clients_are = c.put_back.ensures ∙ ap (insert_all bytes_eq c.begin_round.new.clients.entries) same
-          ∙ ap (λ entries. insert_all bytes_eq entries new) (c.in_ok-lanes.ensures.same ∙ c.new-gathered.ensures.clients ∙ ap (map (λ entry. (entry.0, rested entry.1))) (sym c.new-gathered.ensures.clients));
-    })
+    let same = written c.in_ok-lanes.lanes.items new c.in_ok-lanes.lanes.len (omega (arith, followed.lanes_are.count, size, c.as_mut_slice.ensures.len)) in (
+      c.new-gathered.result,
+      c.new-gathered.ensures.clients,
+      record {
+        is_round = c.in_ok-lanes.ensures.ok.0;
+        lanes = new;
+        followed = followed;
+        clients_are = c.put_back.ensures ∙ ap (insert_all bytes_eq c.begin_round.new.clients.entries) same
+            ∙ ap (λ entries. insert_all bytes_eq entries new) (c.in_ok-lanes.ensures.same ∙ c.new-gathered.ensures.clients ∙ ap (map (λ entry. (entry.0, rested entry.1))) (sym c.new-gathered.ensures.clients));
+      },
+    )
