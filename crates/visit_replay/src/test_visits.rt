@@ -5,6 +5,7 @@ use page_tree::{Page, Text};
 use serde_json::Value;
 use site_hooks::{SiteHooks, Table};
 use std::alloc::Global;
+use std::process::Abort;
 use std::test::Fail;
 use upload_reader::Event;
 use xpath_child::Path;
@@ -20,49 +21,79 @@ pub(crate) enum Did<'a> {
     Submit(&'a str, Option<&'a str>, u64),
 }
 
+const AT: u64 = 7;
+
 fn event(alloc: Global, did: Did<'_>) -> Result<Event, Fail> {
-    let at = 7;
-    Ok(match did {
-        Did::Input(target, value) => Event::Input {
-            at,
-            target: Path::read(alloc, target)?,
-            value: Text::from_str(alloc, value)?,
-        },
-        Did::Click(target, req) => Event::Click {
-            at,
+    match did {
+        Did::Input(target, value) => input(alloc, target, value),
+        Did::Click(target, req) => Ok(Event::Click {
+            at: AT,
             target: Path::read(alloc, target)?,
             req,
-        },
-        Did::Submit(target, None, req) => Event::Submit {
-            at,
-            target: Path::read(alloc, target)?,
-            by: None,
-            req,
-        },
-        Did::Submit(target, Some(by), req) => Event::Submit {
-            at,
-            target: Path::read(alloc, target)?,
-            by: Some(Path::read(alloc, by)?),
-            req,
-        },
+        }),
+        Did::Submit(target, by, req) => submit(alloc, target, by, req),
+    }
+}
+
+fn input(alloc: Global, target: &str, value: &str) -> Result<Event, Fail> {
+    let target = Path::read(alloc, target)?;
+    let value = Text::from_str(alloc, value)?;
+    Ok(Event::Input {
+        at: AT,
+        target,
+        value,
     })
+}
+
+fn submit(alloc: Global, target: &str, by: Option<&str>, req: u64) -> Result<Event, Fail> {
+    let by = button(alloc, by)?;
+    let target = Path::read(alloc, target)?;
+    Ok(Event::Submit {
+        at: AT,
+        target,
+        by,
+        req,
+    })
+}
+
+fn button(alloc: Global, by: Option<&str>) -> Result<Option<Path>, Fail> {
+    match by {
+        Some(by) => Ok(Some(Path::read(alloc, by)?)),
+        None => Ok(None),
+    }
 }
 
 pub(crate) fn page(alloc: Global, text: &str) -> Result<Page, Fail> {
     Ok(Page::from_value(alloc, &Value::from_str(alloc, text)?)?)
 }
 
-/// A visit that the log kept whole.
-pub(crate) fn visit(
-    alloc: Global,
-    address: &str,
-    old: &str,
-    events: &[Did<'_>],
-) -> Result<Visit, Fail> {
+/// What a visit was: its address, the page that stood there, whether the log kept only a part of it, and what was done.
+#[derive(Clone, Copy, Debug)]
+pub(crate) struct Was<'a> {
+    pub(crate) address: &'a str,
+    pub(crate) old: &'a str,
+    pub(crate) cut: bool,
+    pub(crate) events: &'a [Did<'a>],
+}
+
+// It before anything was done.
+fn loaded(alloc: Global, address: &str, old: &str) -> Result<Visit, Fail> {
+    let page = page(alloc, old)?;
     let address = Text::from_str(alloc, address)?;
-    let mut visit = Visit::loaded(alloc, 3, 2, 1, address, page(alloc, old)?, 1);
-    for did in events {
-        visit.events.push(event(alloc, *did)?)?;
+    Ok(Visit::loaded(alloc, 3, 2, 1, address, page, 1))
+}
+
+fn add_event(alloc: Global, visit: &mut Visit, did: Did<'_>) -> Result<(), Fail> {
+    let event = event(alloc, did)?;
+    Ok(visit.events.push(event)?)
+}
+
+/// A visit as it was.
+pub(crate) fn visit(alloc: Global, was: Was<'_>) -> Result<Visit, Fail> {
+    let mut visit = loaded(alloc, was.address, was.old)?;
+    visit.cut = was.cut;
+    for did in was.events {
+        add_event(alloc, &mut visit, *did)?;
     }
     Ok(visit)
 }
@@ -82,6 +113,18 @@ pub(crate) fn site(alloc: Global, address: &str, new: &str) -> Result<Table, Fai
     Ok(table)
 }
 
+/// What a visit gives by a site's hooks.
+pub(crate) fn outcome_by<H: SiteHooks>(
+    alloc: Global,
+    hooks: &H,
+    patched: &[&str],
+    was: Was<'_>,
+) -> Result<Outcome, Fail> {
+    let visit = visit(alloc, was)?;
+    let patch = patch(alloc, patched)?;
+    Ok(replay(alloc, hooks, &patch, &visit)?)
+}
+
 /// What a visit to that address gives where the site has that page there.
 pub(crate) fn outcome_at(
     alloc: Global,
@@ -90,9 +133,13 @@ pub(crate) fn outcome_at(
     new: &str,
     events: &[Did<'_>],
 ) -> Result<Outcome, Fail> {
-    let visit = visit(alloc, address, old, events)?;
-    let hooks = site(alloc, address, new)?;
-    Ok(replay(alloc, &hooks, &patch(alloc, &["/f"])?, &visit)?)
+    let was = Was {
+        address,
+        old,
+        cut: false,
+        events,
+    };
+    outcome_by(alloc, &site(alloc, address, new)?, &["/f"], was)
 }
 
 /// What a visit to `/f` gives, told.
@@ -105,17 +152,21 @@ pub(crate) fn replayed(
     told(alloc, &outcome_at(alloc, "/f", old, new, events)?)
 }
 
-/// What a visit gives by a site's hooks, told.
-pub(crate) fn replayed_by<H: SiteHooks>(
+/// Sees that a visit gives that by a site's hooks, told.
+pub(crate) fn gives_by<H: SiteHooks>(
+    rt: &impl Abort,
     alloc: Global,
     hooks: &H,
     patched: &[&str],
-    visit: &Visit,
-) -> Result<String, Fail> {
-    told(
-        alloc,
-        &replay(alloc, hooks, &patch(alloc, patched)?, visit)?,
-    )
+    was: Was<'_>,
+    want: &str,
+) -> Result<(), Fail> {
+    assert_eq!(rt;
+        told(alloc, &outcome_by(alloc, hooks, patched, was)?)?.as_str(),
+        want,
+        "{patched:?}, {was:?}"
+    );
+    Ok(())
 }
 
 /// The outcome, and then each request.

@@ -1,10 +1,10 @@
 ghost use Rattle.std.specs.Prelude.{Some, None, true};
 
 use crate::test_visits::Did::{Click, Input, Submit};
-use crate::test_visits::{Did, page, patch, replayed, replayed_by, site, visit};
+use crate::test_visits::{Did, Was, gives_by, page, patch, replayed, site, visit};
 use crate::{Method, Request, Requests, affected, replay};
 use page_tree::{NoMemory, Page, Text};
-use site_hooks::{SiteHooks, SiteLaw};
+use site_hooks::{SiteHooks, SiteLaw, Table};
 use std::alloc::{AllocError, Global};
 use std::test::Fail;
 use xpath_child::Path;
@@ -29,25 +29,29 @@ const SEARCH: &str =
     {"n":"input","a":{"type":"submit","name":"s1","value":"1"}},
     {"n":"button","a":{"name":"s2","value":"2"},"c":["Find"]}]}]}]}"#;
 
+const INPUT_AND_SUBMIT: &[Did<'static>] = &[
+    Input("/html/body/form/input", "a b"),
+    Submit("/html/body/form", None, 1),
+];
+
+// what was there, and what is there now
+const FIELD_PAGES: &[(&str, &str, &str)] = &[
+    (
+        FIELD_V,
+        FIELD_V,
+        r#"done | load 0 "/f" | post 1 "/s" q=a+b"#,
+    ),
+    (FIELD_V, FIELD_W, r#"BaseChanged at 1 | load 0 "/f""#),
+    (LINK, FIELD_V, r#"BaseChanged at 1 | load 0 "/f""#),
+    (FIELD_V, LINK, r#"NoTarget at 1 | load 0 "/f""#),
+];
+
 #[test]
 fn replays_a_field_over_its_start_text(rt: HostRuntime) -> Result<(), Fail> {
     let alloc = rt.alloc();
-    let events = [
-        Input("/html/body/form/input", "a b"),
-        Submit("/html/body/form", None, 1),
-    ];
-    for (old, new, want) in [
-        (
-            FIELD_V,
-            FIELD_V,
-            r#"done | load 0 "/f" | post 1 "/s" q=a+b"#,
-        ),
-        (FIELD_V, FIELD_W, r#"BaseChanged at 1 | load 0 "/f""#),
-        (LINK, FIELD_V, r#"BaseChanged at 1 | load 0 "/f""#),
-        (FIELD_V, LINK, r#"NoTarget at 1 | load 0 "/f""#),
-    ] {
+    for &(old, new, want) in FIELD_PAGES {
         assert_eq!(rt;
-            replayed(alloc, old, new, &events)?.as_str(),
+            replayed(alloc, old, new, INPUT_AND_SUBMIT)?.as_str(),
             want,
             "{old} and {new}"
         );
@@ -70,50 +74,52 @@ fn a_field_is_a_place_and_not_a_path(rt: HostRuntime) -> Result<(), Fail> {
     Ok(())
 }
 
+const FORM: &str = "/html/body/form";
+
+const BOX: &str = "/html/body/form/input[1]";
+
+const PRESS: Did<'static> = Submit(FORM, Some("/html/body/form/button"), 1);
+
+const SEARCHES: &[(&[Did<'static>], &str)] = &[
+    (
+        &[Click(BOX, 0), Click(BOX, 0), PRESS],
+        r#"done | load 0 "/g" | get 1 "/find?c2=v%26w&r=%C3%A9&t=a+b&s2=2" c2=v%26w&r=%C3%A9&t=a+b&s2=2"#,
+    ),
+    (
+        &[Click(BOX, 0), PRESS],
+        r#"done | load 0 "/g" | get 1 "/find?c1=on&c2=v%26w&r=%C3%A9&t=a+b&s2=2" c1=on&c2=v%26w&r=%C3%A9&t=a+b&s2=2"#,
+    ),
+    (
+        &[Click(BOX, 0), Click(BOX, 0), Submit(FORM, None, 1)],
+        r#"done | load 0 "/g" | get 1 "/find?c2=v%26w&r=%C3%A9&t=a+b" c2=v%26w&r=%C3%A9&t=a+b"#,
+    ),
+    (
+        &[Click(BOX, 0), Click(BOX, 0), Submit(FORM, Some(FORM), 1)],
+        r#"NotAForm at 3 | load 0 "/g""#,
+    ),
+    (
+        &[Click("/html/body/form/input[5]", 0)],
+        r#"NotAField at 1 | load 0 "/g""#,
+    ),
+    (
+        &[Input("/html/body/form/input[3]", "x")],
+        r#"NotAField at 1 | load 0 "/g""#,
+    ),
+    (&[Click(BOX, 1)], r#"NotALink at 1 | load 0 "/g""#),
+];
+
 #[test]
 fn replays_a_form_of_many_controls(rt: HostRuntime) -> Result<(), Fail> {
     let alloc = rt.alloc();
-    let (form, first) = ("/html/body/form", "/html/body/form/input[1]");
-    let pressed = Submit(form, Some("/html/body/form/button"), 1);
-    let cases: &[(&[Did<'_>], &str)] = &[
-        (
-            &[Click(first, 0), Click(first, 0), pressed],
-            r#"done | load 0 "/g" | get 1 "/find?c2=v%26w&r=%C3%A9&t=a+b&s2=2" c2=v%26w&r=%C3%A9&t=a+b&s2=2"#,
-        ),
-        (
-            &[Click(first, 0), pressed],
-            r#"done | load 0 "/g" | get 1 "/find?c1=on&c2=v%26w&r=%C3%A9&t=a+b&s2=2" c1=on&c2=v%26w&r=%C3%A9&t=a+b&s2=2"#,
-        ),
-        (
-            &[Click(first, 0), Click(first, 0), Submit(form, None, 1)],
-            r#"done | load 0 "/g" | get 1 "/find?c2=v%26w&r=%C3%A9&t=a+b" c2=v%26w&r=%C3%A9&t=a+b"#,
-        ),
-        (
-            &[
-                Click(first, 0),
-                Click(first, 0),
-                Submit(form, Some(form), 1),
-            ],
-            r#"NotAForm at 3 | load 0 "/g""#,
-        ),
-        (
-            &[Click("/html/body/form/input[5]", 0)],
-            r#"NotAField at 1 | load 0 "/g""#,
-        ),
-        (
-            &[Input("/html/body/form/input[3]", "x")],
-            r#"NotAField at 1 | load 0 "/g""#,
-        ),
-        (&[Click(first, 1)], r#"NotALink at 1 | load 0 "/g""#),
-    ];
     let hooks = site(alloc, "/g", SEARCH)?;
-    for &(events, want) in cases {
-        let visit = visit(alloc, "/g", SEARCH, events)?;
-        assert_eq!(rt;
-            replayed_by(alloc, &hooks, &["/g"], &visit)?.as_str(),
-            want,
-            "{events:?}"
-        );
+    for &(events, want) in SEARCHES {
+        let was = Was {
+            address: "/g",
+            old: SEARCH,
+            cut: false,
+            events,
+        };
+        gives_by(&rt, alloc, &hooks, &["/g"], was, want)?;
     }
     Ok(())
 }
@@ -127,6 +133,14 @@ const WITH_Y: &str = r#"{"n":"html","c":[{"n":"body","c":[{"n":"p","c":["y"]}]}]
 const GOOD: Did<'static> = Click("/html/body/p", 0);
 
 const BAD: Did<'static> = Click("/html/b", 0);
+
+// A site with one page that signals where what is at that path isn't as it was.
+fn watching(alloc: Global, address: &str, new: &str, path: &str) -> Result<Table, Fail> {
+    let path = Path::read(alloc, path)?;
+    let mut table = site(alloc, address, new)?;
+    table.watch(path)?;
+    Ok(table)
+}
 
 // what was patched, where the visit was and whether it was cut, and what was done
 const FIRST_CASES: &[(&str, &str, bool, &[Did<'static>], &str)] = &[
@@ -155,82 +169,104 @@ const FIRST_CASES: &[(&str, &str, bool, &[Did<'static>], &str)] = &[
 #[test]
 fn the_first_case_decides(rt: HostRuntime) -> Result<(), Fail> {
     let alloc = rt.alloc();
-    let mut hooks = site(alloc, "/p", WITH_Y)?;
-    hooks.watch(Path::read(alloc, "/html/body/p")?)?;
+    let hooks = watching(alloc, "/p", WITH_Y, "/html/body/p")?;
     for &(patched, address, cut, events, want) in FIRST_CASES {
-        let mut visit = visit(alloc, address, WITH_X, events)?;
-        visit.cut = cut;
-        assert_eq!(rt;
-            replayed_by(alloc, &hooks, &[patched], &visit)?.as_str(),
-            want,
-            "{patched} and {address}, {cut}, {events:?}"
-        );
+        let was = Was {
+            address,
+            old: WITH_X,
+            cut,
+            events,
+        };
+        gives_by(&rt, alloc, &hooks, &[patched], was, want)?;
     }
     Ok(())
 }
+
+// what was there, and whether the visit was cut
+const BEHIND_EVENTS: &[(&str, bool, &str)] = &[
+    (
+        LINK,
+        false,
+        r#"done | load 0 "/a" | get 1 "/b" | get 2 "/b""#,
+    ),
+    (
+        WITH_X,
+        false,
+        r#"Ui at 3 | load 0 "/a" | get 1 "/b" | get 2 "/b""#,
+    ),
+    (
+        WITH_X,
+        true,
+        r#"LogCut at 3 | load 0 "/a" | get 1 "/b" | get 2 "/b""#,
+    ),
+];
 
 // K8 and K9.
 #[test]
 fn all_requests_stand_before_what_comes_behind_the_events(rt: HostRuntime) -> Result<(), Fail> {
     let alloc = rt.alloc();
-    let events = [Click("/html/body/a", 1), Click("/html/body/a", 2)];
-    let mut visit = visit(alloc, "/a", LINK, &events)?;
-    let mut hooks = site(alloc, "/a", LINK)?;
-    hooks.watch(Path::read(alloc, "/html/body/a")?)?;
-    assert_eq!(rt;
-        replayed_by(alloc, &hooks, &["/a"], &visit)?.as_str(),
-        r#"done | load 0 "/a" | get 1 "/b" | get 2 "/b""#
-    );
-    visit.page = page(alloc, WITH_X)?;
-    assert_eq!(rt;
-        replayed_by(alloc, &hooks, &["/a"], &visit)?.as_str(),
-        r#"Ui at 3 | load 0 "/a" | get 1 "/b" | get 2 "/b""#
-    );
-    visit.cut = true;
-    assert_eq!(rt;
-        replayed_by(alloc, &hooks, &["/a"], &visit)?.as_str(),
-        r#"LogCut at 3 | load 0 "/a" | get 1 "/b" | get 2 "/b""#
-    );
+    let hooks = watching(alloc, "/a", LINK, "/html/body/a")?;
+    for &(old, cut, want) in BEHIND_EVENTS {
+        let was = Was {
+            address: "/a",
+            old,
+            cut,
+            events: &[Click("/html/body/a", 1), Click("/html/body/a", 2)],
+        };
+        gives_by(&rt, alloc, &hooks, &["/a"], was, want)?;
+    }
     Ok(())
+}
+
+// what is patched, and where a visit was
+const PATCHES: &[(&[&str], &str, bool)] = &[
+    (&["/p"], "/p", true),
+    (&["/p"], "/p?z=1", true),
+    (&["/p"], "/p?", true),
+    (&["/p"], "/p#t", true),
+    (&["/p"], "/p#t?z", true),
+    (&["/p"], "/p?z#t", true),
+    (&["/q", "/p", "/p"], "/p?z=1", true),
+    (&["/p"], "/pp", false),
+    (&["/p"], "/P", false),
+    (&["/p"], "/p/", false),
+    (&["/pp"], "/p", false),
+    (&[], "/p", false),
+    (&[], "", false),
+    // What stands behind a mark is no part of what is looked up.
+    (&["/p?z=1"], "/p?z=1", false),
+    (&["/p?"], "/p?", false),
+    (&["/p#t"], "/p#t", false),
+    (&[""], "?z=1", true),
+    (&[""], "#t", true),
+    (&[""], "", true),
+    (&[""], "/p", false),
+];
+
+fn is_affected(alloc: Global, patched: &[&str], was: Was<'_>) -> Result<bool, Fail> {
+    let visit = visit(alloc, was)?;
+    let patch = patch(alloc, patched)?;
+    Ok(affected(&patch, &visit))
 }
 
 #[test]
 fn a_patch_lists_addresses_without_query_and_fragment(rt: HostRuntime) -> Result<(), Fail> {
     let alloc = rt.alloc();
-    let cases: &[(&[&str], &str, bool)] = &[
-        (&["/p"], "/p", true),
-        (&["/p"], "/p?z=1", true),
-        (&["/p"], "/p?", true),
-        (&["/p"], "/p#t", true),
-        (&["/p"], "/p#t?z", true),
-        (&["/p"], "/p?z#t", true),
-        (&["/q", "/p", "/p"], "/p?z=1", true),
-        (&["/p"], "/pp", false),
-        (&["/p"], "/P", false),
-        (&["/p"], "/p/", false),
-        (&["/pp"], "/p", false),
-        (&[], "/p", false),
-        (&[], "", false),
-        // What stands behind a mark is no part of what is looked up.
-        (&["/p?z=1"], "/p?z=1", false),
-        (&["/p?"], "/p?", false),
-        (&["/p#t"], "/p#t", false),
-        (&[""], "?z=1", true),
-        (&[""], "#t", true),
-        (&[""], "", true),
-        (&[""], "/p", false),
-    ];
     let hooks = site(alloc, "/none", LINK)?;
-    for &(patched, address, want) in cases {
-        let patch = patch(alloc, patched)?;
-        let visit = visit(alloc, address, LINK, &[])?;
+    for &(patched, address, want) in PATCHES {
+        let was = Was {
+            address,
+            old: LINK,
+            cut: false,
+            events: &[],
+        };
         let told = if want { "NoPage at 0" } else { "untouched" };
-        assert_eq!(rt; affected(&patch, &visit), want, "{patched:?} and {address}");
         assert_eq!(rt;
-            replayed_by(alloc, &hooks, patched, &visit)?.as_str(),
-            told,
+            is_affected(alloc, patched, was)?,
+            want,
             "{patched:?} and {address}"
         );
+        gives_by(&rt, alloc, &hooks, patched, was, told)?;
     }
     Ok(())
 }
@@ -259,36 +295,43 @@ impl SiteHooks for Signalless {
     }
 }
 
+// whether a visit was cut, and what was done
+const BEFORE_SIGNALS: &[(bool, &[Did<'static>], &str)] = &[
+    (false, &[BAD], r#"NoTarget at 1 | load 0 "/p""#),
+    (false, &[GOOD, BAD], r#"NoTarget at 2 | load 0 "/p""#),
+    (true, &[BAD], r#"NoTarget at 1 | load 0 "/p""#),
+    (true, &[], r#"LogCut at 1 | load 0 "/p""#),
+    (true, &[GOOD], r#"LogCut at 2 | load 0 "/p""#),
+];
+
+// A visit to `/p`.
+fn to_p<'a>(cut: bool, events: &'a [Did<'a>]) -> Was<'a> {
+    Was {
+        address: "/p",
+        old: WITH_X,
+        cut,
+        events,
+    }
+}
+
+fn is_refused<H: SiteHooks>(alloc: Global, hooks: &H, was: Was<'_>) -> Result<bool, Fail> {
+    let visit = visit(alloc, was)?;
+    let patch = patch(alloc, &["/p"])?;
+    Ok(replay(alloc, hooks, &patch, &visit).is_err())
+}
+
 #[test]
 fn signals_are_asked_for_where_all_else_is_good(rt: HostRuntime) -> Result<(), Fail> {
     let alloc = rt.alloc();
     let hooks = Signalless {
         page: page(alloc, WITH_Y)?,
     };
-    let cases: &[(bool, &[Did<'_>], &str)] = &[
-        (false, &[BAD], r#"NoTarget at 1 | load 0 "/p""#),
-        (false, &[GOOD, BAD], r#"NoTarget at 2 | load 0 "/p""#),
-        (true, &[BAD], r#"NoTarget at 1 | load 0 "/p""#),
-        (true, &[], r#"LogCut at 1 | load 0 "/p""#),
-        (true, &[GOOD], r#"LogCut at 2 | load 0 "/p""#),
-    ];
-    for &(cut, events, want) in cases {
-        let mut visit = visit(alloc, "/p", WITH_X, events)?;
-        visit.cut = cut;
-        assert_eq!(rt;
-            replayed_by(alloc, &hooks, &["/p"], &visit)?.as_str(),
-            want,
-            "{cut}, {events:?}"
-        );
-        assert_eq!(rt;
-            replayed_by(alloc, &hooks, &["/q"], &visit)?.as_str(),
-            "untouched",
-            "{cut}, {events:?}"
-        );
+    for &(cut, events, want) in BEFORE_SIGNALS {
+        let was = to_p(cut, events);
+        gives_by(&rt, alloc, &hooks, &["/p"], was, want)?;
+        gives_by(&rt, alloc, &hooks, &["/q"], was, "untouched")?;
     }
-
-    let visit = visit(alloc, "/p", WITH_X, &[GOOD])?;
-    assert!(rt; replay(alloc, &hooks, &patch(alloc, &["/p"])?, &visit).is_err());
+    assert!(rt; is_refused(alloc, &hooks, to_p(false, &[GOOD]))?);
     Ok(())
 }
 
@@ -316,13 +359,9 @@ impl SiteHooks for Wanting {
 fn a_site_is_asked_for_the_pages_of_affected_visits(rt: HostRuntime) -> Result<(), Fail> {
     let alloc = rt.alloc();
     for cut in [false, true] {
-        let mut visit = visit(alloc, "/p", WITH_X, &[BAD])?;
-        visit.cut = cut;
-        assert_eq!(rt;
-            replayed_by(alloc, &Wanting, &["/q"], &visit)?.as_str(),
-            "untouched"
-        );
-        assert!(rt; replay(alloc, &Wanting, &patch(alloc, &["/p"])?, &visit).is_err());
+        let was = to_p(cut, &[BAD]);
+        gives_by(&rt, alloc, &Wanting, &["/q"], was, "untouched")?;
+        assert!(rt; is_refused(alloc, &Wanting, was)?);
     }
     Ok(())
 }
@@ -352,12 +391,14 @@ impl SiteHooks for Pageless {
 fn no_page_comes_before_all_but_the_patch(rt: HostRuntime) -> Result<(), Fail> {
     let alloc = rt.alloc();
     for cut in [false, true] {
-        let mut visit = visit(alloc, "/p", WITH_X, &[BAD])?;
-        visit.cut = cut;
-        assert_eq!(rt;
-            replayed_by(alloc, &Pageless, &["/p"], &visit)?.as_str(),
-            "NoPage at 0"
-        );
+        gives_by(
+            &rt,
+            alloc,
+            &Pageless,
+            &["/p"],
+            to_p(cut, &[BAD]),
+            "NoPage at 0",
+        )?;
     }
     Ok(())
 }
