@@ -1,10 +1,11 @@
 use crate::test_uploads::{
-    BYE, HELLO, INPUT, LOAD, begin, check_lines, check_text, refusal_text, repeated, run, text_of,
+    BYE, HELLO, INPUT, LOAD, begin, check_lines, check_text, drip_lines, next_cost, open,
+    refusal_text, repeated, runs, text_of,
 };
-use crate::{Client, Fed, HelloFault, LaneEnd, LaneFault, LineFault, Lines, Next, Session, Upload};
+use crate::{Ending, Fed, HelloFault, LaneEnd, LineFault, Lines, Refused, Source, Upload};
 use std::alloc::Global;
+use std::process::Abort;
 use std::test::Fail;
-use stream_fakes::Drip;
 
 // The lines of an upload, and how it goes.
 const HELLOS: [(&[&[u8]], &str); 11] = [
@@ -21,19 +22,66 @@ const HELLOS: [(&[&[u8]], &str); 11] = [
     (&[b" ", b"\t\r", HELLO, LOAD, BYE], "taken 1, bye"),
 ];
 
+// An upload of a client of so many letters.
+fn check_client(rt: &impl Abort, alloc: Global, letters: u32, want: &str) -> Result<(), Fail> {
+    let hello = repeated(alloc, br#"{"t":"hello","client":""#, b"x", letters, b"\"}")?;
+    check_lines(rt, alloc, &[&hello, BYE], want)
+}
+
+// A blank line that is too long before the hello.
+fn check_long_line(rt: &impl Abort, alloc: Global) -> Result<(), Fail> {
+    let long = repeated(alloc, b"", b" ", 65_537, b"")?;
+    check_lines(rt, alloc, &[b"", &long, HELLO], "U3 E4@2")
+}
+
 #[test]
 fn an_upload_begins_with_a_hello(rt: HostRuntime) -> Result<(), Fail> {
     let alloc = rt.alloc();
     for (lines, want) in HELLOS {
         check_lines(&rt, alloc, lines, want)?;
     }
-    for (bytes, want) in [(64, "taken 0, bye"), (65, "U1")] {
-        let hello = repeated(alloc, br#"{"t":"hello","client":""#, b"x", bytes, b"\"}")?;
-        check_lines(&rt, alloc, &[&hello, BYE], want)?;
-    }
-    let long = repeated(alloc, b"", b" ", 65_537, b"")?;
-    check_lines(&rt, alloc, &[b"", &long, HELLO], "U3 E4@2")?;
+    check_client(&rt, alloc, 64, "taken 0, bye")?;
+    check_client(&rt, alloc, 65, "U1")?;
+    check_long_line(&rt, alloc)?;
     check_text(&rt, alloc, HELLO, "U3 E3@1")
+}
+
+// The lines behind a hello that is refused so.
+fn refused_lines<R: Source + Drop>(
+    rt: &impl Abort,
+    alloc: Global,
+    lines: Lines<R>,
+    want: &str,
+) -> Result<Lines<R>, Fail> {
+    match Upload::hello(alloc, lines) {
+        Ok(_) => Err(Fail::new("taken")),
+        Err(Refused { lines, fault }) => {
+            is_told(rt, alloc, fault, want)?;
+            Ok(lines)
+        }
+    }
+}
+
+fn is_told(rt: &impl Abort, alloc: Global, fault: HelloFault, want: &str) -> Result<(), Fail> {
+    assert_eq!(rt; refusal_text(alloc, fault)?.as_str(), want);
+    Ok(())
+}
+
+// Two lines that are no hello, and then one.
+fn greet_again<R: Source + Drop>(
+    rt: &impl Abort,
+    alloc: Global,
+    lines: Lines<R>,
+) -> Result<Upload<R>, Fail> {
+    let lines = refused_lines(rt, alloc, lines, "U2")?;
+    let lines = refused_lines(rt, alloc, lines, "U3 E5@1")?;
+    begin(alloc, lines)
+}
+
+fn goes_on<R: Source + Drop>(rt: &impl Abort, alloc: Global, lines: Lines<R>) -> Result<(), Fail> {
+    let mut upload = greet_again(rt, alloc, lines)?;
+    assert_eq!(rt; upload.client().text(), "c1");
+    runs(rt, alloc, &mut upload, "taken 0, E9.S3@4")
 }
 
 // The refused lines go on behind what was taken, and are numbered anew.
@@ -42,17 +90,7 @@ fn refused_lines_can_greet_again(rt: HostRuntime) -> Result<(), Fail> {
     let alloc = rt.alloc();
     let text = text_of(alloc, &[b"", LOAD, b"{", b"", HELLO, b"", INPUT])?;
     for piece in [1, 7, 8192] {
-        let mut lines = Lines::over(alloc, Fed::new(Drip::new(alloc, &text, piece)?))?;
-        for want in ["U2", "U3 E5@1"] {
-            let Err(refused) = Upload::hello(alloc, lines) else {
-                return Err(Fail::new("taken"));
-            };
-            assert_eq!(rt; refusal_text(alloc, refused.fault)?.as_str(), want);
-            lines = refused.lines;
-        }
-        let mut upload = begin(alloc, lines)?;
-        assert_eq!(rt; upload.client().text(), "c1");
-        assert_eq!(rt; run(alloc, &mut upload)?.as_str(), "taken 0, E9.S3@4");
+        goes_on(&rt, alloc, drip_lines(alloc, &text, piece)?)?;
     }
     Ok(())
 }
@@ -67,52 +105,60 @@ fn faulty(alloc: Global) -> Result<Lines<Fed<&'static [u8]>>, Fail> {
     Ok(lines)
 }
 
+// A lane without a hello.
+fn runs_open<R: Source + Drop>(
+    rt: &impl Abort,
+    alloc: Global,
+    lines: Lines<R>,
+    want: &str,
+) -> Result<(), Fail> {
+    runs(rt, alloc, &mut open(alloc, lines)?, want)
+}
+
+// A hello that is refused so, and again.
+fn stay_refused<R: Source + Drop>(
+    rt: &impl Abort,
+    alloc: Global,
+    lines: Lines<R>,
+    want: &str,
+) -> Result<(), Fail> {
+    let lines = refused_lines(rt, alloc, lines, want)?;
+    refused_lines(rt, alloc, lines, want)?;
+    Ok(())
+}
+
 #[test]
 fn a_fault_of_the_lines_is_that_of_the_first_line(rt: HostRuntime) -> Result<(), Fail> {
     let alloc = rt.alloc();
-    let client = Client::read(alloc, "c1")?;
-    let mut upload = Upload::open(faulty(alloc)?, client, Session::new(alloc));
-    assert_eq!(rt; run(alloc, &mut upload)?.as_str(), "taken 0, E4@1");
-    let mut lines = faulty(alloc)?;
-    for _ in 0..2 {
-        let Err(refused) = Upload::hello(alloc, lines) else {
-            return Err(Fail::new("taken"));
-        };
-        assert_eq!(rt; refusal_text(alloc, refused.fault)?.as_str(), "U3 E4@1");
-        lines = refused.lines;
-    }
-    Ok(())
+    runs_open(&rt, alloc, faulty(alloc)?, "taken 0, E4@1")?;
+    stay_refused(&rt, alloc, faulty(alloc)?, "U3 E4@1")
 }
 
 const UPLOAD: &[u8] =
     b"{\"t\":\"hello\",\"client\":\"c1\"}\n{\"t\":\"load\",\"visit\":1,\"at\":1,\"path\":\"/a\",\"page\":{\"n\":\"html\",\"c\":[\"x\"]}}\n{\"t\":\"submit\",\"visit\":1,\"at\":2,\"target\":\"/html\",\"by\":\"/a[1]\"}\n{\"t\":\"end\",\"visit\":1,\"at\":3}\n{\"t\":\"bye\"}\n";
 
+// A message of each cost and then the bye, or the front of them and then for good that it gave up.
+fn gives_the_front<R: Source>(rt: &impl Abort, upload: &mut Upload<R>) {
+    let mut gave_up = false;
+    for want in [Ok(71), Ok(61), Ok(28), Err(Ending::Over(LaneEnd::Bye))] {
+        let next = next_cost(upload);
+        if next == Err(Ending::GaveUp) {
+            gave_up = true;
+        } else {
+            assert!(rt; next == want && !gave_up);
+        }
+    }
+}
+
 // Whatever allocation is refused, what is given is the front of the stream, and then the end, which is given for good.
 #[test]
-fn want_of_memory_ends_the_lane(rt: HostRuntime) -> Result<(), Fail> {
+fn want_of_memory_ends_the_lane(rt: HostRuntime) {
     let alloc = rt.alloc();
     let Ok(lines) = Lines::over(alloc, Fed::new(UPLOAD)) else {
-        return Ok(());
+        return;
     };
-    let mut upload = match Upload::hello(alloc, lines) {
-        Ok(upload) => upload,
-        Err(refused) => {
-            assert!(rt; refused.fault == HelloFault::NoMemory);
-            return Ok(());
-        }
-    };
-    let mut gave_up = false;
-    for want in [71, 61, 28] {
-        match upload.next() {
-            Next::Got(_, cost) => assert!(rt; cost == want && !gave_up),
-            Next::GaveUp => gave_up = true,
-            Next::Over(_) => return Err(Fail::new("over")),
-        }
+    match Upload::hello(alloc, lines) {
+        Ok(mut upload) => gives_the_front(&rt, &mut upload),
+        Err(refused) => assert!(rt; refused.fault == HelloFault::NoMemory),
     }
-    match upload.next() {
-        Next::Over(LaneEnd::Bye) => assert!(rt; !gave_up),
-        Next::GaveUp => {}
-        _ => return Err(Fail::new("no end")),
-    }
-    Ok(())
 }

@@ -1,5 +1,5 @@
-use crate::test_uploads::run;
-use crate::{Client, Fed, Lines, Session, Source, Upload};
+use crate::test_uploads::{open, run};
+use crate::{Fed, Lines, Source};
 use std::alloc::Global;
 use std::io;
 use std::io::{ErrorKind, Read};
@@ -35,9 +35,7 @@ impl Read for Visits {
 
 // A lane without a hello.
 fn run_open<R: Source + Drop>(alloc: Global, source: R) -> Result<String, Fail> {
-    let lines = Lines::over(alloc, source)?;
-    let client = Client::read(alloc, "c1")?;
-    run(alloc, &mut Upload::open(lines, client, Session::new(alloc)))
+    run(alloc, &mut open(alloc, Lines::over(alloc, source)?)?)
 }
 
 #[test]

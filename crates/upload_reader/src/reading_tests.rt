@@ -7,24 +7,42 @@ use page_tree::{NoMemory, Page, PageFault, Place};
 use serde_json::Value;
 use std::alloc::Global;
 use std::collections::HashSet;
+use std::fmt::Display;
+use std::process::Abort;
 use std::test::Fail;
-use xpath_child::{PathFault, PathFaultKind};
+use xpath_child::{Path, PathFault, PathFaultKind};
 
 const PAGE: &str = r#"{"n":"html","c":[{"n":"p","a":{"id":"x"},"c":["go"]}]}"#;
 
+// Adds the text of the path, behind a word.
+fn add_path(text: &mut String, word: &str, path: &Path) -> Result<(), Fail> {
+    text.push_str(word)?;
+    text.push_str(path.write()?.as_str())?;
+    Ok(())
+}
+
+// What is done at a target, without what comes behind that.
+fn target_text(
+    alloc: Global,
+    word: &str,
+    visit: u64,
+    at: u64,
+    target: &Path,
+) -> Result<String, Fail> {
+    let mut text = format!(in alloc; "{word} {visit} {at}")?;
+    add_path(&mut text, " ", target)?;
+    Ok(text)
+}
+
 fn event_text(alloc: Global, visit: u64, event: &Event) -> Result<String, Fail> {
-    let text = match event {
+    match event {
         Event::Input { at, target, value } => {
-            let target = target.write()?;
-            format!(in alloc;
-                "input {visit} {at} {} [{}]",
-                target.as_str(),
-                value.as_str()
-            )?
+            let text = target_text(alloc, "input", visit, *at, target)?;
+            Ok(format!(in alloc; "{text} [{}]", value.as_str())?)
         }
         Event::Click { at, target, req } => {
-            let target = target.write()?;
-            format!(in alloc; "click {visit} {at} {} {req}", target.as_str())?
+            let text = target_text(alloc, "click", visit, *at, target)?;
+            Ok(format!(in alloc; "{text} {req}")?)
         }
         Event::Submit {
             at,
@@ -32,16 +50,13 @@ fn event_text(alloc: Global, visit: u64, event: &Event) -> Result<String, Fail> 
             by,
             req,
         } => {
-            let target = target.write()?;
-            let mut text = format!(in alloc; "submit {visit} {at} {}", target.as_str())?;
+            let mut text = target_text(alloc, "submit", visit, *at, target)?;
             if let Some(button) = by {
-                text.push_str(" by ")?;
-                text.push_str(button.write()?.as_str())?;
+                add_path(&mut text, " by ", button)?;
             }
-            format!(in alloc; "{text} {req}")?
+            Ok(format!(in alloc; "{text} {req}")?)
         }
-    };
-    Ok(text)
+    }
 }
 
 fn message_text(alloc: Global, message: &Message) -> Result<String, Fail> {
@@ -176,10 +191,30 @@ const MESSAGES: [(&str, &str); 17] = [
     (" {\"t\" :\t\"bye\"}\r", "bye"),
 ];
 
+fn says(rt: &impl Abort, alloc: Global, line: &str, want: &str) -> Result<(), Fail> {
+    let said = line_text(alloc, line.as_bytes())?;
+    assert_eq!(rt; said.as_str(), want, "at {line}");
+    Ok(())
+}
+
 #[test]
 fn reads_each_kind_of_message(rt: HostRuntime) -> Result<(), Fail> {
     for (line, want) in MESSAGES {
-        let said = line_text(rt.alloc(), line.as_bytes())?;
+        says(&rt, rt.alloc(), line, want)?;
+    }
+    Ok(())
+}
+
+// What a copy of the event says.
+fn copied_text(alloc: Global, visit: u64, event: Event) -> Result<String, Fail> {
+    let copy = event.copy()?;
+    drop(event);
+    event_text(alloc, visit, &copy)
+}
+
+fn copies(rt: &impl Abort, alloc: Global, line: &str, want: &str) -> Result<(), Fail> {
+    if let Ok(Line::Says(Message::Act { visit, event })) = read_line(alloc, line.as_bytes()) {
+        let said = copied_text(alloc, visit, event)?;
         assert_eq!(rt; said.as_str(), want, "at {line}");
     }
     Ok(())
@@ -187,19 +222,22 @@ fn reads_each_kind_of_message(rt: HostRuntime) -> Result<(), Fail> {
 
 #[test]
 fn copies_each_kind_of_event(rt: HostRuntime) -> Result<(), Fail> {
-    let alloc = rt.alloc();
     for (line, want) in MESSAGES {
-        if let Ok(Line::Says(Message::Act { visit, event })) = read_line(alloc, line.as_bytes()) {
-            let copy = event.copy()?;
-            drop(event);
-            assert_eq!(rt;
-                event_text(alloc, visit, &copy)?.as_str(),
-                want,
-                "at {line}"
-            );
-        }
+        copies(&rt, rt.alloc(), line, want)?;
     }
     Ok(())
+}
+
+// The page of a load.
+fn loaded(alloc: Global, line: &str) -> Result<Page, Fail> {
+    match read_line(alloc, line.as_bytes()) {
+        Ok(Line::Says(Message::Load { page, .. })) => Ok(page),
+        _ => Err(Fail::new("no load")),
+    }
+}
+
+fn page_of(alloc: Global, text: &str) -> Result<Page, Fail> {
+    Ok(Page::from_value(alloc, &Value::from_str(alloc, text)?)?)
 }
 
 #[test]
@@ -208,12 +246,8 @@ fn keeps_the_page_of_a_load(rt: HostRuntime) -> Result<(), Fail> {
     let line = format!(in alloc;
         "{{\"t\":\"load\",\"visit\":1,\"at\":0,\"path\":\"/\",\"page\":{PAGE}}}"
     )?;
-    let value = Value::from_str(alloc, PAGE)?;
-    let want = Page::from_value(alloc, &value)?;
-    let Ok(Line::Says(Message::Load { page, .. })) = read_line(alloc, line.as_bytes()) else {
-        return Err(Fail::new("no load"));
-    };
-    assert!(rt; page.same(&want));
+    let page = loaded(alloc, line.as_str())?;
+    assert!(rt; page.same(&page_of(alloc, PAGE)?));
     Ok(())
 }
 
@@ -221,11 +255,11 @@ fn keeps_the_page_of_a_load(rt: HostRuntime) -> Result<(), Fail> {
 fn leaves_blank_lines_aside(rt: HostRuntime) -> Result<(), Fail> {
     for line in ["", " ", "\t", "\r", "  \t \r"] {
         assert!(rt; is_blank(line.as_bytes()));
-        assert!(rt; line_text(rt.alloc(), line.as_bytes())?.as_str() == "blank");
+        says(&rt, rt.alloc(), line, "blank")?;
     }
     for line in ["\x0b", "\x0c", " \0", "\u{a0}", " \x0b", "."] {
         assert!(rt; !is_blank(line.as_bytes()));
-        assert!(rt; line_text(rt.alloc(), line.as_bytes())?.as_str() == "E5");
+        says(&rt, rt.alloc(), line, "E5")?;
     }
     Ok(())
 }
@@ -283,8 +317,7 @@ const NO_MESSAGES: [&str; 30] = [
 #[test]
 fn refuses_what_is_no_message(rt: HostRuntime) -> Result<(), Fail> {
     for line in NO_MESSAGES {
-        let said = line_text(rt.alloc(), line.as_bytes())?;
-        assert_eq!(rt; said.as_str(), "E6", "at {line}");
+        says(&rt, rt.alloc(), line, "E6")?;
     }
     Ok(())
 }
@@ -303,34 +336,36 @@ fn refuses_a_load_of_no_page(rt: HostRuntime) -> Result<(), Fail> {
         let line = format!(in alloc;
             "{{\"t\":\"load\",\"visit\":1,\"at\":0,\"path\":\"/\",\"page\":{page}}}"
         )?;
-        let said = line_text(alloc, line.as_bytes())?;
-        assert_eq!(rt; said.as_str(), want, "at {page}");
+        says(&rt, alloc, line.as_str(), want)?;
     }
     Ok(())
+}
+
+// A load up to its page.
+const BEFORE_PAGE: &str = r#"{"t":"load","visit":1,"at":0,"path":"/","page":"#;
+
+// A load of a page of so many levels.
+fn deep_load(alloc: Global, levels: u32) -> Result<String, NoMemory> {
+    let (open, inner) = (r#"{"n":"a","c":["#, r#"{"n":"a"}"#);
+    let times = levels.saturating_sub(1);
+    nested(alloc, BEFORE_PAGE, open, times, inner, "]}", "}")
+}
+
+// A load of a page of so many texts.
+fn broad_load(alloc: Global, texts: u32) -> Result<String, NoMemory> {
+    let start = repeated(alloc, BEFORE_PAGE, r#"{"n":"a","c":["#, 1, "")?;
+    let times = texts.saturating_sub(1);
+    repeated(alloc, start.as_str(), r#""","#, times, r#"""]}}"#)
 }
 
 #[test]
 fn refuses_a_page_past_its_limits(rt: HostRuntime) -> Result<(), Fail> {
     let alloc = rt.alloc();
-    let start = r#"{"t":"load","visit":1,"at":0,"path":"/","page":"#;
     for (levels, want) in [(48, "load 1 0 0 0 [/] a"), (49, "E7.P5")] {
-        let line = nested(
-            alloc,
-            start,
-            r#"{"n":"a","c":["#,
-            levels - 1,
-            r#"{"n":"a"}"#,
-            "]}",
-            "}",
-        )?;
-        let said = line_text(alloc, line.as_bytes())?;
-        assert_eq!(rt; said.as_str(), want, "{levels} levels");
+        says(&rt, alloc, deep_load(alloc, levels)?.as_str(), want)?;
     }
     for (texts, want) in [(4095, "load 1 0 0 0 [/] a"), (4096, "E7.P6")] {
-        let page = repeated(alloc, r#"{"n":"a","c":["#, r#""","#, texts - 1, r#"""]}"#)?;
-        let line = format!(in alloc; "{start}{page}}}")?;
-        let said = line_text(alloc, line.as_bytes())?;
-        assert_eq!(rt; said.as_str(), want, "{texts} texts");
+        says(&rt, alloc, broad_load(alloc, texts)?.as_str(), want)?;
     }
     Ok(())
 }
@@ -340,8 +375,7 @@ fn takes_texts_nested_127_deep(rt: HostRuntime) -> Result<(), Fail> {
     let alloc = rt.alloc();
     for (arrays, want) in [(126, "bye"), (127, "E5")] {
         let line = nested(alloc, r#"{"t":"bye","x":"#, "[", arrays, "", "]", "}")?;
-        let said = line_text(alloc, line.as_bytes())?;
-        assert_eq!(rt; said.as_str(), want, "in {arrays} arrays");
+        says(&rt, alloc, line.as_str(), want)?;
     }
     Ok(())
 }
@@ -421,8 +455,7 @@ const SEVERAL_FAULTS: [(&str, &str); 9] = [
 #[test]
 fn names_the_first_fault_of_a_line(rt: HostRuntime) -> Result<(), Fail> {
     for (line, want) in SEVERAL_FAULTS {
-        let said = line_text(rt.alloc(), line.as_bytes())?;
-        assert_eq!(rt; said.as_str(), want, "at {line}");
+        says(&rt, rt.alloc(), line, want)?;
     }
     Ok(())
 }
@@ -462,46 +495,91 @@ const HELLOS: [(&str, &str); 19] = [
     ("", "U3"),
 ];
 
+fn greets(rt: &impl Abort, alloc: Global, line: &str, want: &str) -> Result<(), Fail> {
+    let said = hello_text(alloc, line)?;
+    assert_eq!(rt; said.as_str(), want, "at {line}");
+    Ok(())
+}
+
+// What the hello of a client of so many letters says.
+fn greets_at_length(rt: &impl Abort, alloc: Global, length: u32, want: &str) -> Result<(), Fail> {
+    let line = repeated(alloc, r#"{"t":"hello","client":""#, "x", length, "\"}")?;
+    greets(rt, alloc, line.as_str(), want)
+}
+
+fn greets_up_to_64(rt: &impl Abort, alloc: Global) -> Result<(), Fail> {
+    let name = repeated(alloc, "", "x", 64, "")?;
+    greets_at_length(rt, alloc, 64, name.as_str())?;
+    greets_at_length(rt, alloc, 65, "U1")
+}
+
+fn hello_fault(alloc: Global, line: &[u8]) -> Option<HelloFault> {
+    read_hello(alloc, 3, line).err()
+}
+
 #[test]
 fn reads_a_hello(rt: HostRuntime) -> Result<(), Fail> {
     let alloc = rt.alloc();
     for (line, want) in HELLOS {
-        let said = hello_text(alloc, line)?;
-        assert_eq!(rt; said.as_str(), want, "at {line}");
+        greets(&rt, alloc, line, want)?;
     }
-    for (length, is_taken) in [(64, true), (65, false)] {
-        let line = repeated(alloc, r#"{"t":"hello","client":""#, "x", length, "\"}")?;
-        let name = repeated(alloc, "", "x", length, "")?;
-        let want = if is_taken { name.as_str() } else { "U1" };
-        assert_eq!(rt; hello_text(alloc, line.as_str())?.as_str(), want);
-    }
+    greets_up_to_64(&rt, alloc)?;
     let fault = HelloFault::Line {
         line: 3,
         fault: LaneFault::NotJson,
     };
-    assert_eq!(rt; read_hello(alloc, 3, b"{").err(), Some(fault));
+    assert_eq!(rt; hello_fault(alloc, b"{"), Some(fault));
     Ok(())
+}
+
+fn is_copied(alloc: Global, text: &str) -> Result<bool, Fail> {
+    let client = Client::read(alloc, text)?;
+    Ok(client == client.copy()?)
+}
+
+fn are_others(alloc: Global, one: &str, other: &str) -> Result<bool, Fail> {
+    let one = Client::read(alloc, one)?;
+    Ok(one != Client::read(alloc, other)?)
+}
+
+fn add(alloc: Global, known: &mut HashSet<Client>, text: &str) -> Result<(), Fail> {
+    known.insert(Client::read(alloc, text)?)?;
+    Ok(())
+}
+
+fn is_known(alloc: Global, known: &HashSet<Client>, text: &str) -> Result<bool, Fail> {
+    Ok(known.contains(&Client::read(alloc, text)?))
+}
+
+fn known(alloc: Global, texts: &[&str]) -> Result<HashSet<Client>, Fail> {
+    let mut known = HashSet::new(alloc);
+    for text in texts {
+        add(alloc, &mut known, text)?;
+    }
+    Ok(known)
 }
 
 #[test]
 fn compares_clients_by_their_text(rt: HostRuntime) -> Result<(), Fail> {
     let alloc = rt.alloc();
-    let client = Client::read(alloc, "a-1")?;
-    assert!(rt; client == client.copy()?);
-    assert!(rt; client != Client::read(alloc, "a-2")?);
-    let mut known = HashSet::new(alloc);
-    known.insert(client)?;
-    known.insert(Client::read(alloc, "b")?)?;
-    known.insert(Client::read(alloc, "a-1")?)?;
+    assert!(rt; is_copied(alloc, "a-1")?);
+    assert!(rt; are_others(alloc, "a-1", "a-2")?);
+    let known = known(alloc, &["a-1", "b", "a-1"])?;
     assert_eq!(rt; known.len(), 2);
-    assert!(rt; known.contains(&Client::read(alloc, "b")?));
-    assert!(rt; !known.contains(&Client::read(alloc, "B")?));
+    assert!(rt; is_known(alloc, &known, "b")?);
+    assert!(rt; !is_known(alloc, &known, "B")?);
+    Ok(())
+}
+
+fn are_written<F: Display>(rt: &impl Abort, alloc: Global, rows: &[(F, &str)]) -> Result<(), Fail> {
+    for (fault, want) in rows {
+        assert_eq!(rt; fault.to_string(alloc)?.as_str(), *want);
+    }
     Ok(())
 }
 
 #[test]
 fn writes_lane_faults_as_their_numbers(rt: HostRuntime) -> Result<(), Fail> {
-    let alloc = rt.alloc();
     let bad_index = PathFault {
         at: 2,
         kind: PathFaultKind::BadIndex,
@@ -518,10 +596,7 @@ fn writes_lane_faults_as_their_numbers(rt: HostRuntime) -> Result<(), Fail> {
         (LaneFault::BadSession(SessionFault::AfterEnd), "E9.S4"),
         (LaneFault::LaneFull, "E10"),
     ];
-    for (fault, want) in of_lanes {
-        assert_eq!(rt; fault.to_string(alloc)?.as_str(), want);
-    }
-    Ok(())
+    are_written(&rt, rt.alloc(), &of_lanes)
 }
 
 #[test]
@@ -533,9 +608,7 @@ fn writes_other_faults_as_their_numbers(rt: HostRuntime) -> Result<(), Fail> {
         (LineFault::Truncated, "E3"),
         (LineFault::LineTooLong, "E4"),
     ];
-    for (fault, want) in of_lines {
-        assert_eq!(rt; fault.to_string(alloc)?.as_str(), want);
-    }
+    are_written(&rt, alloc, &of_lines)?;
     let of_sessions = [
         (SessionFault::VisitOrder, "S1"),
         (SessionFault::NoParent, "S2"),
@@ -546,9 +619,7 @@ fn writes_other_faults_as_their_numbers(rt: HostRuntime) -> Result<(), Fail> {
         (SessionFault::TooManyOpen, "S7"),
         (SessionFault::NoMemory, "S8"),
     ];
-    for (fault, want) in of_sessions {
-        assert_eq!(rt; fault.to_string(alloc)?.as_str(), want);
-    }
+    are_written(&rt, alloc, &of_sessions)?;
     let line = HelloFault::Line {
         line: 1,
         fault: LaneFault::NotJson,
@@ -559,8 +630,5 @@ fn writes_other_faults_as_their_numbers(rt: HostRuntime) -> Result<(), Fail> {
         (line, "U3"),
         (HelloFault::NoMemory, "U4"),
     ];
-    for (fault, want) in of_hellos {
-        assert_eq!(rt; fault.to_string(alloc)?.as_str(), want);
-    }
-    Ok(())
+    are_written(&rt, alloc, &of_hellos)
 }

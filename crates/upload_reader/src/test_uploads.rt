@@ -1,5 +1,5 @@
 //! Uploads that tests run to their end.
-use crate::{Fed, HelloFault, LaneEnd, Lines, Next, Source, Upload};
+use crate::{Client, Ending, Fed, HelloFault, LaneEnd, Lines, Next, Session, Source, Upload};
 use std::alloc::{AllocError, Global};
 use std::process::Abort;
 use std::test::Fail;
@@ -45,33 +45,57 @@ pub(crate) fn repeated(
 }
 
 // How many messages were given, and what came next.
-fn end_text(alloc: Global, taken: u32, next: &Next) -> Result<String, Fail> {
-    Ok(match next {
-        Next::Got(_, cost) => format!(in alloc; "taken {taken}, got {cost}")?,
-        Next::Over(LaneEnd::Bye) => format!(in alloc; "taken {taken}, bye")?,
-        Next::Over(LaneEnd::Fault { line, kind }) => {
+fn end_text(alloc: Global, taken: u32, end: Ending) -> Result<String, Fail> {
+    Ok(match end {
+        Ending::Over(LaneEnd::Bye) => format!(in alloc; "taken {taken}, bye")?,
+        Ending::Over(LaneEnd::Fault { line, kind }) => {
             format!(in alloc; "taken {taken}, {kind}@{line}")?
         }
-        Next::GaveUp => format!(in alloc; "taken {taken}, gave up")?,
+        Ending::GaveUp => format!(in alloc; "taken {taken}, gave up")?,
     })
+}
+
+/// The cost of the next message, or how the lane ended.
+pub(crate) fn next_cost<R: Source>(upload: &mut Upload<R>) -> Result<u32, Ending> {
+    match upload.next() {
+        Next::Got(_, cost) => Ok(cost),
+        Next::Over(end) => Err(Ending::Over(end)),
+        Next::GaveUp => Err(Ending::GaveUp),
+    }
 }
 
 /// How many messages it gives, and its end, which comes again.
 pub(crate) fn run<R: Source>(alloc: Global, upload: &mut Upload<R>) -> Result<String, Fail> {
     for taken in 0..1_000_001 {
-        match upload.next() {
-            Next::Got(_, _) => {}
-            end => {
-                let first = end_text(alloc, taken, &end)?;
-                let again = end_text(alloc, taken, &upload.next())?;
-                if first != again {
-                    return Err(Fail::new("another end"));
-                }
-                return Ok(first);
+        if let Err(end) = next_cost(upload) {
+            if next_cost(upload) != Err(end) {
+                return Err(Fail::new("another end"));
             }
+            return end_text(alloc, taken, end);
         }
     }
     Err(Fail::new("no end"))
+}
+
+/// Gives so many messages, and ends so.
+pub(crate) fn runs<R: Source>(
+    rt: &impl Abort,
+    alloc: Global,
+    upload: &mut Upload<R>,
+    want: &str,
+) -> Result<(), Fail> {
+    assert_eq!(rt; run(alloc, upload)?.as_str(), want);
+    Ok(())
+}
+
+/// The lines of the text, read in pieces.
+pub(crate) fn drip_lines(
+    alloc: Global,
+    text: &[u8],
+    piece: usize,
+) -> Result<Lines<Fed<Drip>>, Fail> {
+    let drip = Drip::new(alloc, text, piece)?;
+    Ok(Lines::over(alloc, Fed::new(drip))?)
 }
 
 /// An upload whose hello is taken.
@@ -80,6 +104,17 @@ pub(crate) fn begin<R: Source + Drop>(alloc: Global, lines: Lines<R>) -> Result<
         Ok(upload) => Ok(upload),
         Err(refused) => Err(Fail::new(refused.fault)),
     }
+}
+
+/// An upload of the text, whose hello is taken.
+pub(crate) fn begin_text(alloc: Global, text: &[u8]) -> Result<Upload<Fed<&[u8]>>, Fail> {
+    begin(alloc, Lines::over(alloc, Fed::new(text))?)
+}
+
+/// A lane without a hello, of a client of one name, behind a new session.
+pub(crate) fn open<R: Source + Drop>(alloc: Global, lines: Lines<R>) -> Result<Upload<R>, Fail> {
+    let client = Client::read(alloc, "c1")?;
+    Ok(Upload::open(lines, client, Session::new(alloc)))
 }
 
 /// Why an upload doesn't begin.

@@ -1,9 +1,10 @@
 use crate::test_uploads::{
-    BYE, CLICK, END, HELLO, INPUT, LOAD, begin, check_lines, check_text, repeated, run, run_source,
-    text_of,
+    BYE, CLICK, END, HELLO, INPUT, LOAD, begin, begin_text, check_lines, check_text, drip_lines,
+    next_cost, open, repeated, run_source, runs, text_of,
 };
 use crate::{Client, Fed, Last, Lines, Next, Session, Source, Upload};
 use std::alloc::{AllocError, Global};
+use std::process::Abort;
 use std::test::Fail;
 use stream_fakes::Drip;
 
@@ -39,22 +40,36 @@ fn an_upload_is_taken_up_to_its_first_fault(rt: HostRuntime) -> Result<(), Fail>
     Ok(())
 }
 
+fn add_load(alloc: Global, text: &mut Vec<u8>, visit: u32) -> Result<(), Fail> {
+    let line = format!(in alloc;
+        "{{\"t\":\"load\",\"visit\":{visit},\"at\":0,\"path\":\"\",\"page\":{{\"n\":\"a\"}}}}\n"
+    )?;
+    Ok(text.extend_from_slice(line.as_bytes())?)
+}
+
+// A hello, and a load of each visit from 1 to 257.
+fn loads(alloc: Global) -> Result<Vec<u8>, Fail> {
+    let mut text = text_of(alloc, &[HELLO])?;
+    for visit in 1..258 {
+        add_load(alloc, &mut text, visit)?;
+    }
+    Ok(text)
+}
+
+// A hello, a load and 10,001 clicks.
+fn clicks(alloc: Global) -> Result<Vec<u8>, Fail> {
+    let start = text_of(alloc, &[HELLO, LOAD])?;
+    let click = text_of(alloc, &[CLICK])?;
+    Ok(repeated(alloc, &start, &click, 10_001, b"")?)
+}
+
 #[test]
 fn a_client_has_so_many_open_visits_and_a_visit_so_many_events(
     rt: HostRuntime,
 ) -> Result<(), Fail> {
     let alloc = rt.alloc();
-    let mut loads = text_of(alloc, &[HELLO])?;
-    for visit in 1..258 {
-        let line = format!(in alloc;
-            "{{\"t\":\"load\",\"visit\":{visit},\"at\":0,\"path\":\"\",\"page\":{{\"n\":\"a\"}}}}\n"
-        )?;
-        loads.extend_from_slice(line.as_bytes())?;
-    }
-    check_text(&rt, alloc, &loads, "taken 256, E9.S7@258")?;
-    let start = text_of(alloc, &[HELLO, LOAD])?;
-    let clicks = repeated(alloc, &start, &text_of(alloc, &[CLICK])?, 10_001, b"")?;
-    check_text(&rt, alloc, &clicks, "taken 10001, E9.S6@10003")
+    check_text(&rt, alloc, &loads(alloc)?, "taken 256, E9.S7@258")?;
+    check_text(&rt, alloc, &clicks(alloc)?, "taken 10001, E9.S6@10003")
 }
 
 #[test]
@@ -186,6 +201,26 @@ fn the_first_fault_of_a_line_is_told(rt: HostRuntime) -> Result<(), Fail> {
     Ok(())
 }
 
+// How the bytes go as an upload with its hello.
+fn goes(rt: &impl Abort, alloc: Global, drip: &mut Drip, want: &str) -> Result<(), Fail> {
+    assert_eq!(rt; run_source(alloc, Fed::new(drip))?.as_str(), want);
+    Ok(())
+}
+
+// How the text goes, given a byte a read, and how many reads that takes.
+fn takes_reads(
+    rt: &impl Abort,
+    alloc: Global,
+    text: &[u8],
+    want: &str,
+    reads: u32,
+) -> Result<(), Fail> {
+    let mut drip = Drip::new(alloc, text, 1)?;
+    goes(rt, alloc, &mut drip, want)?;
+    assert_eq!(rt; drip.reads, reads, "for {want}");
+    Ok(())
+}
+
 // Texts given a byte a read, how they go, and how many reads that takes. A hello and its line end are 28 bytes, a bye and its line end 12.
 #[test]
 fn no_more_is_read_than_is_needed(rt: HostRuntime) -> Result<(), Fail> {
@@ -199,11 +234,24 @@ fn no_more_is_read_than_is_needed(rt: HostRuntime) -> Result<(), Fail> {
         (&[BYE, HELLO], "U2", 12),
     ];
     for (lines, want, reads) in table {
-        let mut drip = Drip::new(alloc, &text_of(alloc, lines)?, 1)?;
-        let got = run_source(alloc, Fed::new(&mut drip))?;
-        assert_eq!(rt; got.as_str(), want);
-        assert_eq!(rt; drip.reads, reads, "for {want}");
+        let text = text_of(alloc, lines)?;
+        takes_reads(&rt, alloc, &text, want, reads)?;
     }
+    Ok(())
+}
+
+// How the text goes in pieces, where a read fails before the byte at the gap.
+fn fails(
+    rt: &impl Abort,
+    alloc: Global,
+    text: &[u8],
+    piece: usize,
+    (gap, want): (usize, &str),
+) -> Result<(), Fail> {
+    let mut source = Fed::new(Drip::failing(alloc, text, piece, gap)?);
+    let got = run_source(alloc, &mut source)?;
+    assert_eq!(rt; got.as_str(), want, "at {gap} in pieces of {piece}");
+    assert!(rt; source.last() == Last::Failed);
     Ok(())
 }
 
@@ -220,12 +268,9 @@ fn a_failed_read_ends_the_lane(rt: HostRuntime) -> Result<(), Fail> {
         (90, "taken 1, E1@3"),
         (100, "taken 1, E1@3"),
     ];
-    for (gap, want) in table {
+    for row in table {
         for piece in [1, 7, 8192] {
-            let mut source = Fed::new(Drip::failing(alloc, &text, piece, gap)?);
-            let got = run_source(alloc, &mut source)?;
-            assert_eq!(rt; got.as_str(), want, "at {gap} in pieces of {piece}");
-            assert!(rt; source.last() == Last::Failed);
+            fails(&rt, alloc, &text, piece, row)?;
         }
     }
     Ok(())
@@ -238,47 +283,68 @@ const PADDED: [&[u8]; 3] = [
     b"{\"t\":\"end\",\"visit\":1,\"at\":3} \r",
 ];
 
+fn padded(alloc: Global) -> Result<Upload<Fed<Drip>>, Fail> {
+    let lines = [HELLO, PADDED[0], PADDED[1], b"  ", PADDED[2], BYE];
+    let text = text_of(alloc, &lines)?;
+    begin(alloc, drip_lines(alloc, &text, 8192)?)
+}
+
+// What the next messages cost.
+fn costs<R: Source>(rt: &impl Abort, upload: &mut Upload<R>, wants: &[u32]) {
+    for want in wants {
+        assert!(rt; next_cost(upload) == Ok(*want), "{want}");
+    }
+}
+
 #[test]
 fn a_message_costs_its_line(rt: HostRuntime) -> Result<(), Fail> {
     let alloc = rt.alloc();
-    let lines = [HELLO, PADDED[0], PADDED[1], b"  ", PADDED[2], BYE];
-    let drip = Drip::new(alloc, &text_of(alloc, &lines)?, 8192)?;
-    let mut upload = begin(alloc, Lines::over(alloc, Fed::new(drip))?)?;
-    for want in [125, 65, 30] {
-        assert!(rt; matches!(upload.next(), Next::Got(_, cost) if cost == want));
-    }
-    assert_eq!(rt; run(alloc, &mut upload)?.as_str(), "taken 0, bye");
+    let mut upload = padded(alloc)?;
+    costs(&rt, &mut upload, &[125, 65, 30]);
+    runs(&rt, alloc, &mut upload, "taken 0, bye")?;
     assert!(rt; upload.into_reader().last() == Last::Bytes);
     Ok(())
 }
 
-fn accept_next<R: Source>(upload: &mut Upload<R>, session: &mut Session) -> Result<(), Fail> {
-    match upload.next() {
-        Next::Got(message, _) => Ok(session.accept(&message)?),
+fn accept_next(session: &mut Session, next: &Next) -> Result<(), Fail> {
+    match next {
+        Next::Got(message, _) => Ok(session.accept(message)?),
         _ => Err(Fail::new("no message")),
     }
 }
 
+// The client of an upload, whose next message the session then has.
+fn client_of<R: Source>(upload: &mut Upload<R>, session: &mut Session) -> Result<Client, Fail> {
+    accept_next(session, &upload.next())?;
+    Ok(upload.client().copy()?)
+}
+
 // The client of a first lane, whose message the session then has.
-fn first_lane(alloc: Global, session: &mut Session) -> Result<Client, Fail> {
-    let text = text_of(alloc, &[HELLO, LOAD, BYE])?;
-    let mut first = begin(alloc, Lines::over(alloc, Fed::new(text.as_slice()))?)?;
-    accept_next(&mut first, session)?;
-    Ok(first.client().copy()?)
+fn first_lane(alloc: Global, text: &[u8], session: &mut Session) -> Result<Client, Fail> {
+    client_of(&mut begin_text(alloc, text)?, session)
+}
+
+// A lane without a hello, behind the first message of an upload, and of its client.
+fn second_lane<R: Source + Drop>(
+    alloc: Global,
+    first: &[u8],
+    lines: Lines<R>,
+) -> Result<Upload<R>, Fail> {
+    let mut session = Session::new(alloc);
+    let client = first_lane(alloc, first, &mut session)?;
+    Ok(Upload::open(lines, client, session))
 }
 
 // A session that has the first lane's message, before the second lane. Without a hello the first line has the number 1.
 #[test]
 fn a_lane_can_go_on_with_a_session(rt: HostRuntime) -> Result<(), Fail> {
     let alloc = rt.alloc();
+    let first = text_of(alloc, &[HELLO, LOAD, BYE])?;
     let text = text_of(alloc, &[INPUT, b"", LOAD])?;
     let lines = Lines::over(alloc, Fed::new(text.as_slice()))?;
-    let mut session = Session::new(alloc);
-    let client = first_lane(alloc, &mut session)?;
-    let mut second = Upload::open(lines, client, session);
+    let mut second = second_lane(alloc, &first, lines)?;
     assert!(rt; second.client().text() == "c1");
-    assert_eq!(rt; run(alloc, &mut second)?.as_str(), "taken 1, E9.S1@3");
-    Ok(())
+    runs(&rt, alloc, &mut second, "taken 1, E9.S1@3")
 }
 
 fn is_sent<T: Send>(_value: &T) -> bool {
@@ -293,7 +359,6 @@ fn are_sent<R: Source>(upload: &Upload<R>) -> bool {
 fn uploads_can_be_moved_to_a_thread(rt: HostRuntime) -> Result<(), Fail> {
     let alloc = rt.alloc();
     let lines = Lines::over(alloc, Fed::new(b"".as_slice()))?;
-    let upload = Upload::open(lines, Client::read(alloc, "c1")?, Session::new(alloc));
-    assert!(rt; are_sent(&upload));
+    assert!(rt; are_sent(&open(alloc, lines)?));
     Ok(())
 }
