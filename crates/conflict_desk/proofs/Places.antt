@@ -1,8 +1,8 @@
 -- Where a case stands, by its visit's number.
-use Rattle.std.proofs.Common.{◌≡◌, ◌≢◌, ℕ, ◌<◌, ◌≤◌, List, length, map, get_or, Bool, true, false, ◌==◌, cond, Option, Some, None, slice_get, option_map, nat_lt, inl, inr, ap, sym, refl, ◌∙◌, arith}
+use Rattle.std.proofs.Common.{◌≡◌, ◌≢◌, ℕ, ◌<◌, ◌≤◌, List, length, map, get_or, Bool, true, false, ◌&&◌, ◌==◌, cond, Option, Some, None, slice_get, option_map, nat_lt, inl, inr, ap, sym, refl, ◌∙◌, arith}
 use Rattle.std.specs.List.{find}
 use Rattle.std.specs.List.Sorted.{IsPartitionPoint, IsPartitionedBy}
-use Rattle.std.proofs.lemmas.Bool.{cases_lt, cond-true, cond-false, eq-eqb, eqb-true, ne_eqb, ltb-true, ltb-false, lt-ltb}
+use Rattle.std.proofs.lemmas.Bool.{cases_lt, cond-true, cond-false, eq-eqb, eqb-true, ne_eqb, and_parts, ltb-true, ltb-false, lt-ltb}
 use Rattle.std.proofs.lemmas.List.Kept.{AllPairs-from_increasing}
 use Rattle.std.proofs.lemmas.List.{length-map}
 use Rattle.std.proofs.lemmas.Option.{slice_get-map, slice_get-get_or, get_or_from_slice_get}
@@ -77,11 +77,12 @@ not_there cases visit i up point other = find_none (λ case. case.visit == visit
       ]
     ]))
 
-parent_by : (cases : List Case) (c p : Case) (b : Bool) → nat_lt c.parent c.visit ≡ b → parent_of cases c ≡ Some p → (p.visit ≡ c.parent) × (p.visit < c.visit)
-parent_by cases c p true less is =
-    let same : p.visit ≡ c.parent = is_of cases c.parent p (sym (cond-true (nat_lt c.parent c.visit) (case_of cases c.parent) None less) ∙ is) in
-    (same, omega (arith, same, ltb-true _ _ less))
-parent_by cases c p false more is = absurd (not_none p (sym is ∙ cond-false (nat_lt c.parent c.visit) (case_of cases c.parent) None more))
+parent_by : (cases : List Case) (c p : Case) (b : Bool) → (nat_lt 0 c.parent && nat_lt c.parent c.visit) ≡ b → parent_of cases c ≡ Some p → (p.visit ≡ c.parent) × (p.visit < c.visit)
+parent_by cases c p true named is =
+    let same : p.visit ≡ c.parent = is_of cases c.parent p (sym (cond-true (nat_lt 0 c.parent && nat_lt c.parent c.visit) (case_of cases c.parent) None named) ∙ is) in
+    let less : nat_lt c.parent c.visit ≡ true = (and_parts (nat_lt 0 c.parent) (nat_lt c.parent c.visit) named).1 in
+    (same, omega (arith, same, ltb-true c.parent c.visit less))
+parent_by cases c p false none is = absurd (not_none p (sym is ∙ cond-false (nat_lt 0 c.parent && nat_lt c.parent c.visit) (case_of cases c.parent) None none))
 
 pub parent_is : (cases : List Case) (c p : Case) → parent_of cases c ≡ Some p → (p.visit ≡ c.parent) × (p.visit < c.visit)
-parent_is cases c p is = parent_by cases c p (nat_lt c.parent c.visit) refl is
+parent_is cases c p is = parent_by cases c p (nat_lt 0 c.parent && nat_lt c.parent c.visit) refl is

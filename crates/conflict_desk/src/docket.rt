@@ -12,7 +12,8 @@ use visit_replay::{Outcome, Request};
 #[derive(Debug, Drop)]
 pub struct Case {
     pub visit: u64,
-    /// The number of the visit that opened it; 0 for none. One that isn't below the visit's own, or that the docket doesn't have, counts for none too.
+    /// The number of the visit that opened it; 0 for none, also in a docket that has a visit 0. One that isn't below the visit's own, or that the docket
+    /// doesn't have, counts for none too.
     pub parent: u64,
     pub outcome: Outcome,
 }
@@ -119,7 +120,7 @@ pub(crate) fn parent_of(cases: &[Case], case: &Case) -> Option<usize>
     ensures place { option_and_then (slice_get cases.now) result ≡ parent_of cases.now case.now }
     ensures within { IfSome result (λ place. place < length cases.now) }
 {
-    if case.parent < case.visit {
+    if 0 < case.parent && case.parent < case.visit {
         place_of(cases, case.parent)
     } else {
         None

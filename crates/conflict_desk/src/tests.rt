@@ -278,12 +278,13 @@ fn a_kept_visit_leaves_the_others_waiting(rt: HostRuntime) -> Result<(), Fail> {
     Ok(())
 }
 
-// A parent that the docket doesn't have, one of a later number, itself, and 0.
+// A parent that the docket doesn't have, one of a later number, itself, and 0, though the docket has a visit 0.
 #[test]
 fn a_visit_without_a_parent_stands_by_itself(rt: HostRuntime) -> Result<(), Fail> {
     let alloc = rt.alloc();
     let client = Client::read(alloc, "c1")?;
     let rows = [
+        (0, 0, End::Conflict),
         (2, 3, End::Done),
         (3, 0, End::Conflict),
         (5, 4, End::Done),
@@ -291,13 +292,10 @@ fn a_visit_without_a_parent_stands_by_itself(rt: HostRuntime) -> Result<(), Fail
         (7, 3, End::Untouched),
     ];
     let mut desk = desk_of(alloc, rows.as_slice())?;
-    run(
-        &rt,
-        &mut desk,
-        &client,
-        [(3, Choice::Cancel, Ok(()))].as_slice(),
-    );
+    let steps = [(0, Choice::Cancel, Ok(())), (3, Choice::Cancel, Ok(()))];
+    run(&rt, &mut desk, &client, steps.as_slice());
     let standings = [
+        (0, Standing::Cancelled),
         (2, Standing::Done),
         (3, Standing::Cancelled),
         (5, Standing::Done),
