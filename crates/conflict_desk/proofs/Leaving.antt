@@ -2,15 +2,16 @@
 use Rattle.std.proofs.Common.{◌≡◌, ◌≢◌, ℕ, zero, suc, ◌+◌, ◌<◌, ◌≤◌, List, [], ◌∷◌, ◌++◌, length, map, get_or, Bool, true, false, not, ◌||◌, ◌==◌, cond, bytes_eq, Option, Some, None, slice_get, option_map, ◌⊎◌, inl, inr, ap, sym, refl, subst, ◌∙◌, length-append, arith}
 use Rattle.std.specs.Map.{lookup}
 use Rattle.std.specs.List.{find, AllByRecursion}
+use Rattle.std.specs.Option.{option_map_or}
 use Rattle.std.specs.List.Sorted.{IsStrictlyIncreasing}
-use Rattle.std.proofs.lemmas.Bool.{cases_lt, cond-true, cond-false, true≢false, false≢true, eq-eqb, eqb-true, or_left, or_right}
+use Rattle.std.proofs.lemmas.Bool.{cases_lt, cond-true, cond-false, true≢false, false≢true, eq-eqb, eqb-true, or_left, or_right, or_parts}
 use Rattle.std.proofs.lemmas.List.{map-append, get_or_append_left}
 use Rattle.std.proofs.Math.Seq.{get_or-append_seam}
 use Rattle.indexmap.specs.IndexMap.{insert_entry}
-use Rattle.conflict_desk.specs.Docket.{AreAscending, case_of, is_conflict}
+use Rattle.conflict_desk.specs.Docket.{AreAscending, case_of, parent_of, is_conflict}
 use Rattle.conflict_desk.specs.Book.{Book, opened, is_decided, is_cancelled, waits, front_of, with_decision}
 use Rattle.conflict_desk.specs.Desk.{Books, opened_all, book_of, is_front, refusal_in, refusal, decided_in, decided_on, Call, unless_refused, after_call, after_calls}
-use Rattle.conflict_desk.specs.Laws.{IsConflictOf, HasLeft, LeaveInOrder, AllLeaveInOrder}
+use Rattle.conflict_desk.specs.Laws.{IsConflictOf, IsSpared, HasLeft, LeaveInOrder, AllLeaveInOrder}
 use Rattle.conflict_desk.specs.declared.docket.Case.{Case}
 use Rattle.conflict_desk.specs.declared.docket.Docket.{Docket}
 use Rattle.conflict_desk.specs.declared.decided.Choice.{Choice}
@@ -18,8 +19,8 @@ use Rattle.conflict_desk.specs.declared.decided.Decided.{Decided}
 use Rattle.conflict_desk.specs.declared.fault.DeskFault.{DeskFault}
 use Rattle.conflict_desk.specs.declared.fault.DeskFault.TheVariants.{NotFront}
 use Rattle.conflict_desk.proofs.Gets.{same_some, not_none, is_within, IsFirst, find_passes, find_where, none_passes}
-use Rattle.conflict_desk.proofs.Places.{in_order, case_at}
-use Rattle.conflict_desk.proofs.Chains.{decided_more, decided_now, below_cancelled}
+use Rattle.conflict_desk.proofs.Places.{in_order, case_at, is_of, parent_is}
+use Rattle.conflict_desk.proofs.Chains.{decided_more, decided_now, cancelled_is, cancelled_before, below_cancelled, cancelled_below}
 use Rattle.conflict_desk.proofs.Keeping.{why, no_wait, no_wait_still, waiting_parts}
 
 -- ---- lists
@@ -53,6 +54,31 @@ all_at : {X : Type 0} (P : X → Type 0) (xs : List X) → ((k : ℕ) (x : X) �
 all_at P [] each = tt
 all_at P (x ∷ xs) each = (each 0 x refl, all_at P xs (λ k y at. each (suc k) y at))
 
+-- ---- no visit above a decided one was cancelled
+
+-- what `IsSpared` says, by the test of the definition
+abbrev pub HasNoneAbove : Book → Decided → Type 0
+HasNoneAbove book decided = (c p : Case) → case_of book.cases decided.visit ≡ Some c → parent_of book.cases c ≡ Some p → is_cancelled book p ≡ false
+
+-- a decision on a later visit changes nothing of it
+none_still : (book : Book) (visit : ℕ) (choice : Choice) (d : Decided) → d.visit < visit → HasNoneAbove book d → HasNoneAbove (with_decision visit choice book) d
+none_still book visit choice d less none c p is up =
+    cancelled_before book visit choice p (omega (arith, (parent_is book.cases c p up).1, is_of book.cases d.visit c is, less)) ∙ none c p is up
+
+none_still_all : (book : Book) (visit : ℕ) (choice : Choice) (ds : List Decided) → AllByRecursion (λ x. x < visit) (map (λ decided. decided.visit) ds) → AllByRecursion (HasNoneAbove book) ds → AllByRecursion (HasNoneAbove (with_decision visit choice book)) ds
+none_still_all book visit choice [] below none = tt
+none_still_all book visit choice (d ∷ ds) below none = (none_still book visit choice d below.0 none.0, none_still_all book visit choice ds below.1 none.1)
+
+none_now : (book : Book) (choice : Choice) (c : Case) → case_of book.cases c.visit ≡ Some c → is_cancelled book c ≡ false → HasNoneAbove (with_decision c.visit choice book) record { visit = c.visit; choice = choice }
+none_now book choice c at stays d p is up =
+    let own : c ≡ d = same_some c d (sym at ∙ is) in
+    let parent : parent_of book.cases c ≡ Some p = ap (parent_of book.cases) own ∙ up in
+    let above : option_map_or (is_cancelled book) (parent_of book.cases c) false ≡ false = (or_parts _ _ (sym (cancelled_is book c) ∙ stays)).1 in
+    cancelled_before book c.visit choice p (parent_is book.cases c p parent).1 ∙ ap (λ o. option_map_or (is_cancelled book) o false) (sym parent) ∙ above
+
+is_spared : (book : Book) (d : Decided) → HasNoneAbove book d → IsSpared book d
+is_spared book d none c p is up below = true≢false (sym (cancelled_below book p below) ∙ none c p is up)
+
 -- ---- one book
 
 -- what each book keeps
@@ -60,10 +86,11 @@ pub record Goes (book : Book) : Type 0 where
   pub ascending : AreAscending book.cases
   pub ascend : IsStrictlyIncreasing (map (λ decided. decided.visit) book.decisions)
   pub conflicts : AllByRecursion (IsConflictOf book.cases) book.decisions
+  pub none_above : AllByRecursion (HasNoneAbove book) book.decisions
   pub ahead : (k : ℕ) (c : Case) → slice_get book.cases k ≡ Some c → waits book c ≡ true → (visit : ℕ) → is_decided book.decisions visit ≡ true → visit < c.visit
 
 pub goes_opened : (cases : List Case) → AreAscending cases → Goes (opened cases)
-goes_opened cases up = record { ascending = up; ascend = λ k within. absurd (omega (arith, within)); conflicts = tt; ahead = λ k c at waiting visit done. absurd (false≢true done) }
+goes_opened cases up = record { ascending = up; ascend = λ k within. absurd (omega (arith, within)); conflicts = tt; none_above = tt; ahead = λ k c at waiting visit done. absurd (false≢true done) }
 
 either_of : (a b : Bool) → (a || b) ≡ true → (a ≡ true) ⊎ (b ≡ true)
 either_of true b holds = inl refl
@@ -98,12 +125,17 @@ module _ (book : Book) (goes : Goes book) (choice : Choice) (c : Case) (found : 
   goes_on =
       let first : IsFirst (waits book) book.cases c = find_where (waits book) book.cases c found in
       let waiting = find_passes (waits book) book.cases c found in
+      let parts = waiting_parts book c waiting in
+      let here : case_of book.cases c.visit ≡ Some c = case_at book.cases goes.ascending c.visit first.place c first.at refl in
+      let below = decided_each book.decisions c.visit (goes.ahead first.place c first.at waiting) in
       record {
         ascending = goes.ascending;
         ascend = subst IsStrictlyIncreasing (sym (map-append (λ (decided : Decided). decided.visit) book.decisions (record { visit = c.visit; choice = choice } ∷ [])))
-            (increasing_push (map (λ (decided : Decided). decided.visit) book.decisions) c.visit goes.ascend (decided_each book.decisions c.visit (goes.ahead first.place c first.at waiting)));
+            (increasing_push (map (λ (decided : Decided). decided.visit) book.decisions) c.visit goes.ascend below);
         conflicts = all_push (IsConflictOf book.cases) book.decisions (record { visit = c.visit; choice = choice }) goes.conflicts
-            (record { case = c; is_case = case_at book.cases goes.ascending c.visit first.place c first.at refl; conflict = (waiting_parts book c waiting).0 });
+            (record { case = c; is_case = here; conflict = parts.0 });
+        none_above = all_push (HasNoneAbove (with_decision c.visit choice book)) book.decisions (record { visit = c.visit; choice = choice })
+            (none_still_all book c.visit choice book.decisions below goes.none_above) (none_now book choice c here parts.2);
         ahead = λ k d at still visit done. elim (either_of _ _ (sym (decided_more book.decisions c.visit choice visit) ∙ done)) [
           | inl before ↦ goes.ahead k d at (waits_before book c.visit choice d (waits book d) refl still) visit before
           | inr now ↦ let same : c.visit ≡ visit = eqb-true _ _ now in subst (λ v. v < d.visit) same (not_before k d at still)
@@ -134,6 +166,7 @@ pub leave_in_order : (book : Book) → Goes book → LeaveInOrder book
 leave_in_order book goes = record {
   ascend = goes.ascend;
   conflicts = goes.conflicts;
+  spared = all_more (HasNoneAbove book) (IsSpared book) (is_spared book) book.decisions goes.none_above;
   all = λ front. all_at (HasLeft book) book.cases (λ k c at. has_left book c (none_passes (waits book) book.cases k c (no_front book (find (waits book) book.cases) refl front) at));
 }
 
@@ -155,11 +188,11 @@ lookup_by : (client : List ℕ) (book : Book) (e : List ℕ × Book) (books : Li
 lookup_by client book e books true is found own rest = subst Goes (same_some e.1 book (sym (cond-true (bytes_eq client e.0) (Some e.1) (lookup (bytes_eq client) books) is) ∙ found)) own
 lookup_by client book e books false is found own rest = rest (sym (cond-false (bytes_eq client e.0) (Some e.1) (lookup (bytes_eq client) books) is) ∙ found)
 
-of_client : (client : List ℕ) (book : Book) (books : List (List ℕ × Book)) → AllByRecursion (λ entry. Goes entry.1) books → lookup (bytes_eq client) books ≡ Some book → Goes book
+pub of_client : (client : List ℕ) (book : Book) (books : List (List ℕ × Book)) → AllByRecursion (λ entry. Goes entry.1) books → lookup (bytes_eq client) books ≡ Some book → Goes book
 of_client client book [] all found = absurd (not_none book (sym found))
 of_client client book (e ∷ books) all found = lookup_by client book e books (bytes_eq client e.0) refl found all.0 (of_client client book books all.1)
 
-is_the_front : (visit : ℕ) (o : Option ℕ) → is_front visit o ≡ true → o ≡ Some visit
+pub is_the_front : (visit : ℕ) (o : Option ℕ) → is_front visit o ≡ true → o ≡ Some visit
 is_the_front visit None is = absurd (false≢true is)
 is_the_front visit (Some front) is = ap (λ v. Some v) (eqb-true _ _ is)
 
@@ -173,14 +206,14 @@ module _ (books : List (List ℕ × Book)) (all : AllByRecursion (λ entry. Goes
   by_book None is = all
   by_book (Some book) is = by_test book is (is_front call.visit (front_of book)) refl
 
-  all_call : AllByRecursion (λ entry. Goes entry.1) (after_call books call)
+  pub all_call : AllByRecursion (λ entry. Goes entry.1) (after_call books call)
   all_call = by_book (book_of call.client books) refl
 
-all_calls : (calls : List Call) (books : List (List ℕ × Book)) → AllByRecursion (λ entry. Goes entry.1) books → AllByRecursion (λ entry. Goes entry.1) (after_calls books calls)
+pub all_calls : (calls : List Call) (books : List (List ℕ × Book)) → AllByRecursion (λ entry. Goes entry.1) books → AllByRecursion (λ entry. Goes entry.1) (after_calls books calls)
 all_calls [] books all = all
 all_calls (call ∷ calls) books all = all_calls calls (after_call books call) (all_call books all call)
 
-all_opened : (dockets : List Docket) → AllByRecursion (λ docket. AreAscending docket.cases) dockets → AllByRecursion (λ entry. Goes entry.1) (opened_all dockets)
+pub all_opened : (dockets : List Docket) → AllByRecursion (λ docket. AreAscending docket.cases) dockets → AllByRecursion (λ entry. Goes entry.1) (opened_all dockets)
 all_opened [] up = tt
 all_opened (docket ∷ dockets) up = (goes_opened docket.cases up.0, all_opened dockets up.1)
 

@@ -6,4 +6,5 @@ pub mod Fronts
 pub mod Keeping
 pub mod Books
 pub mod Leaving
+pub mod Staying
 pub mod Dockets

@@ -4,9 +4,10 @@ use Rattle.std.specs.List.{AllByRecursion}
 use Rattle.std.specs.List.Sorted.{IsStrictlyIncreasing}
 use Rattle.conflict_desk.specs.Docket.{case_of, parent_of, is_conflict}
 use Rattle.conflict_desk.specs.Book.{Book, is_decided, was_cancelled, is_cancelled, front_of}
-use Rattle.conflict_desk.specs.Desk.{Books}
+use Rattle.conflict_desk.specs.Desk.{Books, standing_on}
 use Rattle.conflict_desk.specs.declared.docket.Case.{Case}
 use Rattle.conflict_desk.specs.declared.decided.Decided.{Decided}
+use Rattle.conflict_desk.specs.declared.decided.Standing.TheVariants.{Kept, Cancelled}
 
 -- ---- the chain of parents
 
@@ -26,15 +27,28 @@ pub record IsConflictOf (cases : List Case) (decided : Decided) : Type 0 where
   pub is_case : case_of cases decided.visit ≡ Some case
   pub conflict : is_conflict case.outcome ≡ true
 
+-- no visit above the decided one on its chain of parents was cancelled by a decision, be it an earlier or a later one
+abbrev pub IsSpared : Book → Decided → Type 0
+IsSpared book decided = (case parent : Case) → case_of book.cases decided.visit ≡ Some case → parent_of book.cases case ≡ Some parent → ¬ IsBelowCancelled book parent
+
 -- a conflict that left: it was decided, or a visit above it was cancelled
 abbrev pub HasLeft : Book → Case → Type 0
 HasLeft book case = is_conflict case.outcome ≡ true → (is_decided book.decisions case.visit ≡ true) ⊎ IsBelowCancelled book case
 
--- The visits that were decided ascend, so none was decided twice; each is a conflict; and where no front is left, every conflict has left.
+-- The visits that were decided ascend, so none was decided twice; each is a conflict, and none is below a cancelled visit; and where no front is left, every
+-- conflict has left.
 pub record LeaveInOrder (book : Book) : Type 0 where
   pub ascend : IsStrictlyIncreasing (map (λ decided. decided.visit) book.decisions)
   pub conflicts : AllByRecursion (IsConflictOf book.cases) book.decisions
+  pub spared : AllByRecursion (IsSpared book) book.decisions
   pub all : front_of book ≡ None → AllByRecursion (HasLeft book) book.cases
 
 abbrev pub AllLeaveInOrder : Books → Type 0
 AllLeaveInOrder books = AllByRecursion (λ entry. LeaveInOrder entry.1) books
+
+-- ---- what left stays as it left
+
+-- A conflict that left stands kept or cancelled. A visit that stands so before some calls stands so after them.
+pub record StayAsTheyLeft (before after : Books) : Type 0 where
+  pub kept : (client : List ℕ) (visit : ℕ) → standing_on client visit before ≡ Some Kept → standing_on client visit after ≡ Some Kept
+  pub cancelled : (client : List ℕ) (visit : ℕ) → standing_on client visit before ≡ Some Cancelled → standing_on client visit after ≡ Some Cancelled

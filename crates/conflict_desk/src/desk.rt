@@ -3,7 +3,7 @@ ghost use Rattle.std.specs.Prelude.{ℕ, ◌≡◌, ◌≢◌, ◌<◌, ◌+◌,
 ghost use Rattle.indexmap.specs.IndexMap.{values, spare, insert_entry, set_value_at};
 ghost use Rattle.conflict_desk.specs.Book.{Book, front_of, with_decision};
 ghost use Rattle.conflict_desk.specs.Desk.{AreDockets, opened_all, book_of, standing_on, outcome_on, requests_on, refusal, front_on, decided_on, Call, after_calls};
-ghost use Rattle.conflict_desk.specs.Laws.{AllLeaveInOrder, IsBelowCancelled};
+ghost use Rattle.conflict_desk.specs.Laws.{AllLeaveInOrder, StayAsTheyLeft, IsBelowCancelled};
 ghost use Rattle.conflict_desk.specs.Docket.{case_of};
 ghost use Rattle.conflict_desk.specs.declared.docket.Case.{Case as OneCase};
 ghost use Rattle.conflict_desk.specs.declared.decided.Standing.TheVariants.{Cancelled};
@@ -43,6 +43,9 @@ impl Desk {
 
         // Whatever calls follow, each client's conflicts leave in order, each once.
         ensures leave { IfOk result (λ desk. (calls : List Call) → AllLeaveInOrder (after_calls desk calls)) }
+
+        // And a visit that stands kept or cancelled after some calls stands so after any more.
+        ensures stay { IfOk result (λ desk. (calls more : List Call) → StayAsTheyLeft (after_calls desk calls) (after_calls (after_calls desk calls) more)) }
     {
         let mut open = IndexMap::new(alloc);
         open.reserve(dockets.len())?;

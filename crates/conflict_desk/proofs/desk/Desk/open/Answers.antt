@@ -1,8 +1,9 @@
 use Rattle.std.proofs.Common.{◌≡◌, sym, subst, ◌∙◌, rules}
 use Rattle.conflict_desk.specs.Desk.{after_calls}
-use Rattle.conflict_desk.specs.Laws.{AllLeaveInOrder}
+use Rattle.conflict_desk.specs.Laws.{AllLeaveInOrder, StayAsTheyLeft}
 use Rattle.conflict_desk.proofs.Books.{all_opened}
 use Rattle.conflict_desk.proofs.Leaving.{all_leave}
+use Rattle.conflict_desk.proofs.Staying.{all_stay}
 use Rattle.conflict_desk.proofs.desk.Desk.open.Goals as goal
 
 pub returns-clause-opened : goal.returns-clause-opened
@@ -18,3 +19,11 @@ returns-clause-leave c = λ calls.
     (sym (all_opened c.loop-docket.open.entries rest.items c.into_iter-docket-iterator.result.rest.items c.args.dockets.items c.loop-docket.invariant.entries (sym rest.ok.0 ∙ c.in-None.ensures.steps.0)
     c.into_iter-docket-iterator.ensures.into_iter_gives.0 c.requires.clients))
     (all_leave c.args.dockets.items c.requires.visits calls)
+
+pub returns-clause-stay : goal.returns-clause-stay
+returns-clause-stay c = λ calls more.
+    let rest = c.loop-docket.docket-iterator.rest in
+    subst (λ books. StayAsTheyLeft (after_calls books calls) (after_calls (after_calls books calls) more))
+    (sym (all_opened c.loop-docket.open.entries rest.items c.into_iter-docket-iterator.result.rest.items c.args.dockets.items c.loop-docket.invariant.entries (sym rest.ok.0 ∙ c.in-None.ensures.steps.0)
+    c.into_iter-docket-iterator.ensures.into_iter_gives.0 c.requires.clients))
+    (all_stay c.args.dockets.items c.requires.visits calls more)
