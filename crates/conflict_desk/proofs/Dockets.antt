@@ -1,33 +1,60 @@
--- Dockets that a desk takes, and a look at the order of their visits.
-use Rattle.std.proofs.Common.{◌≡◌, ℕ, ◌+◌, ◌-◌, ◌<◌, ◌≤◌, List, [], ◌∷◌, length, map, get_or, false, bytes_eq, slice_get, option_map, Some, inl, inr, ap, sym, refl, subst, ◌∙◌, arith}
-use Rattle.std.specs.List.{IsDistinct}
-use Rattle.std.proofs.lemmas.Bool.{cases_lt}
+-- Which dockets a desk takes.
+use Rattle.std.proofs.Common.{◌≡◌, ◌↔◌, ℕ, ◌+◌, ◌-◌, ◌<◌, ◌≤◌, List, [], ◌∷◌, length, map, get_or, false, bytes_eq, slice_get, option_map, Some, inl, inr, ap, sym, refl, subst, ◌∙◌, arith}
+use Rattle.std.specs.List.{AllByRecursion, IsDistinct, list_any}
+use Rattle.std.proofs.lemmas.Bool.{cases_lt, or_parts, or_from}
+use Rattle.std.proofs.lemmas.Map.Keys.{IsDistinct-head, IsDistinct-tail, IsDistinct-cons}
 use Rattle.std.proofs.lemmas.Option.{slice_get-map, slice_get-get_or, get_or_from_slice_get}
 use Rattle.conflict_desk.specs.Docket.{AreAscending}
 use Rattle.conflict_desk.specs.Desk.{AreDockets}
 use Rattle.conflict_desk.specs.declared.docket.Case.{Case}
 use Rattle.conflict_desk.specs.declared.docket.Docket.{Docket}
+use Rattle.conflict_desk.proofs.Places.{in_order}
 
-none_twice : IsDistinct bytes_eq []
+-- ---- one docket more
+
+none_from : (client : List ℕ) (dockets : List Docket) → list_any (λ docket. bytes_eq client docket.client) dockets ≡ false → AllByRecursion (λ other. bytes_eq client other ≡ false) (map (λ docket. docket.client) dockets)
+none_from client [] none = tt
+none_from client (docket ∷ dockets) none = let parts = or_parts _ _ none in (parts.0, none_from client dockets parts.1)
+
+none_to : (client : List ℕ) (dockets : List Docket) → AllByRecursion (λ other. bytes_eq client other ≡ false) (map (λ docket. docket.client) dockets) → list_any (λ docket. bytes_eq client docket.client) dockets ≡ false
+none_to client [] none = refl
+none_to client (docket ∷ dockets) none = or_from _ _ none.0 (none_to client dockets none.1)
+
+module _ (docket : Docket) (others : List Docket) where
+  one_more : AreAscending docket.cases → list_any (λ other. bytes_eq docket.client other.client) others ≡ false → AreDockets others → AreDockets (docket ∷ others)
+  one_more up alone are = record {
+    clients = IsDistinct-cons bytes_eq docket.client (map (λ docket. docket.client) others) (none_from docket.client others alone) are.clients;
+    visits = (up, are.visits);
+  }
+
+  one_less : AreDockets (docket ∷ others) → AreDockets others
+  one_less are = record { clients = IsDistinct-tail bytes_eq docket.client (map (λ docket. docket.client) others) are.clients; visits = are.visits.1 }
+
+  is_alone : AreDockets (docket ∷ others) → list_any (λ other. bytes_eq docket.client other.client) others ≡ false
+  is_alone are = none_to docket.client others (IsDistinct-head bytes_eq docket.client (map (λ docket. docket.client) others) are.clients)
+
+none_left : (dockets : List Docket) → length dockets ≡ 0 → AreDockets dockets
 unfolding IsDistinct
-none_twice = tt
+none_left [] none = record { clients = tt; visits = tt }
+none_left (docket ∷ dockets) none = absurd (omega (arith, none))
 
-once : (client : List ℕ) → IsDistinct bytes_eq (client ∷ [])
-unfolding IsDistinct
-once client = (tt, tt)
+-- ---- a look at one docket after another
 
-two_differ : (client other : List ℕ) → bytes_eq client other ≡ false → IsDistinct bytes_eq (client ∷ other ∷ [])
-unfolding IsDistinct
-two_differ client other differ = ((differ, tt), (tt, tt))
+module _ (all rest : List Docket) (so_far : AreDockets rest ↔ AreDockets all) where
+  pub to_the_end : length rest ≡ 0 → AreDockets all
+  to_the_end none = so_far.0 (none_left rest none)
 
-pub no_dockets : AreDockets []
-no_dockets = record { clients = none_twice; visits = tt }
+  module _ (docket : Docket) (others : List Docket) (is : rest ≡ docket ∷ others) where
+    pub one_on : AreAscending docket.cases → list_any (λ other. bytes_eq docket.client other.client) others ≡ false → AreDockets others ↔ AreDockets all
+    one_on up alone = (
+      (λ are. so_far.0 (subst AreDockets (sym is) (one_more docket others up alone are))),
+      (λ are. one_less docket others (subst AreDockets is (so_far.1 are))),
+    )
 
-pub one_docket : (docket : Docket) → AreAscending docket.cases → AreDockets (docket ∷ [])
-one_docket docket up = record { clients = once docket.client; visits = (up, tt) }
+    pub not_twice : AreDockets all → list_any (λ other. bytes_eq docket.client other.client) others ≡ false
+    not_twice are = is_alone docket others (subst AreDockets is (so_far.1 are))
 
-pub two_dockets : (docket other : Docket) → AreAscending docket.cases → AreAscending other.cases → bytes_eq docket.client other.client ≡ false → AreDockets (docket ∷ other ∷ [])
-two_dockets docket other up up_too differ = record { clients = two_differ docket.client other.client differ; visits = (up, (up_too, tt)) }
+-- ---- one docket's order
 
 -- the first so many visits ascend
 abbrev pub AscendTo : List Case → ℕ → Type 0
@@ -50,3 +77,8 @@ ascend_more cases k d e so_far first within less i below = elim (cases_lt (i + 1
         subst (λ j. (get_or cases j d).visit < (get_or cases (i + 1) e).visit) one (subst (λ j. (get_or cases (k - 1) d).visit < (get_or cases j e).visit) here less),
       )
 ]
+
+-- where a number isn't below the next, they don't ascend
+pub falls_there : (cases : List Case) (k : ℕ) (d e : Case) → AreAscending cases → 1 ≤ k → k < length cases → (get_or cases k e).visit ≤ (get_or cases (k - 1) d).visit → ⊥
+falls_there cases k d e up first within falls =
+    omega (arith, falls, in_order cases up (k - 1) k (get_or cases (k - 1) d) (get_or cases k e) (slice_get-get_or cases (k - 1) d (omega (arith, first, within))) (slice_get-get_or cases k e within) (omega (arith, first)))

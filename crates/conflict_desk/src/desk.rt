@@ -35,7 +35,7 @@ impl Model for Desk {
 }
 
 impl Desk {
-    /// A desk with these dockets, on which nothing is decided. Each is of a client of its own, and its visits' numbers ascend.
+    /// A desk with these dockets, on which nothing is decided. Each is of a client of its own, and its visits' numbers ascend: `are_dockets` tells.
     pub fn open(alloc: Global, dockets: Vec<Docket>) -> Result<Desk, DeskFault>
         requires { AreDockets dockets.items }
         ensures opened { IfOk result (λ desk. desk ≡ opened_all dockets.items) }

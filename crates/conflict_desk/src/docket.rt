@@ -1,6 +1,8 @@
 //! Dockets: what became of a client's visits.
-ghost use Rattle.std.specs.Prelude.{◌≡◌, ◌<◌, ◌++◌, [], ◌∷◌, length, slice_get, option_and_then, OnOk, OnErr, IfSome};
+ghost use Rattle.std.specs.Prelude.{◌≡◌, ◌↔◌, true, ◌<◌, ◌++◌, [], ◌∷◌, length, slice_get, option_and_then, bytes_eq, OnOk, OnErr, IfSome};
+ghost use Rattle.std.specs.List.{list_any};
 ghost use Rattle.conflict_desk.specs.Docket.{AreAscending, case_of, parent_of, is_conflict, requests_in};
+ghost use Rattle.conflict_desk.specs.Desk.{AreDockets};
 
 use page_tree::NoMemory;
 use std::alloc::Global;
@@ -99,6 +101,43 @@ impl From<Vec<Case>> for Cases {
 pub struct Docket {
     pub client: Client,
     pub cases: Cases,
+}
+
+/// Whether a desk may be opened with these dockets: each is of a client of its own, and its visits' numbers ascend. It looks at each case once, and compares
+/// each two clients.
+pub fn are_dockets(dockets: &[Docket]) -> bool
+    ensures { (result ≡ true) ↔ AreDockets dockets.now }
+{
+    let mut rest = dockets;
+    while let Some((docket, others)) = rest.split_first() {
+        if !are_ascending(docket.cases.as_slice()) {
+            return false;
+        }
+        if has_client(others, &docket.client) {
+            return false;
+        }
+        rest = others;
+    }
+    true
+}
+
+// Whether one of these dockets is of that client.
+fn has_client(dockets: &[Docket], client: &Client) -> bool
+    ensures { result ≡ list_any (λ docket. bytes_eq client.now docket.client) dockets.now }
+{
+    dockets.iter().any(|docket| *client == docket.client)
+}
+
+// Whether each visit's number is below the next one's.
+fn are_ascending(cases: &[Case]) -> bool
+    ensures { (result ≡ true) ↔ AreAscending cases.now }
+{
+    for k in 1..cases.len() {
+        if cases[k - 1].visit >= cases[k].visit {
+            return false;
+        }
+    }
+    true
 }
 
 // Where the visit of that number stands.

@@ -15,7 +15,7 @@ mod open_docket;
 
 pub use decided::{Choice, Decided, Standing};
 pub use desk::Desk;
-pub use docket::{Case, Cases, Docket};
+pub use docket::{Case, Cases, Docket, are_dockets};
 pub use fault::DeskFault;
 
 #[cfg(test)]

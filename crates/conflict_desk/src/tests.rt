@@ -1,7 +1,4 @@
-ghost use Rattle.std.specs.Prelude.{◌≡◌, IfOk, true};
-ghost use Rattle.conflict_desk.specs.Docket.{AreAscending};
-
-use crate::{Case, Cases, Choice, Desk, DeskFault, Docket, Standing};
+use crate::{Case, Cases, Choice, Desk, DeskFault, Docket, Standing, are_dockets};
 use page_tree::Text;
 use std::alloc::Global;
 use std::process::Abort;
@@ -58,44 +55,31 @@ fn cases(alloc: Global, rows: &[Row]) -> Result<Cases, Fail> {
     Ok(cases)
 }
 
-// A mistake in the test where the visits' numbers don't ascend.
-fn docket(alloc: Global, client: &str, rows: &[Row]) -> Result<Docket, Fail>
-    ensures { IfOk result (λ docket. AreAscending docket.cases) }
-{
-    let cases = cases(alloc, rows)?;
-    if !are_ascending(cases.as_slice()) {
-        return Err(Fail::from("no order"));
-    }
+fn docket(alloc: Global, client: &str, rows: &[Row]) -> Result<Docket, Fail> {
     Ok(Docket {
         client: Client::read(alloc, client)?,
-        cases,
+        cases: cases(alloc, rows)?,
     })
 }
 
-fn are_ascending(cases: &[Case]) -> bool
-    ensures { result ≡ true → AreAscending cases.now }
-{
-    for k in 1..cases.len() {
-        if cases[k - 1].visit >= cases[k].visit {
-            return false;
-        }
+// A mistake in the test where no desk may be opened with these.
+fn open(alloc: Global, dockets: Vec<Docket>) -> Result<Desk, Fail> {
+    if !are_dockets(dockets.as_slice()) {
+        return Err(Fail::from("no dockets"));
     }
-    true
+    Ok(Desk::open(alloc, dockets)?)
 }
 
 fn desk_of(alloc: Global, rows: &[Row]) -> Result<Desk, Fail> {
     let dockets = vec![in alloc; docket(alloc, "c1", rows)?]?;
-    Ok(Desk::open(alloc, dockets)?)
+    open(alloc, dockets)
 }
 
 fn desk_of_two(alloc: Global, first: &[Row], second: &[Row]) -> Result<Desk, Fail> {
     let first = docket(alloc, "c1", first)?;
     let second = docket(alloc, "c2", second)?;
-    if first.client == second.client {
-        return Err(Fail::from("one client"));
-    }
     let dockets = vec![in alloc; first, second]?;
-    Ok(Desk::open(alloc, dockets)?)
+    open(alloc, dockets)
 }
 
 const fn not_front(front: u64) -> Result<(), DeskFault> {
@@ -127,6 +111,43 @@ fn assert_standings(rt: &impl Abort, desk: &Desk, client: &Client, rows: &[(u64,
 
 fn request_count(desk: &Desk, client: &Client, visit: u64) -> Option<usize> {
     Some(desk.requests(client, visit)?.len())
+}
+
+// Dockets of two visits each, by their clients and the visits' numbers, and whether a desk may be opened with them.
+const DOCKETS: [(&[(&str, u64, u64)], bool); 8] = [
+    (&[], true),
+    (&[("c1", 1, 2)], true),
+    (&[("c1", 0, 9), ("c2", 0, 9), ("C1", 3, 4)], true),
+    (&[("c1", 2, 1)], false),
+    (&[("c1", 1, 1)], false),
+    (&[("c1", 1, 2), ("c2", 5, 5)], false),
+    (&[("c1", 1, 2), ("c1", 3, 4)], false),
+    (&[("c1", 1, 2), ("c2", 1, 2), ("c1", 1, 2)], false),
+];
+
+fn dockets_of(alloc: Global, rows: &[(&str, u64, u64)]) -> Result<Vec<Docket>, Fail> {
+    let mut dockets = Vec::new(alloc);
+    for (client, first, second) in rows {
+        let rows = [(*first, 0, End::Done), (*second, 0, End::Conflict)];
+        dockets.push(docket(alloc, *client, rows.as_slice())?)?;
+    }
+    Ok(dockets)
+}
+
+#[test]
+fn a_desk_is_opened_with_clients_that_differ_and_visits_that_ascend(
+    rt: HostRuntime,
+) -> Result<(), Fail> {
+    let alloc = rt.alloc();
+    for (rows, want) in DOCKETS {
+        let dockets = dockets_of(alloc, rows)?;
+        assert_eq!(rt; are_dockets(dockets.as_slice()), want);
+    }
+    let cases = Cases::new(alloc);
+    let client = Client::read(alloc, "c1")?;
+    let empty = vec![in alloc; Docket { client, cases }]?;
+    assert!(rt; are_dockets(empty.as_slice()));
+    Ok(())
 }
 
 #[test]
@@ -353,7 +374,7 @@ fn clients_are_decided_by_themselves(rt: HostRuntime) -> Result<(), Fail> {
 #[test]
 fn a_desk_without_dockets_has_no_client(rt: HostRuntime) -> Result<(), Fail> {
     let alloc = rt.alloc();
-    let desk = Desk::open(alloc, Vec::new(alloc))?;
+    let desk = open(alloc, Vec::new(alloc))?;
     let client = Client::read(alloc, "c1")?;
     assert_eq!(rt; desk.front(&client), Err(DeskFault::NoClient));
     Ok(())
