@@ -371,6 +371,34 @@ fn clients_are_decided_by_themselves(rt: HostRuntime) -> Result<(), Fail> {
     Ok(())
 }
 
+// A docket of each of so many clients, whose one visit has the client's number.
+fn dockets_of_many(alloc: Global, count: u64) -> Result<Vec<Docket>, Fail> {
+    let mut dockets = Vec::new(alloc);
+    for visit in 0..count {
+        let name = format!(in alloc; "c{visit}")?;
+        let rows = [(visit, 0, End::Conflict)];
+        dockets.push(docket(alloc, name.as_str(), rows.as_slice())?)?;
+    }
+    Ok(dockets)
+}
+
+#[test]
+fn a_desk_takes_many_clients(rt: HostRuntime) -> Result<(), Fail> {
+    let alloc = rt.alloc();
+    let mut desk = open(alloc, dockets_of_many(alloc, 40)?)?;
+    for visit in 0..40 {
+        let name = format!(in alloc; "c{visit}")?;
+        let client = Client::read(alloc, name.as_str())?;
+        let steps = [
+            (visit, Choice::Keep, Ok(())),
+            (visit, Choice::Keep, Err(DeskFault::NotFront(None))),
+        ];
+        run(&rt, &mut desk, &client, steps.as_slice());
+        assert_eq!(rt; desk.standing(&client, visit), Some(Standing::Kept));
+    }
+    Ok(())
+}
+
 #[test]
 fn a_desk_without_dockets_has_no_client(rt: HostRuntime) -> Result<(), Fail> {
     let alloc = rt.alloc();
