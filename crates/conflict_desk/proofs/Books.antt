@@ -8,7 +8,7 @@ use Rattle.std.specs.List.{IsDistinct}
 use Rattle.std.specs.Cmp.Lexicographic.{nat_list_eq_equiv}
 use Rattle.indexmap.specs.IndexMap.{insert_entry, insert_all, set_value_at}
 use Rattle.indexmap.proofs.MapLemmas.{insert_entry-first, insert_entry-absent, absent_from_lookup, Found-position}
-use Rattle.conflict_desk.specs.Book.{Book, opened, is_decided, is_cancelled, standing_by, standing_in, front_of, with_decision}
+use Rattle.conflict_desk.specs.Book.{Book, opened, is_decided, is_cancelled, standing_by, standing_in, front_visit, with_decision}
 use Rattle.conflict_desk.specs.Desk.{Books, book_of, is_front, refusal_in, decided_on, decided_in, opened_all}
 use Rattle.conflict_desk.specs.declared.docket.Docket.{Docket}
 use Rattle.conflict_desk.specs.declared.decided.Choice.{Choice}
@@ -57,11 +57,11 @@ pub not_front : (visit : ℕ) (o : Option ℕ) → o ≢ Some visit → is_front
 not_front visit None other = refl
 not_front visit (Some front) other = ne_eqb _ _ (λ same. other (ap (λ v. Some v) same))
 
-pub refused_is : (visit : ℕ) (book : Book) → front_of book ≢ Some visit → refusal_in visit (Some book) ≡ Some (NotFront (front_of book))
-refused_is visit book other = cond-false (is_front visit (front_of book)) None (Some (NotFront (front_of book))) (not_front visit (front_of book) other)
+pub refused_is : (visit : ℕ) (book : Book) → front_visit book ≢ Some visit → refusal_in visit (Some book) ≡ Some (NotFront (front_visit book))
+refused_is visit book other = cond-false (is_front visit (front_visit book)) None (Some (NotFront (front_visit book))) (not_front visit (front_visit book) other)
 
-pub accepted_is : (visit : ℕ) (book : Book) → front_of book ≡ Some visit → refusal_in visit (Some book) ≡ None
-accepted_is visit book front = cond-true (is_front visit (front_of book)) None (Some (NotFront (front_of book))) (ap (is_front visit) front ∙ eq-eqb visit visit refl)
+pub accepted_is : (visit : ℕ) (book : Book) → front_visit book ≡ Some visit → refusal_in visit (Some book) ≡ None
+accepted_is visit book front = cond-true (is_front visit (front_visit book)) None (Some (NotFront (front_visit book))) (ap (is_front visit) front ∙ eq-eqb visit visit refl)
 
 pub err_more : {T E : Type 0} (r : Result T E) (P Q : E → Type 0) → ((e : E) → P e → Q e) → IfErr r P → IfErr r Q
 err_more (Ok x) P Q more holds = holds

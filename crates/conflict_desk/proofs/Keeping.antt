@@ -8,7 +8,7 @@ use Rattle.std.proofs.lemmas.Option.{slice_get-get_or}
 use Rattle.visit_replay.specs.declared.outcome.Outcome.{Outcome}
 use Rattle.visit_replay.specs.declared.outcome.Outcome.TheVariants.{Untouched, Done, Conflict}
 use Rattle.conflict_desk.specs.Docket.{AreAscending, is_conflict}
-use Rattle.conflict_desk.specs.Book.{Book, opened, is_cancel, is_decided, is_cancelled, waits, front_of, with_decision, standing_by, standing_in}
+use Rattle.conflict_desk.specs.Book.{Book, opened, is_cancel, is_decided, is_cancelled, waits, front_visit, with_decision, standing_by, standing_in}
 use Rattle.conflict_desk.specs.declared.decided.Standing.TheVariants as standing
 use Rattle.conflict_desk.specs.inside.Links.{Follows, AreLinks}
 use Rattle.conflict_desk.specs.inside.Settling.{Tell, AllSaid, IsSettled}
@@ -77,12 +77,12 @@ no_wait_still book visit choice c none = elim (why book c none) [
 -- ---- the front
 
 module _ (book : Book) (links : List Link) (flags : List Bool) (next : ℕ) (kept : IsKept book links flags next) where
-  pub front_at : (items : List Case) (d : Case) → items ≡ book.cases → next < length items → Some (get_or items next d).visit ≡ front_of book
+  pub front_at : (items : List Case) (d : Case) → items ≡ book.cases → next < length items → Some (get_or items next d).visit ≡ front_visit book
   front_at items d same within =
       let at = ap (λ l. slice_get l next) (sym same) ∙ slice_get-get_or items next d within in
       sym (ap (option_map (λ case. case.visit)) (find_is (waits book) book.cases next (get_or items next d) at (kept.front _ at) (λ j y less here. kept.passed j y less here)))
 
-  pub front_none : (items : List Case) → items ≡ book.cases → length items ≤ next → None ≡ front_of book
+  pub front_none : (items : List Case) → items ≡ book.cases → length items ≤ next → None ≡ front_visit book
   front_none items same past =
       sym (ap (option_map (λ case. case.visit)) (find_none (waits book) book.cases (λ j y here. kept.passed j y (omega (arith, is_within book.cases j y here, ap length same, past)) here)))
 

@@ -8,8 +8,8 @@ use Rattle.std.proofs.lemmas.Bool.{cases_lt, cond-true, cond-false, true≢false
 use Rattle.std.proofs.lemmas.List.{map-append, get_or_append_left}
 use Rattle.std.proofs.Math.Seq.{get_or-append_seam}
 use Rattle.indexmap.specs.IndexMap.{insert_entry}
-use Rattle.conflict_desk.specs.Docket.{AreAscending, case_of, parent_of, is_conflict}
-use Rattle.conflict_desk.specs.Book.{Book, opened, is_decided, is_cancelled, waits, front_of, with_decision}
+use Rattle.conflict_desk.specs.Docket.{AreAscending, case_of_visit, parent_of, is_conflict}
+use Rattle.conflict_desk.specs.Book.{Book, opened, is_decided, is_cancelled, waits, front_visit, with_decision}
 use Rattle.conflict_desk.specs.Desk.{Books, opened_all, book_of, is_front, refusal_in, refusal, decided_in, decided_on, Call, unless_refused, after_call, after_calls}
 use Rattle.conflict_desk.specs.Laws.{IsConflictOf, IsSpared, HasLeft, LeaveInOrder, AllLeaveInOrder}
 use Rattle.conflict_desk.specs.declared.docket.Case.{Case}
@@ -58,7 +58,7 @@ all_at P (x ∷ xs) each = (each 0 x refl, all_at P xs (λ k y at. each (suc k) 
 
 -- what `IsSpared` says, by the test of the definition
 abbrev pub HasNoneAbove : Book → Decided → Type 0
-HasNoneAbove book decided = (c p : Case) → case_of book.cases decided.visit ≡ Some c → parent_of book.cases c ≡ Some p → is_cancelled book p ≡ false
+HasNoneAbove book decided = (c p : Case) → case_of_visit book.cases decided.visit ≡ Some c → parent_of book.cases c ≡ Some p → is_cancelled book p ≡ false
 
 -- a decision on a later visit changes nothing of it
 none_still : (book : Book) (visit : ℕ) (choice : Choice) (d : Decided) → d.visit < visit → HasNoneAbove book d → HasNoneAbove (with_decision visit choice book) d
@@ -69,7 +69,7 @@ none_still_all : (book : Book) (visit : ℕ) (choice : Choice) (ds : List Decide
 none_still_all book visit choice [] below none = tt
 none_still_all book visit choice (d ∷ ds) below none = (none_still book visit choice d below.0 none.0, none_still_all book visit choice ds below.1 none.1)
 
-none_now : (book : Book) (choice : Choice) (c : Case) → case_of book.cases c.visit ≡ Some c → is_cancelled book c ≡ false → HasNoneAbove (with_decision c.visit choice book) record { visit = c.visit; choice = choice }
+none_now : (book : Book) (choice : Choice) (c : Case) → case_of_visit book.cases c.visit ≡ Some c → is_cancelled book c ≡ false → HasNoneAbove (with_decision c.visit choice book) record { visit = c.visit; choice = choice }
 none_now book choice c at stays d p is up =
     let own : c ≡ d = same_some c d (sym at ∙ is) in
     let parent : parent_of book.cases c ≡ Some p = ap (parent_of book.cases) own ∙ up in
@@ -126,7 +126,7 @@ module _ (book : Book) (goes : Goes book) (choice : Choice) (c : Case) (found : 
       let first : IsFirst (waits book) book.cases c = find_where (waits book) book.cases c found in
       let waiting = find_passes (waits book) book.cases c found in
       let parts = waiting_parts book c waiting in
-      let here : case_of book.cases c.visit ≡ Some c = case_at book.cases goes.ascending c.visit first.place c first.at refl in
+      let here : case_of_visit book.cases c.visit ≡ Some c = case_at book.cases goes.ascending c.visit first.place c first.at refl in
       let below = decided_each book.decisions c.visit (goes.ahead first.place c first.at waiting) in
       record {
         ascending = goes.ascending;
@@ -146,7 +146,7 @@ by_front : (book : Book) → Goes book → (choice : Choice) (visit : ℕ) (o : 
 by_front book goes choice visit None found is = absurd (not_none visit (sym is))
 by_front book goes choice visit (Some c) found is = subst (λ v. Goes (with_decision v choice book)) (same_some c.visit visit is) (goes_on book goes choice c found)
 
-pub goes_decided : (book : Book) → Goes book → (choice : Choice) (visit : ℕ) → front_of book ≡ Some visit → Goes (with_decision visit choice book)
+pub goes_decided : (book : Book) → Goes book → (choice : Choice) (visit : ℕ) → front_visit book ≡ Some visit → Goes (with_decision visit choice book)
 goes_decided book goes choice visit front = by_front book goes choice visit (find (waits book) book.cases) refl front
 
 no_front : (book : Book) (o : Option Case) → find (waits book) book.cases ≡ o → option_map (λ case. case.visit) o ≡ None → find (waits book) book.cases ≡ None
@@ -197,14 +197,14 @@ is_the_front visit None is = absurd (false≢true is)
 is_the_front visit (Some front) is = ap (λ v. Some v) (eqb-true _ _ is)
 
 module _ (books : List (List ℕ × Book)) (all : AllByRecursion (λ entry. Goes entry.1) books) (call : Call) where
-  by_test : (book : Book) → book_of call.client books ≡ Some book → (b : Bool) → is_front call.visit (front_of book) ≡ b
-      → AllByRecursion (λ entry. Goes entry.1) (unless_refused (cond b None (Some (NotFront (front_of book)))) (insert_entry bytes_eq books call.client (with_decision call.visit call.choice book)) books)
-  by_test book is true front = all_insert call.client (with_decision call.visit call.choice book) books all (goes_decided book (of_client call.client book books all is) call.choice call.visit (is_the_front call.visit (front_of book) front))
+  by_test : (book : Book) → book_of call.client books ≡ Some book → (b : Bool) → is_front call.visit (front_visit book) ≡ b
+      → AllByRecursion (λ entry. Goes entry.1) (unless_refused (cond b None (Some (NotFront (front_visit book)))) (insert_entry bytes_eq books call.client (with_decision call.visit call.choice book)) books)
+  by_test book is true front = all_insert call.client (with_decision call.visit call.choice book) books all (goes_decided book (of_client call.client book books all is) call.choice call.visit (is_the_front call.visit (front_visit book) front))
   by_test book is false front = all
 
   by_book : (o : Option Book) → book_of call.client books ≡ o → AllByRecursion (λ entry. Goes entry.1) (unless_refused (refusal_in call.visit o) (decided_in call.client call.visit call.choice books o) books)
   by_book None is = all
-  by_book (Some book) is = by_test book is (is_front call.visit (front_of book)) refl
+  by_book (Some book) is = by_test book is (is_front call.visit (front_visit book)) refl
 
   pub all_call : AllByRecursion (λ entry. Goes entry.1) (after_call books call)
   all_call = by_book (book_of call.client books) refl

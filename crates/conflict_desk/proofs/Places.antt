@@ -6,7 +6,7 @@ use Rattle.std.proofs.lemmas.Bool.{cases_lt, cond-true, cond-false, eq-eqb, eqb-
 use Rattle.std.proofs.lemmas.List.Kept.{AllPairs-from_increasing}
 use Rattle.std.proofs.lemmas.List.{length-map}
 use Rattle.std.proofs.lemmas.Option.{slice_get-map, slice_get-get_or, get_or_from_slice_get}
-use Rattle.conflict_desk.specs.Docket.{AreAscending, case_of, parent_of}
+use Rattle.conflict_desk.specs.Docket.{AreAscending, case_of_visit, parent_of}
 use Rattle.conflict_desk.specs.declared.docket.Case.{Case}
 use Rattle.conflict_desk.proofs.Gets.{same_some, not_none, is_within, find_passes, find_is, find_none, find_where}
 
@@ -38,12 +38,12 @@ before_it cases up i j c d at_i at_j less = elim (cases_lt i j) [
   ]
 ]
 
-pub case_at : (cases : List Case) → AreAscending cases → (visit k : ℕ) (c : Case) → slice_get cases k ≡ Some c → c.visit ≡ visit → case_of cases visit ≡ Some c
+pub case_at : (cases : List Case) → AreAscending cases → (visit k : ℕ) (c : Case) → slice_get cases k ≡ Some c → c.visit ≡ visit → case_of_visit cases visit ≡ Some c
 case_at cases up visit k c at is =
     find_is (λ case. case.visit == visit) cases k c at (eq-eqb _ _ is)
     (λ j d less here. ne_eqb _ _ (λ same. omega (arith, same, is, in_order cases up j k d c here at less)))
 
-pub is_of : (cases : List Case) (visit : ℕ) (c : Case) → case_of cases visit ≡ Some c → c.visit ≡ visit
+pub is_of : (cases : List Case) (visit : ℕ) (c : Case) → case_of_visit cases visit ≡ Some c → c.visit ≡ visit
 is_of cases visit c found = eqb-true _ _ (find_passes (λ case. case.visit == visit) cases c found)
 
 -- numbers ascend, so those below that number come first
@@ -57,7 +57,7 @@ parted cases up visit i j d le within holds = elim (cases_lt i j) [
   | inr after ↦ let same : j ≡ i = omega (arith, le, after) in ap (λ k. nat_lt (get_or cases k d).visit visit) (sym same) ∙ holds
 ]
 
-pub not_there : (cases : List Case) (visit i : ℕ) → AreAscending cases → IsPartitionPoint (λ case. nat_lt case.visit visit ≡ true) (λ case. nat_lt case.visit visit ≡ false) cases i → (i < length cases → (d : Case) → (get_or cases i d).visit ≢ visit) → case_of cases visit ≡ None
+pub not_there : (cases : List Case) (visit i : ℕ) → AreAscending cases → IsPartitionPoint (λ case. nat_lt case.visit visit ≡ true) (λ case. nat_lt case.visit visit ≡ false) cases i → (i < length cases → (d : Case) → (get_or cases i d).visit ≢ visit) → case_of_visit cases visit ≡ None
 not_there cases visit i up point other = find_none (λ case. case.visit == visit) cases (λ k c at. ne_eqb _ _ (λ same.
     let within : k < length cases = is_within cases k c at in
     let is : get_or cases k c ≡ c = get_or_from_slice_get cases k c c at in
@@ -79,10 +79,10 @@ not_there cases visit i up point other = find_none (λ case. case.visit == visit
 
 parent_by : (cases : List Case) (c p : Case) (b : Bool) → (nat_lt 0 c.parent && nat_lt c.parent c.visit) ≡ b → parent_of cases c ≡ Some p → (p.visit ≡ c.parent) × (p.visit < c.visit)
 parent_by cases c p true named is =
-    let same : p.visit ≡ c.parent = is_of cases c.parent p (sym (cond-true (nat_lt 0 c.parent && nat_lt c.parent c.visit) (case_of cases c.parent) None named) ∙ is) in
+    let same : p.visit ≡ c.parent = is_of cases c.parent p (sym (cond-true (nat_lt 0 c.parent && nat_lt c.parent c.visit) (case_of_visit cases c.parent) None named) ∙ is) in
     let less : nat_lt c.parent c.visit ≡ true = (and_parts (nat_lt 0 c.parent) (nat_lt c.parent c.visit) named).1 in
     (same, omega (arith, same, ltb-true c.parent c.visit less))
-parent_by cases c p false none is = absurd (not_none p (sym is ∙ cond-false (nat_lt 0 c.parent && nat_lt c.parent c.visit) (case_of cases c.parent) None none))
+parent_by cases c p false none is = absurd (not_none p (sym is ∙ cond-false (nat_lt 0 c.parent && nat_lt c.parent c.visit) (case_of_visit cases c.parent) None none))
 
 pub parent_is : (cases : List Case) (c p : Case) → parent_of cases c ≡ Some p → (p.visit ≡ c.parent) × (p.visit < c.visit)
 parent_is cases c p is = parent_by cases c p (nat_lt 0 c.parent && nat_lt c.parent c.visit) refl is

@@ -6,8 +6,8 @@ use Rattle.std.proofs.lemmas.Bool.{cond-true, cond-false}
 use Rattle.indexmap.specs.IndexMap.{insert_entry}
 use Rattle.visit_replay.specs.declared.outcome.Outcome.{Outcome}
 use Rattle.visit_replay.specs.declared.outcome.Outcome.TheVariants as outcome
-use Rattle.conflict_desk.specs.Docket.{AreAscending, case_of}
-use Rattle.conflict_desk.specs.Book.{Book, is_decided, is_cancelled, waits, front_of, with_decision, standing_by, standing_in}
+use Rattle.conflict_desk.specs.Docket.{AreAscending, case_of_visit}
+use Rattle.conflict_desk.specs.Book.{Book, is_decided, is_cancelled, waits, front_visit, with_decision, standing_by, standing_in}
 use Rattle.conflict_desk.specs.Desk.{book_of, is_front, refusal_in, decided_in, opened_all, Call, unless_refused, after_call, after_calls}
 use Rattle.conflict_desk.specs.Laws.{StayAsTheyLeft}
 use Rattle.conflict_desk.specs.declared.docket.Case.{Case}
@@ -39,7 +39,7 @@ kept_by (outcome.Conflict requests at kind) false is = cc
 cancelled_or_kept : standing.Cancelled ≡ standing.Kept → ⊥
 cancelled_or_kept is = cc
 
-module _ (book : Book) (goes : Goes book) (front : ℕ) (choice : Choice) (is_front_of : front_of book ≡ Some front) (c : Case) where
+module _ (book : Book) (goes : Goes book) (front : ℕ) (choice : Choice) (is_front_of : front_visit book ≡ Some front) (c : Case) where
   kept_then : (b : Bool) → is_cancelled book c ≡ b → standing_in book c ≡ standing.Kept → standing_in (with_decision front choice book) c ≡ standing.Kept
   kept_then true went stands =
       absurd (cancelled_or_kept (sym (cond-true (is_cancelled book c) standing.Cancelled (standing_by c.outcome (is_decided book.decisions c.visit)) went) ∙ stands))
@@ -64,7 +64,7 @@ module _ (book : Book) (goes : Goes book) (front : ℕ) (choice : Choice) (is_fr
 
 -- how a visit stands in a book, if there is one
 abbrev pub standing_of : ℕ → Option Book → Option Standing
-standing_of visit o = option_and_then (λ book. option_map (standing_in book) (case_of book.cases visit)) o
+standing_of visit o = option_and_then (λ book. option_map (standing_in book) (case_of_visit book.cases visit)) o
 
 -- where it stands so in the one book, it does in the other
 abbrev pub Stays : Standing → ℕ → Option Book → Option Book → Type 0
@@ -72,7 +72,7 @@ Stays s visit before after = standing_of visit before ≡ Some s → standing_of
 
 -- any decision on a front leaves a case as it stands
 abbrev pub StaysOver : Standing → Type 0
-StaysOver s = (book : Book) → Goes book → (front : ℕ) (choice : Choice) → front_of book ≡ Some front → (c : Case) → standing_in book c ≡ s → standing_in (with_decision front choice book) c ≡ s
+StaysOver s = (book : Book) → Goes book → (front : ℕ) (choice : Choice) → front_visit book ≡ Some front → (c : Case) → standing_in book c ≡ s → standing_in (with_decision front choice book) c ≡ s
 
 case_stays : (s : Standing) (book new : Book) (o : Option Case) → ((c : Case) → standing_in book c ≡ s → standing_in new c ≡ s) → option_map (standing_in book) o ≡ Some s → option_map (standing_in new) o ≡ Some s
 case_stays s book new None stays is = absurd (not_none s (sym is))
@@ -102,18 +102,18 @@ module _ (s : Standing) (visit : ℕ) where
 
   module _ (over : StaysOver s) (client : List ℕ) where
     module _ (books : List (List ℕ × Book)) (all : AllByRecursion (λ entry. Goes entry.1) books) (call : Call) where
-      by_test : (book : Book) → book_of call.client books ≡ Some book → (b : Bool) → is_front call.visit (front_of book) ≡ b
-          → Stays s visit (book_of client books) (book_of client (unless_refused (cond b None (Some (NotFront (front_of book)))) (insert_entry bytes_eq books call.client (with_decision call.visit call.choice book)) books))
+      by_test : (book : Book) → book_of call.client books ≡ Some book → (b : Bool) → is_front call.visit (front_visit book) ≡ b
+          → Stays s visit (book_of client books) (book_of client (unless_refused (cond b None (Some (NotFront (front_visit book)))) (insert_entry bytes_eq books call.client (with_decision call.visit call.choice book)) books))
       by_test book is true front =
           let new = with_decision call.visit call.choice book in
           inserted client call.client book new
-          (case_stays s book new (case_of book.cases visit) (over book (of_client call.client book books all is) call.visit call.choice (is_the_front call.visit (front_of book) front)))
+          (case_stays s book new (case_of_visit book.cases visit) (over book (of_client call.client book books all is) call.visit call.choice (is_the_front call.visit (front_visit book) front)))
           books is
       by_test book is false front = λ same. same
 
       by_book : (o : Option Book) → book_of call.client books ≡ o → Stays s visit (book_of client books) (book_of client (unless_refused (refusal_in call.visit o) (decided_in call.client call.visit call.choice books o) books))
       by_book None is = λ same. same
-      by_book (Some book) is = by_test book is (is_front call.visit (front_of book)) refl
+      by_book (Some book) is = by_test book is (is_front call.visit (front_visit book)) refl
 
     calls_stay : (calls : List Call) (books : List (List ℕ × Book)) → AllByRecursion (λ entry. Goes entry.1) books → Stays s visit (book_of client books) (book_of client (after_calls books calls))
     calls_stay [] books all stands = stands

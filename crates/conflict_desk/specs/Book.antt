@@ -5,7 +5,7 @@ use Rattle.std.specs.Option.{option_map_or}
 use Rattle.visit_replay.specs.declared.outcome.Outcome.{Outcome}
 use Rattle.visit_replay.specs.declared.outcome.Outcome.TheVariants as outcome
 use Rattle.visit_replay.specs.declared.requests.Request.{Request}
-use Rattle.conflict_desk.specs.Docket.{case_of, parent_of, is_conflict, requests_in}
+use Rattle.conflict_desk.specs.Docket.{case_of_visit, parent_of, is_conflict, requests_in}
 use Rattle.conflict_desk.specs.declared.docket.Case.{Case}
 use Rattle.conflict_desk.specs.declared.decided.Choice.{Choice}
 use Rattle.conflict_desk.specs.declared.decided.Choice.TheVariants.{Cancel, Keep}
@@ -56,8 +56,8 @@ abbrev pub waits : Book → Case → Bool
 waits book case = is_conflict case.outcome && not (is_decided book.decisions case.visit) && not (is_cancelled book case)
 
 -- the least visit that waits
-abbrev pub front_of : Book → Option ℕ
-front_of book = option_map (λ case. case.visit) (find (waits book) book.cases)
+abbrev pub front_visit : Book → Option ℕ
+front_visit book = option_map (λ case. case.visit) (find (waits book) book.cases)
 
 abbrev pub with_decision : ℕ → Choice → Book → Book
 with_decision visit choice book = record book { decisions = book.decisions ++ record { visit = visit; choice = choice } ∷ [] }
@@ -73,5 +73,5 @@ abbrev pub standing_in : Book → Case → Standing
 standing_in book case = if is_cancelled book case then standing.Cancelled else standing_by case.outcome (is_decided book.decisions case.visit)
 
 -- those of its outcome, and none of a cancelled visit
-abbrev pub requests_of : Book → Case → List Request
-requests_of book case = if is_cancelled book case then [] else requests_in case.outcome
+abbrev pub standing_requests : Book → Case → List Request
+standing_requests book case = if is_cancelled book case then [] else requests_in case.outcome

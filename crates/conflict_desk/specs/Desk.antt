@@ -6,8 +6,8 @@ use Rattle.std.specs.Map.{lookup}
 use Rattle.indexmap.specs.IndexMap.{insert_entry}
 use Rattle.visit_replay.specs.declared.outcome.Outcome.{Outcome}
 use Rattle.visit_replay.specs.declared.requests.Request.{Request}
-use Rattle.conflict_desk.specs.Docket.{AreAscending, case_of}
-use Rattle.conflict_desk.specs.Book.{Book, opened, front_of, with_decision, standing_in, requests_of}
+use Rattle.conflict_desk.specs.Docket.{AreAscending, case_of_visit}
+use Rattle.conflict_desk.specs.Book.{Book, opened, front_visit, with_decision, standing_in, standing_requests}
 use Rattle.conflict_desk.specs.declared.docket.Case.{Case}
 use Rattle.conflict_desk.specs.declared.docket.Docket.{Docket}
 use Rattle.conflict_desk.specs.declared.decided.Choice.{Choice}
@@ -36,10 +36,10 @@ book_of client books = lookup (bytes_eq client) books
 
 -- the client's front; C1 where the client isn't there
 abbrev pub front_on : List ℕ → Books → Result (Option ℕ) DeskFault
-front_on client books = option_map_or (λ book. Ok (front_of book)) (book_of client books) (Err NoClient)
+front_on client books = option_map_or (λ book. Ok (front_visit book)) (book_of client books) (Err NoClient)
 
 abbrev pub by_case : {T : Type 0} → (Book → Case → T) → List ℕ → ℕ → Books → Option T
-by_case f client visit books = option_and_then (λ book. option_map (f book) (case_of book.cases visit)) (book_of client books)
+by_case f client visit books = option_and_then (λ book. option_map (f book) (case_of_visit book.cases visit)) (book_of client books)
 
 abbrev pub standing_on : List ℕ → ℕ → Books → Option Standing
 standing_on client visit books = by_case standing_in client visit books
@@ -48,7 +48,7 @@ abbrev pub outcome_on : List ℕ → ℕ → Books → Option Outcome
 outcome_on client visit books = by_case (λ book case. case.outcome) client visit books
 
 abbrev pub requests_on : List ℕ → ℕ → Books → Option (List Request)
-requests_on client visit books = by_case requests_of client visit books
+requests_on client visit books = by_case standing_requests client visit books
 
 -- ---- what a decision does
 
@@ -59,7 +59,7 @@ is_front visit (Some front) = front == visit
 -- Why that visit can't be decided: its client isn't there (C1), or it isn't its client's front (C2).
 abbrev pub refusal_in : ℕ → Option Book → Option DeskFault
 refusal_in visit None = Some NoClient
-refusal_in visit (Some book) = if is_front visit (front_of book) then None else Some (NotFront (front_of book))
+refusal_in visit (Some book) = if is_front visit (front_visit book) then None else Some (NotFront (front_visit book))
 
 abbrev pub refusal : List ℕ → ℕ → Books → Option DeskFault
 refusal client visit books = refusal_in visit (book_of client books)

@@ -2,8 +2,8 @@
 use Rattle.std.specs.Prelude.{◌≡◌, ℕ, List, map, Bool, true, None, Some, ◌⊎◌}
 use Rattle.std.specs.List.{AllByRecursion}
 use Rattle.std.specs.List.Sorted.{IsStrictlyIncreasing}
-use Rattle.conflict_desk.specs.Docket.{case_of, parent_of, is_conflict}
-use Rattle.conflict_desk.specs.Book.{Book, is_decided, was_cancelled, is_cancelled, front_of}
+use Rattle.conflict_desk.specs.Docket.{case_of_visit, parent_of, is_conflict}
+use Rattle.conflict_desk.specs.Book.{Book, is_decided, was_cancelled, is_cancelled, front_visit}
 use Rattle.conflict_desk.specs.Desk.{Books, standing_on}
 use Rattle.conflict_desk.specs.declared.docket.Case.{Case}
 use Rattle.conflict_desk.specs.declared.decided.Decided.{Decided}
@@ -24,12 +24,12 @@ IsBelowCancelled book case = (visit : ℕ) × IsOnChain book.cases visit case ×
 
 pub record IsConflictOf (cases : List Case) (decided : Decided) : Type 0 where
   pub case : Case
-  pub is_case : case_of cases decided.visit ≡ Some case
+  pub is_case : case_of_visit cases decided.visit ≡ Some case
   pub conflict : is_conflict case.outcome ≡ true
 
 -- no visit above the decided one on its chain of parents was cancelled by a decision, be it an earlier or a later one
 abbrev pub IsSpared : Book → Decided → Type 0
-IsSpared book decided = (case parent : Case) → case_of book.cases decided.visit ≡ Some case → parent_of book.cases case ≡ Some parent → ¬ IsBelowCancelled book parent
+IsSpared book decided = (case parent : Case) → case_of_visit book.cases decided.visit ≡ Some case → parent_of book.cases case ≡ Some parent → ¬ IsBelowCancelled book parent
 
 -- a conflict that left: it was decided, or a visit above it was cancelled
 abbrev pub HasLeft : Book → Case → Type 0
@@ -41,7 +41,7 @@ pub record LeaveInOrder (book : Book) : Type 0 where
   pub ascend : IsStrictlyIncreasing (map (λ decided. decided.visit) book.decisions)
   pub conflicts : AllByRecursion (IsConflictOf book.cases) book.decisions
   pub spared : AllByRecursion (IsSpared book) book.decisions
-  pub all : front_of book ≡ None → AllByRecursion (HasLeft book) book.cases
+  pub all : front_visit book ≡ None → AllByRecursion (HasLeft book) book.cases
 
 abbrev pub AllLeaveInOrder : Books → Type 0
 AllLeaveInOrder books = AllByRecursion (λ entry. LeaveInOrder entry.1) books

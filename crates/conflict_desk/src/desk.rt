@@ -1,10 +1,10 @@
 //! A desk with the dockets of several clients.
 ghost use Rattle.std.specs.Prelude.{ℕ, ◌≡◌, ◌≢◌, ◌<◌, ◌+◌, ◌≤◌, List, length, option_map, Option, Some, None, bytes_eq, ◌↔◌, slice_get, IfOk, IfErr, OnOk};
 ghost use Rattle.indexmap.specs.IndexMap.{values, spare, insert_entry, set_value_at};
-ghost use Rattle.conflict_desk.specs.Book.{Book, front_of, with_decision};
+ghost use Rattle.conflict_desk.specs.Book.{Book, front_visit, with_decision};
 ghost use Rattle.conflict_desk.specs.Desk.{AreDockets, opened_all, book_of, standing_on, outcome_on, requests_on, refusal, front_on, decided_on, Call, after_calls};
 ghost use Rattle.conflict_desk.specs.Laws.{AllLeaveInOrder, StayAsTheyLeft, IsBelowCancelled};
-ghost use Rattle.conflict_desk.specs.Docket.{case_of};
+ghost use Rattle.conflict_desk.specs.Docket.{case_of_visit};
 ghost use Rattle.conflict_desk.specs.declared.docket.Case.{Case as OneCase};
 ghost use Rattle.conflict_desk.specs.declared.decided.Standing.TheVariants.{Cancelled};
 ghost use Rattle.conflict_desk.specs.declared.fault.DeskFault.TheVariants.{NotFront, NoMemory};
@@ -84,7 +84,7 @@ impl Desk {
         ensures standing { result ≡ standing_on client.now visit self.now }
 
         // A visit stands cancelled exactly where it, or a visit on its chain of parents, was cancelled by a decision.
-        ensures chain { (book : Book) (case : OneCase) → book_of client.now self.now ≡ Some book → case_of book.cases visit ≡ Some case → (result ≡ Some Cancelled) ↔ IsBelowCancelled book case }
+        ensures chain { (book : Book) (case : OneCase) → book_of client.now self.now ≡ Some book → case_of_visit book.cases visit ≡ Some case → (result ≡ Some Cancelled) ↔ IsBelowCancelled book case }
     {
         self.dockets.get(client)?.standing(visit)
     }
@@ -129,9 +129,9 @@ fn decide_at(
     choice: Choice,
 ) -> Result<(), DeskFault>
     requires { place < length dockets.old.entries }
-    ensures front { (book : Book) → slice_get (values dockets.old) place ≡ Some book → OnOk result (front_of book ≡ Some visit) }
+    ensures front { (book : Book) → slice_get (values dockets.old) place ≡ Some book → OnOk result (front_visit book ≡ Some visit) }
     ensures decided { (book : Book) → slice_get (values dockets.old) place ≡ Some book → OnOk result (dockets.new.entries ≡ set_value_at dockets.old.entries place (with_decision visit choice book)) }
-    ensures refused { (book : Book) → slice_get (values dockets.old) place ≡ Some book → IfErr result (λ fault. (fault ≡ NotFront (front_of book)) × (front_of book ≢ Some visit) × (dockets.new.entries ≡ dockets.old.entries)) }
+    ensures refused { (book : Book) → slice_get (values dockets.old) place ≡ Some book → IfErr result (λ fault. (fault ≡ NotFront (front_visit book)) × (front_visit book ≢ Some visit) × (dockets.new.entries ≡ dockets.old.entries)) }
 {
     match dockets.get_index_mut(place) {
         Some(docket) => docket.decide(visit, choice),

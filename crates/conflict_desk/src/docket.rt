@@ -1,7 +1,7 @@
 //! Dockets: what became of a client's visits.
 ghost use Rattle.std.specs.Prelude.{◌≡◌, ◌↔◌, true, ◌<◌, ◌++◌, [], ◌∷◌, length, slice_get, option_and_then, bytes_eq, OnOk, OnErr, IfSome};
 ghost use Rattle.std.specs.List.{list_any};
-ghost use Rattle.conflict_desk.specs.Docket.{AreAscending, case_of, parent_of, is_conflict, requests_in};
+ghost use Rattle.conflict_desk.specs.Docket.{AreAscending, case_of_visit, parent_of, is_conflict, requests_in};
 ghost use Rattle.conflict_desk.specs.Desk.{AreDockets};
 
 use page_tree::NoMemory;
@@ -143,7 +143,7 @@ fn are_ascending(cases: &[Case]) -> bool
 // Where the visit of that number stands.
 pub(crate) fn place_of(cases: &[Case], visit: u64) -> Option<usize>
     requires { AreAscending cases.now }
-    ensures place { option_and_then (slice_get cases.now) result ≡ case_of cases.now visit }
+    ensures place { option_and_then (slice_get cases.now) result ≡ case_of_visit cases.now visit }
     ensures within { IfSome result (λ place. place < length cases.now) }
 {
     let place = cases.partition_point(|case| case.visit < visit);

@@ -3,8 +3,8 @@ ghost use Rattle.std.specs.Prelude.{ℕ, ◌≡◌, ◌≢◌, ◌+◌, ◌≤�
 ghost use Rattle.std.specs.Option.{option_map_or};
 ghost use Rattle.std.specs.List.{slice_index_or};
 ghost use Rattle.conflict_desk.specs.declared.links.Link.{Link as Linked};
-ghost use Rattle.conflict_desk.specs.Docket.{AreAscending, case_of};
-ghost use Rattle.conflict_desk.specs.Book.{opened, is_cancel, is_cancelled, front_of, with_decision, standing_by, standing_in, requests_of};
+ghost use Rattle.conflict_desk.specs.Docket.{AreAscending, case_of_visit};
+ghost use Rattle.conflict_desk.specs.Book.{opened, is_cancel, is_cancelled, front_visit, with_decision, standing_by, standing_in, standing_requests};
 ghost use Rattle.conflict_desk.specs.declared.docket.Case.{Case as OneCase};
 ghost use Rattle.conflict_desk.specs.Laws.{LeaveInOrder};
 ghost use Rattle.conflict_desk.specs.declared.fault.DeskFault.TheVariants.{NotFront};
@@ -73,7 +73,7 @@ impl OpenDocket {
 
     /// The least visit that waits.
     pub(crate) fn front(&self) -> Option<u64>
-        ensures { result ≡ front_of self.now }
+        ensures { result ≡ front_visit self.now }
     {
         let cases = self.cases.as_slice();
         if self.next < cases.len() {
@@ -85,9 +85,9 @@ impl OpenDocket {
 
     /// Decides the front. Another visit is refused, with the front.
     pub(crate) fn decide(&mut self, visit: u64, choice: Choice) -> Result<(), DeskFault>
-        ensures front { OnOk result (front_of self.old ≡ Some visit) }
+        ensures front { OnOk result (front_visit self.old ≡ Some visit) }
         ensures decided { OnOk result (self.new ≡ with_decision visit choice self.old) }
-        ensures refused { IfErr result (λ fault. (fault ≡ NotFront (front_of self.old)) × (front_of self.old ≢ Some visit) × (self.new ≡ self.old)) }
+        ensures refused { IfErr result (λ fault. (fault ≡ NotFront (front_visit self.old)) × (front_visit self.old ≢ Some visit) × (self.new ≡ self.old)) }
     {
         let next = self.next;
         if next >= self.cases.as_slice().len() {
@@ -110,7 +110,7 @@ impl OpenDocket {
 
     /// How the visit of that number stands.
     pub(crate) fn standing(&self, visit: u64) -> Option<Standing>
-        ensures { result ≡ option_map (standing_in self.now) (case_of self.now.cases visit) }
+        ensures { result ≡ option_map (standing_in self.now) (case_of_visit self.now.cases visit) }
     {
         let place = place_of(self.cases.as_slice(), visit)?;
         Some(self.standing_at(place))
@@ -118,7 +118,7 @@ impl OpenDocket {
 
     /// The case of the visit of that number.
     pub(crate) fn case(&self, visit: u64) -> Option<&Case>
-        ensures { option_map (λ case. case.now) result ≡ case_of self.now.cases visit }
+        ensures { option_map (λ case. case.now) result ≡ case_of_visit self.now.cases visit }
     {
         let place = place_of(self.cases.as_slice(), visit)?;
         Some(&self.cases.as_slice()[place])
@@ -126,7 +126,7 @@ impl OpenDocket {
 
     /// The requests of the visit of that number: none where it is cancelled.
     pub(crate) fn requests(&self, visit: u64) -> Option<&[Request]>
-        ensures { option_map (λ requests. requests.now) result ≡ option_map (requests_of self.now) (case_of self.now.cases visit) }
+        ensures { option_map (λ requests. requests.now) result ≡ option_map (standing_requests self.now) (case_of_visit self.now.cases visit) }
     {
         let place = place_of(self.cases.as_slice(), visit)?;
         Some(self.requests_at(place))
@@ -156,7 +156,7 @@ impl OpenDocket {
 
     fn requests_at(&self, place: usize) -> &[Request]
         requires { place < length self.now.cases }
-        ensures { (case : OneCase) → slice_get self.now.cases place ≡ Some case → result.now ≡ requests_of self.now case }
+        ensures { (case : OneCase) → slice_get self.now.cases place ≡ Some case → result.now ≡ standing_requests self.now case }
     {
         if self.is_cancelled_at(place) {
             return &[];

@@ -1,6 +1,6 @@
 use Rattle.std.proofs.Common.{◌≡◌, ◌≤◌, ◌<◌, ◌+◌, ◌++◌, ◌∷◌, [], take, drop, length, Some, slice_get, refl, ap, ◌∙◌, sym, subst, length-append, rules, arith}
 use Rattle.std.proofs.Math.ListN.{set}
-use Rattle.conflict_desk.specs.Book.{front_of, is_cancel}
+use Rattle.conflict_desk.specs.Book.{front_visit, is_cancel}
 use Rattle.conflict_desk.proofs.Gets.{same_some, not_none}
 use Rattle.conflict_desk.specs.declared.fault.DeskFault.TheVariants.{NotFront}
 use Rattle.conflict_desk.proofs.Keeping.{front_at, front_none, decide_kept, settled_as}
@@ -10,12 +10,12 @@ use Rattle.conflict_desk.proofs.open_docket.OpenDocket.decide.Goals as goal
 
 pub returns-then-next-as_slice-clause-refused : goal.returns-then-next-as_slice-clause-refused
 returns-then-next-as_slice-clause-refused c =
-    let none = front_none _ _ _ _ c.self.invariant.0 _ c.as_slice.ensures c.if-next-as_slice.true ∙ ap front_of c.self.view_is in
+    let none = front_none _ _ _ _ c.self.invariant.0 _ c.as_slice.ensures c.if-next-as_slice.true ∙ ap front_visit c.self.view_is in
     (ap (λ front. NotFront front) none, (λ same. not_none _ (sym (none ∙ same))), refl)
 
 pub returns-then-front-visit-clause-refused : goal.returns-then-front-visit-clause-refused
 returns-then-front-visit-clause-refused c =
-    let is = front_at _ _ _ _ c.self.invariant.0 _ _ c.as_slice-2.ensures (omega (arith, c.if-next-as_slice.false, ap length c.as_slice.ensures, ap length c.as_slice-2.ensures)) ∙ ap front_of c.self.view_is in
+    let is = front_at _ _ _ _ c.self.invariant.0 _ _ c.as_slice-2.ensures (omega (arith, c.if-next-as_slice.false, ap length c.as_slice.ensures, ap length c.as_slice-2.ensures)) ∙ ap front_visit c.self.view_is in
     (ap (λ front. NotFront front) is, (λ same. c.if-front-visit.true (same_some _ _ (is ∙ same))), refl)
 
 pub invariant_of-self : goal.invariant_of-self
@@ -39,5 +39,5 @@ invariant_of-self c =
 
 pub returns-clause-front : goal.returns-clause-front
 returns-clause-front c =
-    sym (front_at _ _ _ _ c.self.invariant.0 _ _ c.as_slice-2.ensures (omega (arith, c.if-next-as_slice.false, ap length c.as_slice.ensures, ap length c.as_slice-2.ensures)) ∙ ap front_of c.self.view_is)
+    sym (front_at _ _ _ _ c.self.invariant.0 _ _ c.as_slice-2.ensures (omega (arith, c.if-next-as_slice.false, ap length c.as_slice.ensures, ap length c.as_slice-2.ensures)) ∙ ap front_visit c.self.view_is)
     ∙ ap (λ v. Some v) c.if-front-visit.false
