@@ -35,13 +35,14 @@ impl Model for Desk {
 }
 
 impl Desk {
-    /// A desk with these dockets, on which nothing is decided. Each is of a client of its own, and its visits' numbers ascend: `are_dockets` tells.
+    /// A desk with these dockets, on which nothing is decided. No two are of one client, and the visits of each ascend: `are_dockets` tells. C3 where memory is
+    /// refused; the dockets are gone then.
     pub fn open(alloc: Global, dockets: Vec<Docket>) -> Result<Desk, DeskFault>
         requires { AreDockets dockets.items }
         ensures opened { IfOk result (λ desk. desk ≡ opened_all dockets.items) }
         ensures refused { IfErr result (λ fault. fault ≡ NoMemory) }
 
-        // Whatever calls follow, each client's conflicts leave in order, each once.
+        // Whatever calls follow, each client's conflicts are decided in order, none twice, and none below a cancelled visit.
         ensures leave { IfOk result (λ desk. (calls : List Call) → AllLeaveInOrder (after_calls desk calls)) }
 
         // And a visit that stands kept or cancelled after some calls stands so after any more.
@@ -57,7 +58,7 @@ impl Desk {
         Ok(Desk { dockets: open })
     }
 
-    /// The least visit of a client whose conflict waits, if any does.
+    /// The least visit of a client whose conflict waits, if any does. C1 where the client isn't there.
     pub fn front(&self, client: &Client) -> Result<Option<u64>, DeskFault>
         ensures { result ≡ front_on client.now self.now }
     {
@@ -67,7 +68,7 @@ impl Desk {
         }
     }
 
-    /// Decides a client's front. Any other visit is refused, and a refusal changes nothing. It takes no memory.
+    /// Decides a client's front. C1 where the client isn't there, and C2 with the front for any other visit; a refusal changes nothing.
     pub fn decide(&mut self, client: &Client, visit: u64, choice: Choice) -> Result<(), DeskFault>
         ensures ok { OnOk result (refusal client.now visit self.old ≡ None) }
         ensures decided { OnOk result (self.new ≡ decided_on client.now visit choice self.old) }
@@ -89,7 +90,7 @@ impl Desk {
         self.dockets.get(client)?.standing(visit)
     }
 
-    /// What became of a client's visit, as it was opened.
+    /// What became of a client's visit, as it was opened, whatever was decided since.
     pub fn outcome(&self, client: &Client, visit: u64) -> Option<&Outcome>
         ensures { option_map (λ outcome. outcome.now) result ≡ outcome_on client.now visit self.now }
     {

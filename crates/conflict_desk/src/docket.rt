@@ -10,7 +10,7 @@ use std::marker::Model;
 use upload_reader::Client;
 use visit_replay::{Outcome, Request};
 
-/// A visit and what became of it.
+/// A visit and what became of it: the visit's number and its parent's stand in the client's log, and `visit_replay` gives the outcome.
 #[derive(Debug, Drop)]
 pub struct Case {
     pub visit: u64,
@@ -41,7 +41,7 @@ impl Case {
     }
 }
 
-/// Cases, in the order of their visits' numbers. Contracts see them as a list.
+/// Cases of a client's visits. A desk wants them in the order of their numbers. Contracts see them as a list.
 #[derive(Debug, Drop)]
 pub struct Cases {
     items: Vec<Case>,
@@ -57,7 +57,7 @@ impl Model for Cases {
 }
 
 impl Cases {
-    /// No cases. It takes no memory.
+    /// No cases.
     pub fn new(alloc: Global) -> Cases
         ensures { result ≡ [] }
     {

@@ -8,11 +8,11 @@ use std::fmt;
 /// Why a desk refuses. Its text is its code, as `C1`.
 #[derive(Clone, Copy, Debug, PartialEq, Eq)]
 pub enum DeskFault {
-    /// C1: no docket of that client.
+    /// C1: no docket of that client. Of `front` and `decide`.
     NoClient,
-    /// C2: the visit isn't the front, which is that one, if any waits.
+    /// C2: the visit isn't the client's front. With the front, or none where no conflict waits. Of `decide`.
     NotFront(Option<u64>),
-    /// C3: memory was refused.
+    /// C3: memory was refused. Of `open` alone.
     NoMemory,
 }
 
