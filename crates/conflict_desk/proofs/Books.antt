@@ -1,18 +1,17 @@
 -- The books on a desk.
-use Rattle.std.proofs.Common.{◌≡◌, ◌≢◌, ℕ, zero, suc, ◌<◌, List, [], ◌∷◌, ◌++◌, length, map, Bool, true, false, ◌==◌, cond, bytes_eq, position, Option, Some, None, slice_get, ◌⊎◌, inl, inr, ap, sym, refl, subst, ◌∙◌, Result, Ok, Err, append-nil, append_assoc, arith}
+use Rattle.std.proofs.Common.{◌≡◌, ◌≢◌, ℕ, zero, suc, List, [], ◌∷◌, ◌++◌, length, map, Bool, true, false, bytes_eq, position, Option, Some, None, slice_get, ap, sym, refl, ◌∙◌, Result, Ok, Err, append-nil, append_assoc, arith}
 use Rattle.std.specs.Map.{keys_of, values_of, lookup}
 use Rattle.std.specs.List.{AllByRecursion}
-use Rattle.std.proofs.lemmas.Bool.{cond-true, cond-false, ne_eqb, eq-eqb, true≢false}
+use Rattle.std.proofs.lemmas.Bool.{cond-true, cond-false, ne_eqb, eq-eqb}
 use Rattle.std.specs.Result.{IfErr, OnOk}
 use Rattle.std.specs.List.{IsDistinct}
 use Rattle.std.specs.Cmp.Lexicographic.{nat_list_eq_equiv}
-use Rattle.indexmap.specs.IndexMap.{insert_entry, insert_all, set_value_at}
+use Rattle.indexmap.specs.IndexMap.{insert_all, set_value_at}
 use Rattle.indexmap.proofs.MapLemmas.{insert_entry-first, insert_entry-absent, absent_from_lookup, Found-position}
 use Rattle.conflict_desk.specs.Book.{Book, opened, is_decided, is_cancelled, standing_by, standing_in, front_visit, with_decision}
-use Rattle.conflict_desk.specs.Desk.{Books, book_of, is_front, refusal_in, decided_on, decided_in, opened_all}
+use Rattle.conflict_desk.specs.Desk.{book_of, is_front, refusal_in, decided_on, decided_in, opened_all}
 use Rattle.conflict_desk.specs.declared.docket.Docket.{Docket}
 use Rattle.conflict_desk.specs.declared.decided.Choice.{Choice}
-use Rattle.conflict_desk.specs.declared.fault.DeskFault.{DeskFault}
 use Rattle.conflict_desk.specs.declared.fault.DeskFault.TheVariants.{NotFront}
 use Rattle.visit_replay.specs.declared.outcome.Outcome.{Outcome}
 use Rattle.visit_replay.specs.declared.outcome.Outcome.TheVariants as outcome

@@ -1,8 +1,8 @@
 -- Chains of parents, and what goes with a cancelled visit.
-use Rattle.std.proofs.Common.{◌≡◌, ◌≢◌, ℕ, zero, suc, ◌<◌, ◌≤◌, List, [], ◌∷◌, ◌++◌, Bool, true, false, not, ◌||◌, ◌&&◌, ◌==◌, Option, Some, None, ◌⊎◌, inl, inr, ap, sym, refl, ◌∙◌, arith}
+use Rattle.std.proofs.Common.{◌≡◌, ◌≢◌, ℕ, zero, suc, ◌<◌, List, [], ◌∷◌, ◌++◌, Bool, true, false, ◌||◌, ◌&&◌, ◌==◌, Option, Some, None, ◌⊎◌, inl, inr, ap, sym, refl, ◌∙◌, arith}
 use Rattle.std.specs.List.{list_any}
 use Rattle.std.specs.Option.{option_map_or}
-use Rattle.std.proofs.lemmas.Bool.{eq-eqb, eqb-true, ne_eqb, or_parts, or_left, or_right, or_from, and_left, true≢false, false≢true}
+use Rattle.std.proofs.lemmas.Bool.{eq-eqb, ne_eqb, or_parts, or_left, or_right, or_from, and_left, false≢true}
 use Rattle.std.proofs.lemmas.List.Folds.{list_any-append}
 use Rattle.conflict_desk.specs.Docket.{parent_of}
 use Rattle.conflict_desk.specs.Book.{Book, chain, is_cancel, is_decided, was_cancelled, is_cancelled, with_decision}

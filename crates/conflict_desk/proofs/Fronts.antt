@@ -1,16 +1,16 @@
 -- From one front to the next.
-use Rattle.std.proofs.Common.{◌≡◌, ℕ, zero, suc, ◌+◌, ◌<◌, ◌≤◌, List, [], ◌∷◌, ◌++◌, length, get_or, take, drop, Bool, true, false, not, Option, Some, None, slice_get, IfSome, inl, inr, ap, sym, refl, subst, ◌∙◌, append-nil, arith}
+use Rattle.std.proofs.Common.{◌≡◌, ℕ, ◌+◌, ◌<◌, ◌≤◌, List, ◌++◌, length, get_or, take, drop, Bool, true, false, Option, Some, None, slice_get, IfSome, inl, inr, ap, sym, refl, subst, ◌∙◌, append-nil, arith}
 use Rattle.std.proofs.Math.ListN.{set}
 use Rattle.std.specs.Option.{option_map_or}
-use Rattle.std.proofs.lemmas.Bool.{cases_lt, true≢false}
+use Rattle.std.proofs.lemmas.Bool.{cases_lt}
 use Rattle.std.proofs.lemmas.Option.{get_or_from_slice_get}
 use Rattle.std.proofs.lemmas.List.{take_all, drop_all, get_or-set_same, get_or-set_other}
 use Rattle.conflict_desk.specs.Docket.{is_conflict}
-use Rattle.conflict_desk.specs.inside.Links.{Follows, IsLink, AreLinks}
-use Rattle.conflict_desk.specs.inside.Settling.{Tell, AllSaid, IsSettled}
+use Rattle.conflict_desk.specs.inside.Links.{Follows, AreLinks}
+use Rattle.conflict_desk.specs.inside.Settling.{Tell, AllSaid}
 use Rattle.conflict_desk.specs.declared.docket.Case.{Case}
 use Rattle.conflict_desk.specs.declared.links.Link.{Link}
-use Rattle.conflict_desk.proofs.Gets.{same_some, there_is, is_within}
+use Rattle.conflict_desk.proofs.Gets.{there_is}
 
 -- ---- one case more
 

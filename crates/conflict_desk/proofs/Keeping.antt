@@ -1,5 +1,5 @@
 -- What an open docket keeps.
-use Rattle.std.proofs.Common.{◌≡◌, ◌≢◌, ℕ, zero, suc, ◌+◌, ◌<◌, ◌≤◌, List, [], ◌∷◌, ◌++◌, length, get_or, take, drop, Bool, true, false, not, ◌&&◌, Option, Some, None, slice_get, option_map, nat_lt, cond, ◌⊎◌, inl, inr, ap, sym, refl, subst, ◌∙◌, length-append, append-nil, arith}
+use Rattle.std.proofs.Common.{◌≡◌, ℕ, ◌+◌, ◌<◌, ◌≤◌, List, [], ◌∷◌, ◌++◌, length, get_or, Bool, true, false, not, ◌&&◌, Some, None, slice_get, option_map, nat_lt, cond, ◌⊎◌, inl, inr, ap, sym, refl, subst, ◌∙◌, length-append, arith}
 use Rattle.std.proofs.Math.ListN.{set}
 use Rattle.std.specs.Option.{option_map_or}
 use Rattle.std.proofs.lemmas.Bool.{cases_lt, true≢false, and_from, and_left, and_right, and_cases, cond-true, cond-false, ltb-true, ltb-false}
@@ -11,7 +11,7 @@ use Rattle.conflict_desk.specs.Docket.{AreAscending, is_conflict}
 use Rattle.conflict_desk.specs.Book.{Book, opened, is_cancel, is_decided, is_cancelled, waits, front_visit, with_decision, standing_by, standing_in}
 use Rattle.conflict_desk.specs.declared.decided.Standing.TheVariants as standing
 use Rattle.conflict_desk.specs.inside.Links.{Follows, AreLinks}
-use Rattle.conflict_desk.specs.inside.Settling.{Tell, AllSaid, IsSettled}
+use Rattle.conflict_desk.specs.inside.Settling.{Tell, IsSettled}
 use Rattle.conflict_desk.specs.inside.Kept.{cancelled_at, IsKept}
 use Rattle.conflict_desk.specs.declared.docket.Case.{Case}
 use Rattle.conflict_desk.specs.declared.decided.Choice.{Choice}

@@ -1,5 +1,5 @@
 -- Conflicts leave in order, each once.
-use Rattle.std.proofs.Common.{◌≡◌, ◌≢◌, ℕ, zero, suc, ◌+◌, ◌<◌, ◌≤◌, List, [], ◌∷◌, ◌++◌, length, map, get_or, Bool, true, false, not, ◌||◌, ◌==◌, cond, bytes_eq, Option, Some, None, slice_get, option_map, ◌⊎◌, inl, inr, ap, sym, refl, subst, ◌∙◌, length-append, arith}
+use Rattle.std.proofs.Common.{◌≡◌, ℕ, zero, suc, ◌+◌, ◌<◌, List, [], ◌∷◌, ◌++◌, length, map, get_or, Bool, true, false, ◌||◌, cond, bytes_eq, Option, Some, None, slice_get, option_map, ◌⊎◌, inl, inr, ap, sym, refl, subst, ◌∙◌, length-append, arith}
 use Rattle.std.specs.Map.{lookup}
 use Rattle.std.specs.List.{find, AllByRecursion}
 use Rattle.std.specs.Option.{option_map_or}
@@ -8,17 +8,16 @@ use Rattle.std.proofs.lemmas.Bool.{cases_lt, cond-true, cond-false, true≢false
 use Rattle.std.proofs.lemmas.List.{map-append, get_or_append_left}
 use Rattle.std.proofs.Math.Seq.{get_or-append_seam}
 use Rattle.indexmap.specs.IndexMap.{insert_entry}
-use Rattle.conflict_desk.specs.Docket.{AreAscending, case_of_visit, parent_of, is_conflict}
+use Rattle.conflict_desk.specs.Docket.{AreAscending, case_of_visit, parent_of}
 use Rattle.conflict_desk.specs.Book.{Book, opened, is_decided, is_cancelled, waits, front_visit, with_decision}
-use Rattle.conflict_desk.specs.Desk.{Books, opened_all, book_of, is_front, refusal_in, refusal, decided_in, decided_on, Call, unless_refused, after_call, after_calls}
+use Rattle.conflict_desk.specs.Desk.{opened_all, book_of, is_front, refusal_in, decided_in, Call, unless_refused, after_call, after_calls}
 use Rattle.conflict_desk.specs.Laws.{IsConflictOf, IsSpared, HasLeft, LeaveInOrder, AllLeaveInOrder}
 use Rattle.conflict_desk.specs.declared.docket.Case.{Case}
 use Rattle.conflict_desk.specs.declared.docket.Docket.{Docket}
 use Rattle.conflict_desk.specs.declared.decided.Choice.{Choice}
 use Rattle.conflict_desk.specs.declared.decided.Decided.{Decided}
-use Rattle.conflict_desk.specs.declared.fault.DeskFault.{DeskFault}
 use Rattle.conflict_desk.specs.declared.fault.DeskFault.TheVariants.{NotFront}
-use Rattle.conflict_desk.proofs.Gets.{same_some, not_none, is_within, IsFirst, find_passes, find_where, none_passes}
+use Rattle.conflict_desk.proofs.Gets.{same_some, not_none, IsFirst, find_passes, find_where, none_passes}
 use Rattle.conflict_desk.proofs.Places.{in_order, case_at, is_of, parent_is}
 use Rattle.conflict_desk.proofs.Chains.{decided_more, decided_now, cancelled_is, cancelled_before, below_cancelled, cancelled_below}
 use Rattle.conflict_desk.proofs.Keeping.{why, no_wait, no_wait_still, waiting_parts}

@@ -1,6 +1,5 @@
 -- Where a case stands, by its visit's number.
-use Rattle.std.proofs.Common.{◌≡◌, ◌≢◌, ℕ, ◌<◌, ◌≤◌, List, length, map, get_or, Bool, true, false, ◌&&◌, ◌==◌, cond, Option, Some, None, slice_get, option_map, nat_lt, inl, inr, ap, sym, refl, ◌∙◌, arith}
-use Rattle.std.specs.List.{find}
+use Rattle.std.proofs.Common.{◌≡◌, ◌≢◌, ℕ, ◌<◌, List, length, map, get_or, Bool, true, false, ◌&&◌, ◌==◌, Some, None, slice_get, option_map, nat_lt, inl, inr, ap, sym, refl, ◌∙◌, arith}
 use Rattle.std.specs.List.Sorted.{IsPartitionPoint, IsPartitionedBy}
 use Rattle.std.proofs.lemmas.Bool.{cases_lt, cond-true, cond-false, eq-eqb, eqb-true, ne_eqb, and_parts, ltb-true, ltb-false, lt-ltb}
 use Rattle.std.proofs.lemmas.List.Kept.{AllPairs-from_increasing}
@@ -8,7 +7,7 @@ use Rattle.std.proofs.lemmas.List.{length-map}
 use Rattle.std.proofs.lemmas.Option.{slice_get-map, slice_get-get_or, get_or_from_slice_get}
 use Rattle.conflict_desk.specs.Docket.{AreAscending, case_of_visit, parent_of}
 use Rattle.conflict_desk.specs.declared.docket.Case.{Case}
-use Rattle.conflict_desk.proofs.Gets.{same_some, not_none, is_within, find_passes, find_is, find_none, find_where}
+use Rattle.conflict_desk.proofs.Gets.{same_some, not_none, is_within, find_passes, find_is, find_none}
 
 -- numbers ascend with the places
 pub in_order : (cases : List Case) → AreAscending cases → (i j : ℕ) (c d : Case) → slice_get cases i ≡ Some c → slice_get cases j ≡ Some d → i < j → c.visit < d.visit

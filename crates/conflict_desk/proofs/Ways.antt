@@ -1,14 +1,14 @@
 -- Ways up the chains of parents.
-use Rattle.std.proofs.Common.{◌≡◌, ℕ, zero, suc, ◌+◌, ◌<◌, ◌≤◌, List, [], ◌∷◌, ◌++◌, length, get_or, Bool, true, false, ◌||◌, Option, Some, None, slice_get, IfSome, option_and_then, ◌⊎◌, inl, inr, ap, sym, refl, subst, ◌∙◌, arith}
+use Rattle.std.proofs.Common.{◌≡◌, ℕ, zero, suc, ◌<◌, ◌≤◌, List, [], ◌∷◌, ◌++◌, length, get_or, Bool, false, ◌||◌, Option, Some, None, slice_get, IfSome, option_and_then, ◌⊎◌, inl, inr, ap, sym, refl, subst, ◌∙◌, arith}
 use Rattle.std.specs.Option.{option_map_or}
 use Rattle.std.proofs.lemmas.Option.{slice_get-get_or, get_or_from_slice_get}
 use Rattle.conflict_desk.specs.Docket.{AreAscending, parent_of}
-use Rattle.conflict_desk.specs.Book.{Book, is_decided, was_cancelled, is_cancelled}
+use Rattle.conflict_desk.specs.Book.{Book, is_decided, is_cancelled}
 use Rattle.conflict_desk.specs.inside.Links.{Follows, LeadsTo, IsLink, AreLinks, HaveJumps, HaveParents, IsUp}
 use Rattle.conflict_desk.specs.inside.Kept.{cancelled_at}
 use Rattle.conflict_desk.specs.declared.docket.Case.{Case}
 use Rattle.conflict_desk.specs.declared.links.Link.{Link}
-use Rattle.conflict_desk.proofs.Gets.{same_some, not_none, is_within, still_at, at_push, at_end}
+use Rattle.conflict_desk.proofs.Gets.{not_none, still_at, at_push, at_end}
 use Rattle.conflict_desk.proofs.Places.{before_it, parent_is}
 use Rattle.conflict_desk.proofs.Chains.{cancelled_is, undecided_stays}
 

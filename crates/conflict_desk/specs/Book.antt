@@ -5,7 +5,7 @@ use Rattle.std.specs.Option.{option_map_or}
 use Rattle.visit_replay.specs.declared.outcome.Outcome.{Outcome}
 use Rattle.visit_replay.specs.declared.outcome.Outcome.TheVariants as outcome
 use Rattle.visit_replay.specs.declared.requests.Request.{Request}
-use Rattle.conflict_desk.specs.Docket.{case_of_visit, parent_of, is_conflict, requests_in}
+use Rattle.conflict_desk.specs.Docket.{parent_of, is_conflict, requests_in}
 use Rattle.conflict_desk.specs.declared.docket.Case.{Case}
 use Rattle.conflict_desk.specs.declared.decided.Choice.{Choice}
 use Rattle.conflict_desk.specs.declared.decided.Choice.TheVariants.{Cancel, Keep}

@@ -1,9 +1,9 @@
 -- What holds of every book on a desk, whatever calls were made.
-use Rattle.std.specs.Prelude.{◌≡◌, ℕ, List, map, Bool, true, None, Some, ◌⊎◌}
+use Rattle.std.specs.Prelude.{◌≡◌, ℕ, List, map, true, None, Some, ◌⊎◌}
 use Rattle.std.specs.List.{AllByRecursion}
 use Rattle.std.specs.List.Sorted.{IsStrictlyIncreasing}
 use Rattle.conflict_desk.specs.Docket.{case_of_visit, parent_of, is_conflict}
-use Rattle.conflict_desk.specs.Book.{Book, is_decided, was_cancelled, is_cancelled, front_visit}
+use Rattle.conflict_desk.specs.Book.{Book, is_decided, was_cancelled, front_visit}
 use Rattle.conflict_desk.specs.Desk.{Books, standing_on}
 use Rattle.conflict_desk.specs.declared.docket.Case.{Case}
 use Rattle.conflict_desk.specs.declared.decided.Decided.{Decided}

@@ -1,9 +1,8 @@
 -- What holds of the fields of an open docket.
-use Rattle.std.specs.Prelude.{◌≡◌, ℕ, ◌<◌, ◌≤◌, List, length, Bool, true, false, Some, slice_get, vec_capacity, vec_len}
+use Rattle.std.specs.Prelude.{◌≡◌, ℕ, ◌<◌, ◌≤◌, List, length, Bool, true, false, Some, slice_get, vec_capacity}
 use Rattle.std.specs.Option.{option_map_or}
 use Rattle.conflict_desk.specs.Docket.{AreAscending}
 use Rattle.conflict_desk.specs.Book.{Book, is_decided, is_cancelled, waits}
-use Rattle.conflict_desk.specs.Laws.{LeaveInOrder}
 use Rattle.conflict_desk.specs.inside.Links.{AreLinks}
 use Rattle.conflict_desk.specs.inside.Settling.{Tell}
 use Rattle.conflict_desk.specs.declared.docket.Case.{Case}

@@ -1,5 +1,5 @@
 -- What is kept of each case's way up its chain of parents.
-use Rattle.std.specs.Prelude.{◌≡◌, ℕ, ◌<◌, ◌≤◌, List, Bool, false, Option, Some, None, IfSome, slice_get, option_and_then, ◌⊎◌}
+use Rattle.std.specs.Prelude.{◌≡◌, ℕ, ◌<◌, ◌≤◌, List, Bool, false, Some, IfSome, slice_get, option_and_then, ◌⊎◌}
 use Rattle.std.specs.Option.{option_map_or}
 use Rattle.conflict_desk.specs.Docket.{parent_of}
 use Rattle.conflict_desk.specs.declared.docket.Case.{Case}

@@ -1,4 +1,4 @@
-use Rattle.std.proofs.Common.{◌≡◌, ap, sym, ◌∙◌, Some, rules}
+use Rattle.std.proofs.Common.{◌≡◌, ap, sym, ◌∙◌}
 use Rattle.indexmap.specs.IndexMap.{set_value_at}
 use Rattle.conflict_desk.specs.Book.{front_visit}
 use Rattle.conflict_desk.specs.declared.fault.DeskFault.TheVariants.{NotFront}

@@ -1,4 +1,4 @@
-use Rattle.std.proofs.Common.{◌≡◌, false, refl, sym, subst, ◌∙◌, rules}
+use Rattle.std.proofs.Common.{refl, sym, subst, ◌∙◌}
 use Rattle.std.proofs.lemmas.Bool.{true≢false, false≢true}
 use Rattle.conflict_desk.specs.Docket.{AreAscending}
 use Rattle.conflict_desk.proofs.Dockets.{to_the_end, one_on, not_twice}

@@ -1,5 +1,5 @@
-use Rattle.std.proofs.Common.{◌∙◌, rules, arith}
-use Rattle.conflict_desk.proofs.Ways.{step_leads, at_root}
+use Rattle.std.proofs.Common.{◌∙◌, arith}
+use Rattle.conflict_desk.proofs.Ways.{step_leads}
 use Rattle.conflict_desk.proofs.links.is_gone.Goals as goal
 
 pub loop-at-smaller : goal.loop-at-smaller

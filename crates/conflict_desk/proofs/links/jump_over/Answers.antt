@@ -1,4 +1,4 @@
-use Rattle.std.proofs.Common.{◌<◌, length, None, inr, rules, arith}
+use Rattle.std.proofs.Common.{◌<◌, length, inr, rules, arith}
 use Rattle.conflict_desk.proofs.Ways.{jump_leads, leads_on}
 use Rattle.conflict_desk.proofs.links.jump_over.Goals as goal
 

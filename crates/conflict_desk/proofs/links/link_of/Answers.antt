@@ -1,5 +1,4 @@
-use Rattle.std.proofs.Common.{length, sym, refl, rules, arith}
-use Rattle.conflict_desk.proofs.Ways.{root_link, new_link, parent_there}
+use Rattle.conflict_desk.proofs.Ways.{new_link, parent_there}
 use Rattle.conflict_desk.proofs.links.link_of.Goals as goal
 
 pub jump_over-jump-requires-clause-parent : goal.jump_over-jump-requires-clause-parent

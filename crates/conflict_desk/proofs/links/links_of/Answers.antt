@@ -1,4 +1,4 @@
-use Rattle.std.proofs.Common.{length, [], ◌∷◌, ◌++◌, ap, sym, subst, length-append, rules, arith}
+use Rattle.std.proofs.Common.{length, [], ◌∷◌, ◌++◌, ap, sym, subst, length-append, arith}
 use Rattle.conflict_desk.specs.inside.Links.{IsLink, AreLinks}
 use Rattle.conflict_desk.proofs.Ways.{links_push}
 use Rattle.conflict_desk.proofs.links.links_of.Goals as goal

@@ -1,4 +1,4 @@
-use Rattle.std.proofs.Common.{◌<◌, false, length, get_or, IfSome, ap, sym, subst, slice_get, rules, arith}
+use Rattle.std.proofs.Common.{◌<◌, false, length, get_or, IfSome, ap, sym, subst}
 use Rattle.std.specs.Option.{option_map_or}
 use Rattle.std.proofs.lemmas.Option.{slice_get-get_or}
 use Rattle.conflict_desk.proofs.Ways.{parent_of_link}

@@ -1,4 +1,4 @@
-use Rattle.std.proofs.Common.{◌≡◌, ◌≤◌, ◌<◌, ℕ, Bool, true, false, length, Some, slice_get, ap, sym, ◌∙◌, rules, arith}
+use Rattle.std.proofs.Common.{true, false, length, ap, sym, ◌∙◌, arith}
 use Rattle.std.proofs.lemmas.Bool.{false≢true}
 use Rattle.conflict_desk.specs.Docket.{is_conflict}
 use Rattle.conflict_desk.proofs.Gets.{is_within}

@@ -1,4 +1,4 @@
-use Rattle.std.proofs.Common.{◌≡◌, ◌≤◌, ◌-◌, ℕ, Bool, length}
+use Rattle.std.proofs.Common.{◌≤◌, ◌-◌, ℕ, Bool, length}
 use Rattle.conflict_desk.specs.inside.Links.{Follows}
 use Rattle.conflict_desk.specs.inside.Settling.{Tell, AllSaid}
 use Rattle.conflict_desk.proofs.open_docket.settle.Given as goal

@@ -1,4 +1,4 @@
-use Rattle.std.proofs.Common.{ap, sym, subst, ◌∙◌, rules}
+use Rattle.std.proofs.Common.{subst}
 use Rattle.conflict_desk.specs.Desk.{AreDockets}
 use Rattle.conflict_desk.proofs.tests.open.Goals as goal
 

@@ -1,4 +1,4 @@
-use Rattle.std.proofs.Common.{◌≡◌, ap, sym, ◌∙◌, Some, rules}
+use Rattle.std.proofs.Common.{ap, sym, ◌∙◌, Some}
 use Rattle.conflict_desk.specs.Desk.{refusal, refusal_in, decided_on}
 use Rattle.conflict_desk.proofs.Books.{there_at, decided_by, accepted_is, refused_is, ok_more, err_more}
 use Rattle.conflict_desk.proofs.desk.Desk.decide.Goals as goal

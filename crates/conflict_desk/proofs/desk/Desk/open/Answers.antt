@@ -1,4 +1,4 @@
-use Rattle.std.proofs.Common.{◌≡◌, sym, subst, ◌∙◌, rules}
+use Rattle.std.proofs.Common.{sym, subst, ◌∙◌}
 use Rattle.conflict_desk.specs.Desk.{after_calls}
 use Rattle.conflict_desk.specs.Laws.{AllLeaveInOrder, StayAsTheyLeft}
 use Rattle.conflict_desk.proofs.Books.{all_opened}

@@ -1,8 +1,7 @@
-use Rattle.std.proofs.Common.{◌≡◌, Some, option_map, ap, sym, ◌∙◌, rules}
+use Rattle.std.proofs.Common.{◌≡◌, Some, option_map, ap, sym, ◌∙◌}
 use Rattle.conflict_desk.specs.Docket.{case_of_visit}
 use Rattle.conflict_desk.specs.Book.{Book, standing_in}
 use Rattle.conflict_desk.specs.Desk.{book_of}
-use Rattle.conflict_desk.specs.declared.decided.Standing.TheVariants.{Cancelled}
 use Rattle.conflict_desk.proofs.Gets.{same_some}
 use Rattle.conflict_desk.proofs.Books.{stands_below, below_stands}
 use Rattle.conflict_desk.proofs.desk.Desk.standing.Goals as goal

@@ -1,6 +1,6 @@
-use Rattle.std.proofs.Common.{◌≡◌, ◌≤◌, ◌<◌, ◌+◌, ◌++◌, ◌∷◌, [], take, drop, length, Some, slice_get, refl, ap, ◌∙◌, sym, subst, length-append, rules, arith}
+use Rattle.std.proofs.Common.{◌≡◌, ◌≤◌, ◌+◌, length, Some, refl, ap, ◌∙◌, sym, subst, arith}
 use Rattle.std.proofs.Math.ListN.{set}
-use Rattle.conflict_desk.specs.Book.{front_visit, is_cancel}
+use Rattle.conflict_desk.specs.Book.{front_visit}
 use Rattle.conflict_desk.proofs.Gets.{same_some, not_none}
 use Rattle.conflict_desk.specs.declared.fault.DeskFault.TheVariants.{NotFront}
 use Rattle.conflict_desk.proofs.Keeping.{front_at, front_none, decide_kept, settled_as}

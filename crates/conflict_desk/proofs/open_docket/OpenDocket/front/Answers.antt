@@ -1,4 +1,4 @@
-use Rattle.std.proofs.Common.{ap, ◌∙◌, sym, subst, length, rules, arith}
+use Rattle.std.proofs.Common.{ap, ◌∙◌}
 use Rattle.conflict_desk.specs.Book.{front_visit}
 use Rattle.conflict_desk.proofs.Keeping.{front_at, front_none}
 use Rattle.conflict_desk.proofs.open_docket.OpenDocket.front.Goals as goal

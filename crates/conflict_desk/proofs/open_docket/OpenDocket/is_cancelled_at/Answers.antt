@@ -1,4 +1,4 @@
-use Rattle.std.proofs.Common.{◌∙◌, ap, sym, subst, length, slice_get, rules, arith}
+use Rattle.std.proofs.Common.{◌∙◌, ap, sym, subst, slice_get}
 use Rattle.conflict_desk.specs.Book.{is_cancelled}
 use Rattle.conflict_desk.specs.inside.Links.{Follows, HaveParents, HaveJumps}
 use Rattle.conflict_desk.specs.inside.Settling.{Tell}

@@ -1,5 +1,4 @@
-use Rattle.std.proofs.Common.{◌≡◌, ◌≤◌, ◌++◌, take, drop, length, refl, ap, ◌∙◌, sym, subst, rules, arith}
-use Rattle.conflict_desk.specs.Book.{opened}
+use Rattle.std.proofs.Common.{◌≡◌, ◌≤◌, length, ap, ◌∙◌, sym, subst, arith}
 use Rattle.conflict_desk.specs.inside.Links.{AreLinks}
 use Rattle.conflict_desk.specs.inside.Kept.{IsKept}
 use Rattle.conflict_desk.proofs.Fronts.{written_back}
