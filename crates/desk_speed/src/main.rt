@@ -1,10 +1,7 @@
 //! Decides all conflicts of one client's docket. With any word it times that, on dockets of 10,000 and of 100,000 conflicts.
 #![tactic(auto)]
 
-ghost use Rattle.std.specs.Prelude.{◌≡◌, true};
-ghost use Rattle.conflict_desk.specs.Docket.{AreAscending};
-
-use conflict_desk::{Case, Cases, Choice, Desk, Docket, Standing};
+use conflict_desk::{Case, Cases, Choice, Desk, Docket, Standing, are_dockets};
 use std::alloc::Global;
 use std::env;
 use std::process::ExitCode;
@@ -152,13 +149,13 @@ fn desk_of(alloc: Global, count: u64, chain: u64) -> Option<Desk> {
         };
         cases.push(conflict(alloc, visit, parent)).ok()?;
     }
-    if !ascends(cases.as_slice()) {
-        return None;
-    }
     let client = Client::read(alloc, "c1").ok()?;
     let Ok(dockets) = vec![in alloc; Docket { client, cases }] else {
         return None;
     };
+    if !are_dockets(dockets.as_slice()) {
+        return None;
+    }
     Desk::open(alloc, dockets).ok()
 }
 
@@ -172,15 +169,4 @@ fn conflict(alloc: Global, visit: u64, parent: u64) -> Case {
             kind: ConflictKind::NoTarget,
         },
     }
-}
-
-fn ascends(cases: &[Case]) -> bool
-    ensures { result ≡ true → AreAscending cases.now }
-{
-    for k in 1..cases.len() {
-        if cases[k - 1].visit >= cases[k].visit {
-            return false;
-        }
-    }
-    true
 }

@@ -1,5 +1,0 @@
-use Rattle.conflict_desk.proofs.Dockets.{AscendTo}
-use Rattle.desk_speed.proofs.ascends.Given as goal
-
-abbrev pub invariant-loop-k : goal.invariant-loop-k
-invariant-loop-k l = AscendTo l.cases l.k
