@@ -21,7 +21,7 @@ use crate::view::View;
 use crate::waiting::{announced, rest};
 use crossbeam_queue::{Pass, RuledArrayQueue};
 use crossbeam_utils::Backoff;
-use crossbeam_utils::sync::EventCount;
+use crossbeam_utils::sync::{EventCount, Key};
 use std::alloc::Global;
 use std::marker::Model;
 use std::sync::Wait;
@@ -34,8 +34,10 @@ pub struct Lanes<T> {
     closed: AtomicBool,
     // told after each pop, and at the close
     room: EventCount,
-    // told after each push
+    // told after a push that finds the taker at rest
     items: EventCount,
+    // whether the taker is about to sleep, and no push has told it since
+    at_rest: AtomicBool,
 }
 
 impl<T> Model for Lanes<T> {
@@ -71,6 +73,7 @@ impl<T> Lanes<T> {
             closed: AtomicBool::new(false),
             room: EventCount::new(),
             items: EventCount::new(),
+            at_rest: AtomicBool::new(false),
         };
         let (pass, putters) = opened.split(pass, lanes, putters);
         Ok((opened, Taker::over(pass, counts, lanes), putters))
@@ -111,9 +114,18 @@ impl<T> Lanes<T> {
         self.closed.load(Ordering::SeqCst)
     }
 
-    /// What is told of each push.
-    pub(crate) fn pushes(&self) -> &EventCount {
-        &self.items
+    /// The taker announces a sleep before it looks at the queue once more: a push from then on ends the sleep.
+    pub(crate) fn announce_sleep(&self) -> Key<'_> {
+        let sleep = self.items.prepare_wait();
+        self.at_rest.store(true, Ordering::SeqCst);
+        sleep
+    }
+
+    // Of the pushes that find the taker at rest, the first wakes it. It takes its time to wake, and each further call to the system would be in vain.
+    fn wake_taker(&self) {
+        if self.at_rest.load(Ordering::SeqCst) && self.at_rest.swap(false, Ordering::SeqCst) {
+            self.items.notify_one();
+        }
     }
 
     /// One push.
@@ -131,7 +143,7 @@ impl<T> Lanes<T> {
     {
         let pushed = self.queue.push_as::<Sends, R>(rt, pass, item);
         if pushed.is_ok() {
-            self.items.notify_one();
+            self.wake_taker();
         }
         pushed
     }

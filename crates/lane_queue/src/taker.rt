@@ -11,7 +11,7 @@ use crate::item::Item;
 use crate::lanes::Lanes;
 use crate::putter::Putter;
 use crate::view::View;
-use crate::waiting::{announced, rest};
+use crate::waiting::rest;
 use crossbeam_queue::Pass;
 use crossbeam_utils::Backoff;
 use std::marker::Model;
@@ -81,7 +81,11 @@ impl<T> Taker<T> {
     {
         let turns = Backoff::new();
         for _ in rt.forever() {
-            let sleep = announced(&turns, lanes.pushes());
+            let sleep = if turns.is_completed() {
+                Some(lanes.announce_sleep())
+            } else {
+                None
+            };
             match self.try_take(rt, lanes) {
                 TryTake::Item(item) => return Take::Item(item),
                 TryTake::AllEnded => return Take::AllEnded,

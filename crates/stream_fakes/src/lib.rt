@@ -1,4 +1,4 @@
-//! Readers and writers for the tests of the crates above: they cut what they move into pieces, and fail where they are told to. Nothing else uses them.
+//! Readers and writers for tests and benchmarks: they cut what they move into pieces, and fail where they are told to. No code of the server uses them.
 #![tactic(auto)]
 
 use std::alloc::{AllocError, Global};
