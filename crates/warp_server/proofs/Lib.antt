@@ -2,8 +2,6 @@ pub mod SiteSteps
 pub mod SiteLaws
 pub mod OpeningLaws
 pub mod NeededLaws
-pub mod LaneSteps
-pub mod RoundLaws
 pub mod OnlyLaws
 pub mod IntakeLaws
 pub mod RunLaws

@@ -26,15 +26,15 @@ use Rattle.visit_replay.specs.declared.outcome.Outcome.{Outcome}
 use Rattle.visit_replay.specs.declared.outcome.Outcome.TheVariants.{Untouched}
 use Rattle.warp_server.specs.site.Site.{Site as PlainSite, page_of, signals_of}
 use Rattle.warp_server.specs.site.Reading.{Stands, site_patch, site_table, site_quota}
-use Rattle.warp_server.specs.lanes.Lane.{EndsWith}
+use Rattle.upload_lanes.specs.Lane.{EndsWith}
 use Rattle.warp_server.specs.report.Report.{visit_report, report_text}
 use Rattle.warp_server.specs.program.Run.{client_of, visit_of, Opening, OpensBy, lane_behind, lane_place, AreAll, AreFirst, IsReportOf, HasReport, HasShortReport, IsShort, Reads, Writes, WritesPart, WritesNothing, Meets}
 use Rattle.warp_server.specs.inside.Answering.{IsOpened, IsWhole, HasText, IsUnread, IsAnswered, gave_up, status_by, status_of, refused_status}
 use Rattle.warp_server.specs.inside.Reported.{replayed_by, report_of_visit, lane_report, gathered_report}
-use Rattle.warp_server.specs.declared.lanes.gathered.Gathered.{Gathered}
-use Rattle.warp_server.specs.declared.lanes.gathered.LaneResult.{LaneResult}
-use Rattle.warp_server.specs.declared.lanes.gathered.Stop.{Stop}
-use Rattle.warp_server.specs.declared.lanes.gathered.Stop.TheVariants as stops
+use Rattle.upload_lanes.specs.declared.gathered.Gathered.{Gathered}
+use Rattle.upload_lanes.specs.declared.gathered.LaneResult.{LaneResult}
+use Rattle.upload_lanes.specs.declared.gathered.Stop.{Stop}
+use Rattle.upload_lanes.specs.declared.gathered.Stop.TheVariants as stops
 use Rattle.warp_server.specs.declared.program.intake.Refused.{Refused}
 use Rattle.warp_server.specs.declared.program.intake.Refused.TheVariants as refused
 use Rattle.warp_server.specs.declared.program.status.Status.{Status}
@@ -42,7 +42,7 @@ use Rattle.warp_server.specs.declared.program.status.Status.TheVariants.{Done, B
 use Rattle.warp_server.specs.declared.site.Site.{Site}
 use Rattle.warp_server.proofs.NeededLaws.{goes_nowhere, opening, opens_later, lane_needed}
 use Rattle.warp_server.proofs.IntakeLaws.{given_back}
-use Rattle.warp_server.proofs.LaneSteps.{shorter_front}
+use Rattle.upload_lanes.proofs.LaneSteps.{shorter_front}
 
 -- ---- a site that stands for another gives the same outcomes
 

@@ -1,5 +1,4 @@
 pub mod site
-pub mod lanes
 pub mod report
 pub mod program
 pub mod inside

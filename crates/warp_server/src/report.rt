@@ -5,12 +5,12 @@ ghost use Rattle.warp_server.specs.report.Report as plain;
 ghost use Rattle.warp_server.specs.report.Report.{visit_report};
 ghost use Rattle.warp_server.specs.inside.Reported.{report_of_visit, client_report};
 
-use crate::lanes::Stop;
 use crate::repair::Replayed;
 use client_log::ClientLog;
 use page_tree::NoMemory;
 use serde_json::Value;
 use std::alloc::Global;
+use upload_lanes::Stop;
 use upload_reader::{Ending, LaneEnd};
 use visit_replay::{Method, Outcome, Request};
 

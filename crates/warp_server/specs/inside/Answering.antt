@@ -8,14 +8,14 @@ use Rattle.indexmap.specs.IndexMap.{values}
 use Rattle.upload_reader.specs.Upload.{UploadState, Begins}
 use Rattle.upload_reader.specs.declared.ending.Ending.{Ending}
 use Rattle.upload_reader.specs.declared.ending.Ending.TheVariants.{GaveUp}
-use Rattle.warp_server.specs.lanes.Lane.{IsTaken}
-use Rattle.warp_server.specs.lanes.Round.{new_log}
+use Rattle.upload_lanes.specs.Lane.{IsTaken}
+use Rattle.upload_lanes.specs.Round.{new_log}
 use Rattle.warp_server.specs.program.Run.{HasReport, HasShortReport, ReadWhileUndecided, Reads}
 use Rattle.warp_server.specs.inside.Intake.{IsBehindSite, IsRefused}
-use Rattle.warp_server.specs.declared.lanes.gathered.Gathered.{Gathered}
-use Rattle.warp_server.specs.declared.lanes.gathered.LaneResult.{LaneResult}
-use Rattle.warp_server.specs.declared.lanes.gathered.Stop.{Stop}
-use Rattle.warp_server.specs.declared.lanes.gathered.Stop.TheVariants as stops
+use Rattle.upload_lanes.specs.declared.gathered.Gathered.{Gathered}
+use Rattle.upload_lanes.specs.declared.gathered.LaneResult.{LaneResult}
+use Rattle.upload_lanes.specs.declared.gathered.Stop.{Stop}
+use Rattle.upload_lanes.specs.declared.gathered.Stop.TheVariants as stops
 use Rattle.warp_server.specs.declared.program.intake.Refused.{Refused}
 use Rattle.warp_server.specs.declared.program.intake.Refused.TheVariants.{ReadFailed, NoSite, NoHello, NoMemory}
 use Rattle.warp_server.specs.declared.program.status.Status.{Status}
@@ -27,6 +27,10 @@ use Rattle.warp_server.specs.declared.site.Site.{Site}
 abbrev pub gave_up : Option Ending → Bool
 gave_up (Some GaveUp) = true
 gave_up other = false
+
+-- a question that no number of items answers by true
+abbrev pub never : ℕ → Bool → Type 0
+never items answer = answer ≡ false
 
 module _ {R : Type 0} where
   abbrev pub status_of_lanes : List (LaneResult R) → Status

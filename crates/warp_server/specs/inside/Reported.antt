@@ -10,8 +10,8 @@ use Rattle.client_log.specs.declared.visit.Visit.{Visit}
 use Rattle.visit_replay.specs.Outcome.{outcome}
 use Rattle.warp_server.specs.report.Report.{Report, ClientReport, VisitReport, visit_report}
 use Rattle.warp_server.specs.site.Reading.{site_patch, site_table}
-use Rattle.warp_server.specs.declared.lanes.gathered.Gathered.{Gathered}
-use Rattle.warp_server.specs.declared.lanes.gathered.LaneResult.{LaneResult}
+use Rattle.upload_lanes.specs.declared.gathered.Gathered.{Gathered}
+use Rattle.upload_lanes.specs.declared.gathered.LaneResult.{LaneResult}
 use Rattle.warp_server.specs.declared.repair.Replayed.{Replayed}
 use Rattle.warp_server.specs.declared.site.Site.{Site}
 

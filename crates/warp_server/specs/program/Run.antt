@@ -19,8 +19,8 @@ use Rattle.client_log.specs.declared.visit.Visit.{Visit}
 use Rattle.visit_replay.specs.Outcome.{outcome}
 use Rattle.warp_server.specs.site.Site.{Site, IsSiteOf, IsJsonOf, page_of, signals_of}
 use Rattle.warp_server.specs.report.Report.{Report, ClientReport, VisitReport, visit_report, report_text}
-use Rattle.warp_server.specs.declared.lanes.gathered.Stop.{Stop}
-use Rattle.warp_server.specs.declared.lanes.gathered.Stop.TheVariants as stops
+use Rattle.upload_lanes.specs.declared.gathered.Stop.{Stop}
+use Rattle.upload_lanes.specs.declared.gathered.Stop.TheVariants as stops
 use Rattle.warp_server.specs.declared.program.status.Status.{Status}
 use Rattle.warp_server.specs.declared.program.status.Status.TheVariants.{Done, BadSite, BadHello, OutOfMemory, InputOutput}
 

@@ -15,8 +15,8 @@ use Rattle.visit_replay.specs.declared.requests.Method.TheVariants.{Load, Get, P
 use Rattle.visit_replay.specs.declared.requests.Request.{Request}
 use Rattle.visit_replay.specs.declared.outcome.Outcome.{Outcome}
 use Rattle.visit_replay.specs.declared.outcome.Outcome.TheVariants.{Untouched, Done, Conflict}
-use Rattle.warp_server.specs.declared.lanes.gathered.Stop.{Stop}
-use Rattle.warp_server.specs.declared.lanes.gathered.Stop.TheVariants as stop
+use Rattle.upload_lanes.specs.declared.gathered.Stop.{Stop}
+use Rattle.upload_lanes.specs.declared.gathered.Stop.TheVariants as stop
 
 -- ---- what is reported
 

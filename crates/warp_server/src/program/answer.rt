@@ -1,24 +1,31 @@
 //! What uploads give on a site: what is gathered of them, and the report of that.
-ghost use Rattle.std.specs.Prelude.{◌≡◌, ◌++◌, IfOk, OnOk, map, replicate, string_bytes};
+ghost use Rattle.std.specs.Prelude.{ℕ, Bool, false, ◌≡◌, ◌≤◌, ◌^◌, ◌++◌, IfOk, OnOk, map, string_bytes};
 ghost use Rattle.std.specs.List.{AllByRecursion, flat_map};
 ghost use Rattle.indexmap.specs.IndexMap.{values};
 ghost use Rattle.upload_reader.specs.Upload.{IsUntouched};
 ghost use Rattle.warp_server.specs.report.Report as plain;
 ghost use Rattle.warp_server.specs.site.Reading.{site_quota};
-ghost use Rattle.warp_server.specs.lanes.Round.{GathersFirst};
-ghost use Rattle.warp_server.specs.inside.Answering.{status_of, status_of_lanes, gave_up};
+ghost use Rattle.upload_lanes.specs.Threads.{GathersFirst};
+ghost use Rattle.warp_server.specs.inside.Answering.{never, status_of, status_of_lanes, gave_up};
 ghost use Rattle.warp_server.specs.inside.Reported.{gathered_report, lane_report};
 
-use crate::lanes::{GatherFault, Gathered, LaneResult, Stop, gather_first};
 use crate::program::status::Status;
 use crate::repair::repair;
 use crate::report::{add_client, stop_line};
 use crate::site::Site;
 use byte_streams::Source;
+use client_log::Quota;
 use indexmap::IndexMap;
+use lane_queue::Room;
 use page_tree::NoMemory;
 use std::alloc::Global;
+use std::sync::Wait;
+use std::thread::Threads;
+use upload_lanes::{GatherFault, Gathered, LaneResult, Stop, gather};
 use upload_reader::{Client, Ending, Upload};
+
+/// How many messages of a lane wait to be recorded, at the most.
+const ROOM: usize = 64;
 
 /// What was gathered of uploads, and the report of it.
 #[derive(Drop)]
@@ -27,20 +34,40 @@ pub(crate) struct Answered<R: Source> {
     pub(crate) text: Vec<u8>,
 }
 
-/// Takes the next of the first upload so often, until it has ended, replays what is kept on the site, and composes the report.
-pub(crate) fn answer<R: Source + Drop>(
-    alloc: Global,
+/// Takes the uploads to their ends, replays what is kept on the site, and composes the report.
+pub(crate) fn answer<R: Source + Drop + Send, T: AllocGlobal + Threads + Wait + Sync>(
+    rt: &T,
     site: &Site,
     uploads: Vec<Upload<R>>,
-    asked: usize,
 ) -> Result<Answered<R>, GatherFault>
     requires untouched { AllByRecursion IsUntouched uploads.items }
-    ensures gathered { IfOk result (λ answer. GathersFirst uploads.items (site_quota site.now) (replicate asked 0) answer.gathered) }
+    ensures gathered { IfOk result (λ answer. GathersFirst never uploads.items (site_quota site.now) answer.gathered) }
     ensures text { IfOk result (λ answer. answer.text.items ≡ plain.report_text (gathered_report site.now answer.gathered)) }
 {
-    let gathered = gather_first(alloc, uploads, site.quota(), asked)?;
-    let text = compose(alloc, site, &gathered)?;
+    let gathered = take_whole(rt, uploads, site.quota(), &|_items: u64| false)?;
+    let text = compose(rt.alloc(), site, &gathered)?;
     Ok(Answered { gathered, text })
+}
+
+// Takes the uploads to their ends: the question whether to stop is never answered by true.
+fn take_whole<
+    H: Fn(u64) -> bool + Sync,
+    R: Source + Drop + Send,
+    T: AllocGlobal + Threads + Wait + Sync,
+>(rt: &T, uploads: Vec<Upload<R>>, quota: Quota, halt: &H) -> Result<Gathered<R>, GatherFault>
+    requires untouched { AllByRecursion IsUntouched uploads.items }
+    requires callable { (n : ℕ) → n ≤ 2 ^ 61 → H.pre halt.now n }
+    requires never { (n : ℕ) (answer : Bool) → H.post halt.now n answer → answer ≡ false }
+    ensures { IfOk result (GathersFirst never uploads.items quota) }
+{
+    gather(rt, uploads, quota, room(), halt)
+}
+
+fn room() -> Room {
+    let Ok(room) = Room::new(ROOM) else {
+        unreachable!()
+    };
+    room
 }
 
 fn compose<R: Source + Drop>(

@@ -3,7 +3,9 @@ use byte_streams::Fed;
 use std::alloc::{AllocError, Global};
 use std::io::Read;
 use std::process::Abort;
+use std::sync::Wait;
 use std::test::Fail;
+use std::thread::Threads;
 use stream_fakes::{Drip, Refusal, Sips};
 
 const SITE: &str =
@@ -38,7 +40,11 @@ fn joined(alloc: Global, lines: &[&str]) -> Result<String, AllocError> {
 }
 
 // How a run on that input ends, and what it writes.
-fn ran(rt: &(impl Abort + AllocGlobal), input: Drip, sip: usize) -> (Status, Vec<u8>) {
+fn ran(
+    rt: &(impl Abort + AllocGlobal + Threads + Wait + Sync),
+    input: Drip,
+    sip: usize,
+) -> (Status, Vec<u8>) {
     let mut reader = Fed::new(input);
     let mut sips = Sips::new(rt.alloc(), sip, None);
     let status = run(rt, &mut reader, &mut Told::new(&mut sips));
@@ -46,7 +52,7 @@ fn ran(rt: &(impl Abort + AllocGlobal), input: Drip, sip: usize) -> (Status, Vec
 }
 
 fn runs_to(
-    rt: &(impl Abort + AllocGlobal),
+    rt: &(impl Abort + AllocGlobal + Threads + Wait + Sync),
     input: &str,
     piece: usize,
     status: Status,
@@ -63,7 +69,7 @@ fn runs_to(
 
 // What a run on the site and these lines writes behind its status, where the reads give pieces of that length.
 fn said(
-    rt: &(impl Abort + AllocGlobal),
+    rt: &(impl Abort + AllocGlobal + Threads + Wait + Sync),
     site: &str,
     lines: &[&str],
     piece: usize,
@@ -79,7 +85,7 @@ fn said(
 
 // A run on the site and these lines ends and writes so, however the reads cut the input.
 fn says(
-    rt: &(impl Abort + AllocGlobal),
+    rt: &(impl Abort + AllocGlobal + Threads + Wait + Sync),
     site: &str,
     lines: &[&str],
     want: &str,

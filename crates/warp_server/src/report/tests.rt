@@ -1,4 +1,3 @@
-use crate::lanes::Stop;
 use crate::repair::Replayed;
 use crate::report::{add_client, stop_line};
 use client_log::{ClientLog, Quota};
@@ -6,6 +5,7 @@ use page_tree::{NoMemory, Page, PageFault, Text};
 use serde_json::Value;
 use std::alloc::Global;
 use std::test::Fail;
+use upload_lanes::Stop;
 use upload_reader::{Client, Ending, LaneEnd, LaneFault, Message, SessionFault};
 use visit_replay::{ConflictKind, Method, Outcome, Request, Requests};
 use xpath_child::{PathFault, PathFaultKind};

@@ -1,7 +1,8 @@
-use Rattle.std.proofs.Common.{replicate, refl, sym, subst, ap, ◌∙◌}
+use Rattle.std.proofs.Common.{sym, subst, ap, ◌∙◌}
 use Rattle.std.specs.List.{AllByRecursion}
 use Rattle.upload_reader.specs.Upload.{IsUntouched}
-use Rattle.warp_server.specs.lanes.Round.{GathersFirst}
+use Rattle.upload_lanes.specs.Threads.{GathersFirst}
+use Rattle.warp_server.specs.inside.Answering.{never}
 use Rattle.warp_server.specs.site.Reading.{site_quota}
 use Rattle.warp_server.proofs.OnlyLaws.{whole_lane}
 use Rattle.warp_server.proofs.RunLaws.{same_reader, answered}
@@ -14,8 +15,7 @@ pub returns-clause-same : goal.returns-clause-same
 returns-clause-same g c fresh opened =
     let upload = c.args.upload in let site = c.args.site.now in let gathered = c.in-Ok-answer.answer.gathered in
     let whole =
-    whole_lane upload (site_quota site) (replicate c.args.asked 0) c.args.asked gathered refl c.requires.enough
-    (subst (λ uploads. GathersFirst uploads (site_quota site) (replicate c.args.asked 0) gathered) c.in-Ok.ensures c.in-Ok-answer.ensures.gathered) in
+    whole_lane upload (site_quota site) gathered (subst (λ uploads. GathersFirst never uploads (site_quota site) gathered) c.in-Ok.ensures c.in-Ok-answer.ensures.gathered) in
     let back = c.in_ok-reader.ensures whole.client whole.lane whole.is_taken.now whole.only.entries_are whole.is_taken.upload_is in
     back.0 ∙ ap g.R.Source.lender (same_reader g.R.Source.answers g.R.Read.remaining fresh site upload opened gathered whole)
 
@@ -23,8 +23,7 @@ pub returns-clause-answered : goal.returns-clause-answered
 returns-clause-answered g c fresh opened =
     let upload = c.args.upload in let site = c.args.site.now in let gathered = c.in-Ok-answer.answer.gathered in
     let whole =
-    whole_lane upload (site_quota site) (replicate c.args.asked 0) c.args.asked gathered refl c.requires.enough
-    (subst (λ uploads. GathersFirst uploads (site_quota site) (replicate c.args.asked 0) gathered) c.in-Ok.ensures c.in-Ok-answer.ensures.gathered) in
+    whole_lane upload (site_quota site) gathered (subst (λ uploads. GathersFirst never uploads (site_quota site) gathered) c.in-Ok.ensures c.in-Ok-answer.ensures.gathered) in
     let back = c.in_ok-reader.ensures whole.client whole.lane whole.is_taken.now whole.only.entries_are whole.is_taken.upload_is in
     rw c.status_of-status.ensures
     (answered g.R.Source.answers g.R.Read.remaining fresh site upload opened gathered whole c.in-Ok-answer.answer.text.items c.in-Ok-answer.ensures.text c.in_ok-reader.reader back.1 back.2)

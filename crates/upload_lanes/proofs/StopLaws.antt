@@ -1,0 +1,175 @@
+-- What a recorder made of its lanes, once their uploaders have ended.
+use Rattle.std.proofs.Common.{◌≡◌, ℕ, zero, suc, ◌+◌, ◌≤◌, ◌<◌, List, [], ◌∷◌, ◌++◌, length, Bool, true, false, ◌&&◌, is_some, slice_get, Option, Some, None, inl, inr, refl, sym, ap, subst, ◌∙◌, arith, append-nil}
+use Rattle.std.proofs.lemmas.List.{length-append}
+use Rattle.std.proofs.lemmas.List.Sums.{sum_by-cons}
+use Rattle.std.proofs.lemmas.Option.{slice_get_within}
+use Rattle.std.specs.List.{AllByRecursion, sum_by}
+use Rattle.lane_queue.proofs.Lists.{of_append, of_more}
+use Rattle.lane_queue.specs.Items.{of_lane, has_last}
+use Rattle.lane_queue.specs.declared.item.Item.{Item}
+use Rattle.upload_reader.specs.Upload.{UploadState}
+use Rattle.upload_lanes.proofs.GroupLaws.{ends_in, gave_more, lane_count, lane_ended, lane_taken, tells_first}
+use Rattle.upload_lanes.proofs.JoinLaws.{some_at}
+use Rattle.upload_lanes.proofs.RecorderLaws.{total, total_same, lanes_total}
+use Rattle.upload_lanes.specs.Lane.{IsTaken}
+use Rattle.upload_lanes.specs.Round.{have_ended}
+use Rattle.upload_lanes.specs.Threads.{is_ended, items_of, items_taken, refused_by, GaveMore, Stops}
+use Rattle.upload_lanes.specs.inside.Groups.{Tells, IsJoined, AreJoined, IsGroup, with_upload}
+use Rattle.upload_lanes.specs.inside.Sent.{is_last}
+use Rattle.upload_lanes.specs.inside.Recording as Recorder
+use Rattle.upload_lanes.specs.inside.Recording.{IsHalted, IsRecording, IsUnrecorded}
+use Rattle.upload_lanes.specs.declared.gathered.LaneResult.{LaneResult}
+use Rattle.upload_lanes.specs.declared.gathered.Stop.{Stop}
+use Rattle.upload_lanes.specs.declared.gathered.Stop.TheVariants as stops
+use Rattle.upload_lanes.specs.declared.sent.Sent.{Sent}
+use Rattle.upload_lanes.specs.declared.uploader.Uploads.{Uploads}
+
+all_front : {X : Type 0} (P : X → Type 0) (xs ys : List X) → AllByRecursion P (xs ++ ys) → AllByRecursion P xs
+all_front P [] ys all = tt
+all_front P (x ∷ xs) ys all = (all.0, all_front P xs ys all.1)
+
+last_of : {X : Type 0} (P : X → Type 0) (xs : List X) (x : X) → AllByRecursion P (xs ++ x ∷ []) → P x
+last_of P [] x all = all.0
+last_of P (y ∷ xs) x all = last_of P xs x all.1
+
+total_list : {X : Type 0} (f : X → ℕ) (xs : List X) (h : ℕ → ℕ) → ((k : ℕ) (x : X) → slice_get xs k ≡ Some x → h k ≡ f x) → total (length xs) h ≡ sum_by f xs
+total_list f [] h same = refl
+total_list f (x ∷ xs) h same =
+    let first = same 0 x refl in
+    let rest = total_list f xs (λ k. h (suc k)) (λ k y at. same (suc k) y at) in
+    let all = sum_by-cons f x xs in
+    omega (arith, first, rest, all)
+
+module _ {R : Type 0} where
+  -- ---- have all ended
+
+  ended_same : (xs ys : List (List ℕ × LaneResult R)) → length ys ≡ length xs
+      → ((k : ℕ) (x y : List ℕ × LaneResult R) → slice_get xs k ≡ Some x → slice_get ys k ≡ Some y → y.1.end ≡ x.1.end) → have_ended ys ≡ have_ended xs
+  ended_same [] [] size same = refl
+  ended_same [] (y ∷ ys) size same = absurd (omega (arith, size))
+  ended_same (x ∷ xs) [] size same = absurd (omega (arith, size))
+  ended_same (x ∷ xs) (y ∷ ys) size same =
+      ap (λ end. is_some end && have_ended ys) (same 0 x y refl refl)
+      ∙ ap (λ rest. is_some x.1.end && rest) (ended_same xs ys (omega (arith, size)) (λ k a b at at'. same (suc k) a b at at'))
+
+  ended_each : (xs : List (List ℕ × LaneResult R)) → ((k : ℕ) (x : List ℕ × LaneResult R) → slice_get xs k ≡ Some x → is_some x.1.end ≡ true) → have_ended xs ≡ true
+  ended_each [] all = refl
+  ended_each (x ∷ xs) all = ap (λ b. b && have_ended xs) (all 0 x refl) ∙ ended_each xs (λ k y at. all (suc k) y at)
+
+  -- ---- a recorder's lanes
+
+  module _ (allows : ℕ → Bool → Type 0) (firsts lanes joined_lanes : List (List ℕ × LaneResult R)) (promises : List (Uploads R)) (got : List (Item Sent)) (stop : Stop) (items : ℕ)
+      (recording : IsRecording firsts lanes got stop items) (joined : AreJoined promises got lanes joined_lanes) where
+    split : (k : ℕ) → of_lane k got ≡ of_lane k recording.done ++ of_lane k recording.rest
+    split k = ap (of_lane k) recording.got_is ∙ of_append k recording.done recording.rest
+
+    -- the first lane, the recorded one and the joined one at one place
+    pub record At (k : ℕ) (lane : List ℕ × LaneResult R) : Type 0 where
+      pub first : List ℕ × LaneResult R
+      pub first_at : slice_get firsts k ≡ Some first
+      pub recorded : List ℕ × LaneResult R
+      pub recorded_at : slice_get lanes k ≡ Some recorded
+      pub is_joined : IsJoined promises got k recorded lane
+
+    at : (k : ℕ) (lane : List ℕ × LaneResult R) → slice_get joined_lanes k ≡ Some lane → At k lane
+    at k lane lane_at =
+        let within = slice_get_within joined_lanes k lane lane_at in
+        let (recorded, recorded_at) = some_at lanes k (omega (arith, within, joined.count)) in
+        let (first, first_at) = some_at firsts k (omega (arith, within, joined.count, recording.lanes_are.count)) in
+        record { first = first; first_at = first_at; recorded = recorded; recorded_at = recorded_at; is_joined = joined.each k recorded lane recorded_at lane_at }
+
+    module _ (k : ℕ) (lane : List ℕ × LaneResult R) (here : At k lane) where
+      told : Tells here.is_joined.promise.upload.value here.is_joined.upload (of_lane k recording.done)
+      told = tells_first here.is_joined.promise.upload.value here.is_joined.upload (of_lane k got) (of_lane k recording.done) (of_lane k recording.rest) (split k) here.is_joined.told
+
+      same_end : lane.1.end ≡ here.recorded.1.end
+      same_end = ap (λ l. l.1.end) here.is_joined.lane_is
+
+      taken : IsTaken here.first.1.log here.is_joined.promise.upload.value lane.1
+      taken =
+          let was = recording.lanes_are.each k here.first here.recorded here.first_at here.recorded_at in
+          subst (λ l. IsTaken here.first.1.log here.is_joined.promise.upload.value l.1) (sym here.is_joined.lane_is)
+          (lane_taken here.first.1 here.recorded.1 here.is_joined.promise.upload.value here.is_joined.upload (of_lane k recording.done) was.1 told)
+
+      client : lane.0 ≡ here.first.0
+      client = ap (λ l. l.0) here.is_joined.lane_is ∙ (recording.lanes_are.each k here.first here.recorded here.first_at here.recorded_at).0
+
+      count_here : length (of_lane k recording.done) ≡ items_of lane
+      count_here =
+          let was = recording.lanes_are.each k here.first here.recorded here.first_at here.recorded_at in
+          lane_count here.first.1 here.recorded.1 here.is_joined.promise.upload.value here.is_joined.upload (of_lane k recording.done) was.1 told
+          ∙ sym (ap (λ l. l.1.taken + ends_in l.1.end) here.is_joined.lane_is)
+
+      ended_here : has_last (of_lane k recording.done) ≡ true → is_some lane.1.end ≡ true
+      ended_here last =
+          let was = recording.lanes_are.each k here.first here.recorded here.first_at here.recorded_at in
+          ap is_some same_end ∙ lane_ended here.first.1 here.recorded.1 here.is_joined.promise.upload.value here.is_joined.upload (of_lane k recording.done) was.1 told last
+
+    -- as many items as were taken
+    refused_one : (s : Stop) (rest : List (Item Sent)) → IsUnrecorded s rest → length rest ≡ refused_by s
+    refused_one stops.Memory rest (item, is, one) = ap length is
+    refused_one stops.None rest is = ap length is
+    refused_one stops.Asked rest is = ap length is
+
+    all_items : items ≡ items_taken joined_lanes stop
+    all_items =
+        let within = all_front (λ item. item.lane < length firsts) recording.done recording.rest (subst (AllByRecursion (λ item. item.lane < length firsts)) recording.got_is recording.within) in
+        let sums = lanes_total (length firsts) recording.done within in
+        let same : total (length joined_lanes) (λ k. length (of_lane k recording.done)) ≡ sum_by items_of joined_lanes =
+        total_list items_of joined_lanes (λ k. length (of_lane k recording.done)) (λ k lane lane_at. count_here k lane (at k lane lane_at)) in
+        let sizes : total (length joined_lanes) (λ k. length (of_lane k recording.done)) ≡ total (length firsts) (λ k. length (of_lane k recording.done)) =
+        ap (λ n. total n (λ k. length (of_lane k recording.done))) (joined.count ∙ recording.lanes_are.count) in
+        let rest = refused_one stop recording.rest recording.refused in
+        let whole : length got ≡ length recording.done + length recording.rest = ap length recording.got_is ∙ length-append recording.done recording.rest in
+        let done : sum_by items_of joined_lanes ≡ length recording.done = sym same ∙ sizes ∙ sums in
+        recording.count ∙ whole ∙ ap (λ n. n + length recording.rest) (sym done) ∙ ap (λ n. sum_by items_of joined_lanes + n) rest
+
+    -- the item that could not be recorded is a message of one of these lanes
+    unrecorded : (item : Item Sent) → recording.rest ≡ item ∷ [] → is_last item.body ≡ false
+        → (k : ℕ) × (lane : List ℕ × LaneResult R) × (slice_get joined_lanes k ≡ Some lane) × GaveMore lane.1
+    unrecorded item rest one =
+        let k = item.lane in
+        let all = subst (AllByRecursion (λ each. each.lane < length firsts)) (recording.got_is ∙ ap (λ r. recording.done ++ r) rest) recording.within in
+        let within = last_of (λ each. each.lane < length firsts) recording.done item all in
+        let (lane, lane_at) = some_at joined_lanes k (omega (arith, within, joined.count, recording.lanes_are.count)) in
+        let here = at k lane lane_at in
+        let was = recording.lanes_are.each k here.first here.recorded here.first_at here.recorded_at in
+        let upload = here.is_joined.upload in
+        let got_so : of_lane k got ≡ of_lane k recording.done ++ item ∷ [] = ap (of_lane k) (recording.got_is ∙ ap (λ r. recording.done ++ r) rest) ∙ of_more k recording.done item refl in
+        let more = gave_more here.first.1 here.recorded.1 here.is_joined.promise.upload.value upload (of_lane k recording.done) was.1 (told k lane here) upload item one
+        (subst (Tells here.is_joined.promise.upload.value upload) got_so here.is_joined.told) in
+        (k, lane, lane_at, record { upload = upload; upload_is = ap (λ l. l.1.upload) here.is_joined.lane_is; more = subst (λ l. l.1.taken < length upload.given) (sym here.is_joined.lane_is) more })
+
+    same_ends : have_ended joined_lanes ≡ have_ended lanes
+    same_ends = ended_same lanes joined_lanes joined.count (λ k x y x_at y_at. ap (λ l. l.1.end) (joined.each k x y x_at y_at).lane_is)
+
+    all_ended : stop ≡ stops.None → ((k : ℕ) → k < length lanes → has_last (of_lane k got) ≡ true) → have_ended joined_lanes ≡ true
+    all_ended is lasts =
+        let none : recording.rest ≡ [] = subst (λ s. IsUnrecorded s recording.rest) is recording.refused in
+        let whole : recording.done ≡ got = sym (append-nil recording.done) ∙ ap (λ rest. recording.done ++ rest) (sym none) ∙ sym recording.got_is in
+        ended_each joined_lanes (λ k lane lane_at.
+        let within = slice_get_within joined_lanes k lane lane_at in
+        ended_here k lane (at k lane lane_at) (ap (λ all. has_last (of_lane k all)) whole ∙ lasts k (omega (arith, within, joined.count))))
+
+    ended_so : (s : Stop) → stop ≡ s → Recorder.StopsBy lanes got s → have_ended joined_lanes ≡ is_ended s
+    ended_so stops.None is (inl ended) = same_ends ∙ ended
+    ended_so stops.None is (inr lasts) = all_ended is lasts
+    ended_so stops.Asked is open_ = same_ends ∙ open_
+    ended_so stops.Memory is open_ = same_ends ∙ open_
+
+    pub group_is : IsHalted allows stop items → IsGroup allows firsts promises joined_lanes stop
+    group_is halted = record {
+      count = joined.count ∙ recording.lanes_are.count;
+      each = λ k first lane first_at lane_at.
+          let here = at k lane lane_at in
+          let both : Some here.first ≡ Some first = sym here.first_at ∙ first_at in
+          let same : here.first ≡ first = cc in
+          subst (λ f. (promise : Uploads R) × (slice_get promises k ≡ Some promise) × (lane.0 ≡ f.0) × IsTaken f.1.log promise.upload.value lane.1) same
+          (here.is_joined.promise, here.is_joined.promise_at, client k lane here, taken k lane here);
+      stops = record {
+        lesser = subst (λ n. (m : ℕ) → m < n → allows m false) all_items halted.lesser;
+        asked = λ is. subst (λ n. allows n true) all_items (halted.asked is);
+        ended = ended_so stop refl recording.stops;
+        refused = λ is. let (item, rest, one) = subst (λ s. IsUnrecorded s recording.rest) is recording.refused in unrecorded item rest one;
+      };
+    }

@@ -1,0 +1,5 @@
+pub mod Lanes
+pub mod Sent
+pub mod Recording
+pub mod Groups
+pub mod AllGroups

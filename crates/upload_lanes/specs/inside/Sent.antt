@@ -1,0 +1,86 @@
+-- What an uploader puts into its lane, and what stands in a lane's items.
+use Rattle.std.specs.Prelude.{◌≡◌, ℕ, ◌≤◌, List, [], ◌∷◌, ◌++◌, length, map, Bool, true, false, Option, Some, None, IfSome}
+use Rattle.std.specs.List.{AllByRecursion}
+use Rattle.std.specs.Option.{option_to_list}
+use Rattle.crossbeam_queue.specs.Passes.{view}
+use Rattle.lane_queue.specs.Items.{next_item}
+use Rattle.lane_queue.specs.Queue.{Queue, IsOf}
+use Rattle.lane_queue.specs.Rule.{with_put}
+use Rattle.lane_queue.specs.declared.answers.Put.{Put}
+use Rattle.lane_queue.specs.declared.answers.Put.TheVariants.{Done}
+use Rattle.lane_queue.specs.declared.item.Item.{Item}
+use Rattle.lane_queue.specs.declared.view.View.{View}
+use Rattle.upload_reader.specs.Limits.{max_messages}
+use Rattle.upload_reader.specs.Next.{next_of, IfOver}
+use Rattle.upload_reader.specs.Stream.{Costed}
+use Rattle.upload_reader.specs.Upload.{UploadState, GivesFirst, EndsBy}
+use Rattle.upload_reader.specs.declared.ending.Ending.{Ending}
+use Rattle.upload_lanes.specs.Lane.{ReadsBeforeEnd}
+use Rattle.upload_lanes.specs.declared.uploader.Uploaded.{Uploaded}
+use Rattle.upload_lanes.specs.declared.sent.Sent.{Sent}
+use Rattle.upload_lanes.specs.declared.sent.Sent.TheVariants.{One, Last}
+
+-- ---- the items of a lane
+
+-- what is sent of an upload that gave these messages and ended so
+abbrev pub sent : List Costed → Option Ending → List Sent
+sent given ending = map One given ++ map Last (option_to_list ending)
+
+abbrev pub bodies : List (Item Sent) → List Sent
+bodies items = map (λ item. item.body) items
+
+abbrev pub sent_messages : List Sent → List Costed
+sent_messages [] = []
+sent_messages (One message ∷ items) = message ∷ sent_messages items
+sent_messages (Last ending ∷ items) = sent_messages items
+
+-- the last ending among them, or else that one
+abbrev pub ending_behind : Option Ending → List Sent → Option Ending
+ending_behind found [] = found
+ending_behind found (One message ∷ items) = ending_behind found items
+ending_behind found (Last ending ∷ items) = ending_behind (Some ending) items
+
+abbrev pub is_last : Sent → Bool
+is_last (One message) = false
+is_last (Last ending) = true
+
+abbrev pub IsMarked : Item Sent → Type 0
+IsMarked item = item.last ≡ is_last item.body
+
+-- ---- an uploader
+
+-- the body was put as the next item of the lane, or nothing was
+abbrev pub Sends : View Sent → View Sent → Bool → Sent → Bool → Type 0
+Sends v w last body true = w ≡ with_put v (next_item v.lane v.put last body)
+Sends v w last body false = w ≡ v
+
+abbrev pub is_done : Put Sent → Bool
+is_done Done = true
+is_done other = false
+
+module _ {R : Type 0} where
+  -- The upload was read on, each read before its end. What it gave is the front of its stream, and its end is the stream's.
+  pub record IsReadOn (begun now : UploadState R) : Type 0 where
+    pub own : ReadsBeforeEnd begun now
+    pub first : GivesFirst now
+    pub few : length now.given ≤ max_messages
+    pub over : IfSome now.ending (λ ending. IfOver (next_of ending) (EndsBy now))
+
+  -- all that the upload gave was put, and it goes on
+  pub record IsPutting (put : List (Item Sent)) (now : UploadState R) : Type 0 where
+    pub going : now.ending ≡ None
+    pub all : bodies put ≡ map One now.given
+    pub marked : AllByRecursion IsMarked put
+
+  -- what was put is the front of what is sent of the upload
+  pub record IsPut (put : List (Item Sent)) (now : UploadState R) : Type 0 where
+    pub rest : List Sent
+    pub front : sent now.given now.ending ≡ bodies put ++ rest
+    pub marked : AllByRecursion IsMarked put
+
+  -- what an uploader hands back of that lane of the queue
+  pub record IsUploaded (queue : Queue) (lane : ℕ) (begun : UploadState R) (done : Uploaded R) : Type 0 where
+    pub of : IsOf queue done.putter
+    pub lane_is : (view done.putter).lane ≡ lane
+    pub read : IsReadOn begun done.upload
+    pub put : IsPut (view done.putter).put done.upload

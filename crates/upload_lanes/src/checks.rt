@@ -1,0 +1,43 @@
+//! Whether there may be a round of these lanes.
+ghost use Rattle.std.specs.Prelude.{◌≡◌, ◌≢◌, bytes_eq, IfErr, OnOk};
+ghost use Rattle.std.specs.List.{list_any};
+ghost use Rattle.upload_lanes.specs.Round.{IsRound, IsNoRound, has_twice, clients_of};
+ghost use Rattle.upload_lanes.specs.declared.fault.GatherFault.TheVariants.{NoMemory};
+
+use crate::fault::GatherFault;
+use byte_streams::Source;
+use lane_queue::MAX_LANES;
+use upload_reader::{Client, Upload};
+
+pub(crate) fn check_round<R: Source>(uploads: &[Upload<R>]) -> Result<(), GatherFault>
+    ensures ok { OnOk result (IsRound uploads.now) }
+    ensures refused { IfErr result (λ fault. (fault ≢ NoMemory) × IsNoRound uploads.now fault) }
+{
+    if uploads.is_empty() || uploads.len() > MAX_LANES as usize {
+        return Err(GatherFault::BadLanes);
+    }
+    if has_twice(uploads) {
+        return Err(GatherFault::DuplicateClient);
+    }
+    Ok(())
+}
+
+// There are at most `MAX_LANES`.
+fn has_twice<R: Source>(uploads: &[Upload<R>]) -> bool
+    ensures { result ≡ has_twice (clients_of uploads.now) }
+{
+    let mut rest = uploads;
+    while let Some((first, others)) = rest.split_first() {
+        if is_among(first.client(), others) {
+            return true;
+        }
+        rest = others;
+    }
+    false
+}
+
+fn is_among<R: Source>(client: &Client, uploads: &[Upload<R>]) -> bool
+    ensures { result ≡ list_any (λ upload. bytes_eq client.now upload.client) uploads.now }
+{
+    uploads.iter().any(|upload| client == upload.client())
+}

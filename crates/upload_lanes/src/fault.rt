@@ -1,0 +1,49 @@
+ghost use Rattle.std.specs.Prelude.{◌≡◌, Some};
+ghost use Rattle.upload_lanes.specs.declared.fault.GatherFault.TheVariants.{NoMemory};
+ghost use Rattle.upload_lanes.specs.Fault.{gather_fault_code};
+
+use crate::gathered::Gathered;
+use byte_streams::Source;
+use std::alloc::AllocError;
+use std::error::Error;
+use std::fmt;
+
+/// Why there is no round. Its text is its code, as `G1`.
+#[derive(Clone, Copy, Debug, PartialEq, Eq)]
+pub enum GatherFault {
+    /// G1: no lane, or more than `lane_queue::MAX_LANES`.
+    BadLanes,
+    /// G2: two lanes of one client.
+    DuplicateClient,
+    /// G3: memory was refused before the first message was taken.
+    NoMemory,
+}
+
+/// A round that was refused, and what was gathered before it.
+#[derive(Drop)]
+pub struct Again<R: Source> {
+    pub fault: GatherFault,
+    pub earlier: Gathered<R>,
+}
+
+impl fmt::Display for GatherFault {
+    ghost output = { λ fault. Some (gather_fault_code fault) };
+
+    fn fmt<W: fmt::Write>(&self, f: &mut fmt::Formatter<W>) -> fmt::Result {
+        f.write_str(match self {
+            GatherFault::BadLanes => "G1",
+            GatherFault::DuplicateClient => "G2",
+            GatherFault::NoMemory => "G3",
+        })
+    }
+}
+
+impl Error for GatherFault {}
+
+impl From<AllocError> for GatherFault {
+    ghost from_gives = { λ _ e. e ≡ NoMemory };
+
+    fn from(_: AllocError) -> GatherFault {
+        GatherFault::NoMemory
+    }
+}

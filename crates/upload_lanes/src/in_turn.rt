@@ -1,0 +1,94 @@
+//! Lanes on one thread, in turn.
+ghost use Rattle.std.specs.Prelude.{ℕ, ◌≡◌, List, Option, map, IfOk, IfErr, OnOk, OnErr};
+ghost use Rattle.std.specs.List.{AllByRecursion};
+ghost use Rattle.upload_reader.specs.Upload.{UploadState, IsUntouched};
+ghost use Rattle.upload_lanes.specs.Round.{AreTakenInTurn, IsFollowed, Gathers, GathersFirst, IsNoRound, RefusesRound};
+ghost use Rattle.upload_lanes.specs.declared.gathered.LaneResult.{LaneResult};
+ghost use Rattle.upload_lanes.specs.inside.Lanes.{begun_lane, one_more, only, none, HaveFewTaken};
+
+use crate::fault::{Again, GatherFault};
+use crate::gathered::{Gathered, LaneResult, Stop};
+use crate::lane::have_ended;
+use crate::round::{begin_round, put_back, rest_all};
+use byte_streams::Source;
+use client_log::Quota;
+use page_tree::NoMemory;
+use std::alloc::Global;
+use upload_reader::{Client, Upload};
+
+/// Takes messages of 1 to `lane_queue::MAX_LANES` lanes in turn, each of a client of its own: the next of lane 0 for an entry 0, and so on. An entry for a
+/// lane that has an end, or that isn't there, does nothing. A message that can't be recorded for want of memory stops it.
+pub fn gather_in_order<R: Source + Drop>(
+    alloc: Global,
+    uploads: Vec<Upload<R>>,
+    quota: Quota,
+    schedule: &[u32],
+) -> Result<Gathered<R>, GatherFault>
+    requires untouched { AllByRecursion IsUntouched uploads.items }
+    ensures ok { IfOk result (GathersFirst uploads.items quota schedule.now) }
+    ensures refused { IfErr result (IsNoRound uploads.items) }
+{
+    match gather_again_in_order(alloc, Gathered::new(alloc), uploads, quota, schedule) {
+        Ok(gathered) => Ok(gathered),
+        Err(again) => Err(again.fault),
+    }
+}
+
+/// A later round. A client that is known goes on behind its log and the session of that, with its own quota; a new one begins with this quota. Known clients
+/// stand first, in their order. One without a lane keeps its log. Where there is no round, what was gathered before comes back.
+pub fn gather_again_in_order<R: Source + Drop>(
+    alloc: Global,
+    earlier: Gathered<R>,
+    uploads: Vec<Upload<R>>,
+    quota: Quota,
+    schedule: &[u32],
+) -> Result<Gathered<R>, Again<R>>
+    requires untouched { AllByRecursion IsUntouched uploads.items }
+    ensures ok { IfOk result (λ gathered. Gathers earlier uploads.items quota schedule.now gathered) }
+    ensures refused { IfErr result (λ again. RefusesRound earlier uploads.items again.fault again.earlier) }
+{
+    let mut earlier = earlier;
+    match begin_round(alloc, &mut earlier.clients, uploads, quota) {
+        Err(fault) => Err(Again { fault, earlier }),
+        Ok(lanes) => {
+            let mut lanes = lanes;
+            let stop = take_all(lanes.as_mut_slice(), schedule);
+            rest_all(&mut earlier.clients);
+            put_back(&mut earlier.clients, lanes);
+            earlier.stop = stop;
+            Ok(earlier)
+        }
+    }
+}
+
+// Each entry takes the next of its lane.
+fn take_all<R: Source + Drop>(lanes: &mut [(Client, LaneResult<R>)], schedule: &[u32]) -> Stop
+    requires few { HaveFewTaken lanes.old }
+    ensures { (known : List ℕ → Option (LaneResult R)) (quota : ℕ) (uploads : List (UploadState R)) → AllByRecursion IsUntouched uploads → lanes.old ≡ map (begun_lane known quota) uploads → IsFollowed known quota uploads schedule.now lanes.new result }
+{
+    for k in schedule {
+        if take_at(lanes, *k as usize).is_err() {
+            return Stop::Memory;
+        }
+    }
+    if have_ended(lanes) {
+        Stop::None
+    } else {
+        Stop::Asked
+    }
+}
+
+fn take_at<R: Source + Drop>(
+    lanes: &mut [(Client, LaneResult<R>)],
+    k: usize,
+) -> Result<(), NoMemory>
+    requires few { HaveFewTaken lanes.old }
+    ensures few { HaveFewTaken lanes.new }
+    ensures goes { (known : List ℕ → Option (LaneResult R)) (quota : ℕ) (uploads : List (UploadState R)) (asked : ℕ → ℕ) → AreTakenInTurn known quota uploads asked none lanes.old → OnOk result (AreTakenInTurn known quota uploads (one_more k asked) none lanes.new) }
+    ensures refused { (known : List ℕ → Option (LaneResult R)) (quota : ℕ) (uploads : List (UploadState R)) (asked : ℕ → ℕ) → AreTakenInTurn known quota uploads asked none lanes.old → OnErr result (AreTakenInTurn known quota uploads asked (only k) lanes.new) }
+{
+    if k >= lanes.len() {
+        return Ok(());
+    }
+    lanes[k].1.take_next()
+}

@@ -1,0 +1,52 @@
+//! Lanes of a round.
+ghost use Rattle.std.specs.Prelude.{ℕ, ◌≡◌, ◌+◌, OnOk, OnErr};
+ghost use Rattle.upload_reader.specs.Upload.{UploadState};
+ghost use Rattle.client_log.specs.Client.{OfClient};
+ghost use Rattle.upload_lanes.specs.Round.{IsTakenInTurn, have_ended, rested};
+ghost use Rattle.upload_lanes.specs.inside.Lanes.{HasFewTaken};
+
+use crate::gathered::LaneResult;
+use byte_streams::Source;
+use page_tree::NoMemory;
+use upload_reader::{Client, Ending, Next};
+
+pub(crate) fn have_ended<R: Source + Drop>(lanes: &[(Client, LaneResult<R>)]) -> bool
+    ensures { result ≡ have_ended lanes.now }
+{
+    lanes.iter().all(|lane| lane.1.end.is_some())
+}
+
+impl<R: Source + Drop> LaneResult<R> {
+    // Takes the next of the lane, unless that has an end.
+    pub(crate) fn take_next(&mut self) -> Result<(), NoMemory>
+        requires few { HasFewTaken self.old }
+        ensures few { HasFewTaken self.new }
+        ensures goes { (before : OfClient) (begun : UploadState R) (asked : ℕ) → IsTakenInTurn before begun asked 0 self.old → OnOk result (IsTakenInTurn before begun (asked + 1) 0 self.new) }
+        ensures refused { (before : OfClient) (begun : UploadState R) (asked : ℕ) → IsTakenInTurn before begun asked 0 self.old → OnErr result (IsTakenInTurn before begun asked 1 self.new) }
+    {
+        if self.end.is_some() {
+            return Ok(());
+        }
+        let Some(upload) = &mut self.upload else {
+            return Ok(());
+        };
+        match upload.next() {
+            Next::Got(message, cost) => {
+                self.log.record(message, cost)?;
+                self.taken += 1;
+            }
+            Next::Over(end) => self.end = Some(Ending::Over(end)),
+            Next::GaveUp => self.end = Some(Ending::GaveUp),
+        }
+        Ok(())
+    }
+
+    // What a round without this client leaves of its lane.
+    pub(crate) fn rest(&mut self)
+        ensures { self.new ≡ rested self.old }
+    {
+        self.taken = 0;
+        self.end = None;
+        self.upload = None;
+    }
+}

@@ -1,3 +1,0 @@
-pub mod Fault
-pub mod Lane
-pub mod Round
