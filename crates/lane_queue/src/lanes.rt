@@ -18,9 +18,8 @@ use crate::room::Room;
 use crate::rule::{Gets, InLanes, Opens, Reckons, Sends};
 use crate::taker::Taker;
 use crate::view::View;
-use crate::waiting::{announced, rest};
+use crate::waiting::{Turns, announced, rest};
 use crossbeam_queue::{Pass, RuledArrayQueue};
-use crossbeam_utils::Backoff;
 use crossbeam_utils::sync::{EventCount, Key};
 use std::alloc::Global;
 use std::marker::Model;
@@ -176,7 +175,7 @@ impl<T> Lanes<T> {
         ensures answer { MatchResult result (λ _. view pass.new ≡ with_put (view pass.old) item) (λ back. (back ≡ item) × (view pass.new ≡ view pass.old)) }
     {
         let mut item = item;
-        let turns = Backoff::new();
+        let mut turns = Turns::new(0);
         for _ in rt.forever() {
             let sleep = announced(&turns, &self.room);
             if self.is_closed() {
@@ -186,7 +185,7 @@ impl<T> Lanes<T> {
                 Ok(()) => return Ok(()),
                 Err(back) => item = back,
             }
-            rest(rt, &turns, sleep);
+            rest(rt, &mut turns, sleep);
         }
         unreachable!()
     }

@@ -11,11 +11,14 @@ use crate::item::Item;
 use crate::lanes::Lanes;
 use crate::putter::Putter;
 use crate::view::View;
-use crate::waiting::rest;
+use crate::waiting::{Turns, rest};
 use crossbeam_queue::Pass;
-use crossbeam_utils::Backoff;
 use std::marker::Model;
 use std::sync::Wait;
+
+// How often the taker yields the processor before it sleeps, for some 0.1 ms in all: each sleep costs the putter that ends it a good part of that, and the
+// putters are what it waits for.
+const YIELDS: u32 = 128;
 
 /// Takes the items of all lanes, on whatever thread it is. Contracts see its pass, which knows the items that were taken.
 pub struct Taker<T> {
@@ -79,9 +82,9 @@ impl<T> Taker<T> {
         ensures lanes { IsOf lanes.now self.new }
         ensures answer { TakesOne (view self.old) (view self.new) result }
     {
-        let turns = Backoff::new();
+        let mut turns = Turns::new(YIELDS);
         for _ in rt.forever() {
-            let sleep = if turns.is_completed() {
+            let sleep = if turns.are_over() {
                 Some(lanes.announce_sleep())
             } else {
                 None
@@ -91,7 +94,7 @@ impl<T> Taker<T> {
                 TryTake::AllEnded => return Take::AllEnded,
                 TryTake::Empty => {}
             }
-            rest(rt, &turns, sleep);
+            rest(rt, &mut turns, sleep);
         }
         unreachable!()
     }

@@ -1,5 +1,5 @@
-//! Takes lanes on threads, and the same in turn on one. With any word it times both, on 16 uploads of 3 MB and on one of 40 MB, and tells what silent lanes
-//! cost.
+//! Takes lanes by `gather`, and the same in turn on one thread. A word asks for one figure: `16-by-gather` and `16-in-turn` time 16 uploads of 3 MB,
+//! `1-by-gather` and `1-in-turn` one of 40 MB, and `silent` tells what silent lanes cost.
 #![tactic(auto)]
 
 mod silent;
@@ -7,12 +7,13 @@ mod uploads;
 
 use client_log::Quota;
 use lane_queue::Room;
+use silent::print_silent;
 use std::alloc::Global;
 use std::env;
 use std::process::ExitCode;
 use std::sync::Wait;
 use std::thread::Threads;
-use std::time::{Clock, Duration, Instant};
+use std::time::{Clock, CpuClock, Duration, Instant};
 use upload_lanes::{Gathered, gather, gather_in_order};
 use uploads::{Made, Reader, make, schedule_of};
 
@@ -20,17 +21,13 @@ use uploads::{Made, Reader, make, schedule_of};
 const ROOM: usize = 64;
 
 fn main(rt: HostRuntime) -> ExitCode {
-    match env::args(&rt) {
-        Ok(words) if words.len() > 1 => {
-            for _ in 0..3 {
-                print(&rt, 16, 3_000_000);
-            }
-            for _ in 0..3 {
-                print(&rt, 1, 40_000_000);
-            }
-            silent::print_silent(&rt);
-        }
-        _ => print_counts(&rt, 5, 20_000),
+    let Ok(mut words) = env::args(&rt) else {
+        return ExitCode::FAILURE;
+    };
+    let _program = words.next();
+    match words.next() {
+        Some(word) => print_one(&rt, word.as_str()),
+        None => print_counts(&rt, 5, 20_000),
     }
     ExitCode::SUCCESS
 }
@@ -42,21 +39,32 @@ struct Taken {
     time: Duration,
 }
 
-// Any word asks for this.
-fn print<T: AllocGlobal + Threads + Wait + Clock + Print + Sync>(rt: &T, lanes: u32, bytes: usize) {
-    let (Some(in_turn), Some(on_threads)) = (
-        time_in_turn(rt, lanes, bytes),
-        time_on_threads(rt, lanes, bytes),
-    ) else {
-        let _ = println!(rt; "{lanes} uploads of {bytes} bytes: no figure");
+// A run has one figure, so that none finds the memory that another left.
+fn print_one<T: AllocGlobal + Threads + Wait + Clock + CpuClock + Print + Sync>(
+    rt: &T,
+    word: &str,
+) {
+    match word {
+        "16-in-turn" => print_time(rt, word, time_in_turn(rt, 16, 3_000_000)),
+        "16-by-gather" => print_time(rt, word, time_on_threads(rt, 16, 3_000_000)),
+        "1-in-turn" => print_time(rt, word, time_in_turn(rt, 1, 40_000_000)),
+        "1-by-gather" => print_time(rt, word, time_on_threads(rt, 1, 40_000_000)),
+        "silent" => print_silent(rt),
+        _ => {
+            let _ = println!(rt;
+                "{word}: 16-in-turn, 16-by-gather, 1-in-turn, 1-by-gather and silent are known"
+            );
+        }
+    }
+}
+
+fn print_time<T: Print>(rt: &T, word: &str, taken: Option<Taken>) {
+    let Some(Taken { messages, time }) = taken else {
+        let _ = println!(rt; "{word}: no figure");
         return;
     };
-    let messages = in_turn.messages;
-    let alone = millis(in_turn.time);
-    let beside = millis(on_threads.time);
-    let _ = println!(rt;
-        "{lanes} uploads of {bytes} bytes, {messages} messages: in turn {alone} ms, on threads {beside} ms"
-    );
+    let time = millis(time);
+    let _ = println!(rt; "{word}: {messages} messages in {time} ms");
 }
 
 // What the program writes without a word.

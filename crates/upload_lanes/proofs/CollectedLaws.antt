@@ -1,5 +1,5 @@
 -- From the groups of a round to its lanes.
-use Rattle.std.proofs.Common.{◌≡◌, ℕ, zero, suc, ◌≤◌, ◌<◌, List, [], ◌∷◌, length, map, fold, replicate, slice_get, Bool, true, false, nat_lt, Option, Some, None, refl, sym, ap, subst, ◌∙◌, arith}
+use Rattle.std.proofs.Common.{◌≡◌, ℕ, suc, ◌≤◌, ◌<◌, List, [], ◌∷◌, length, map, fold, replicate, slice_get, Bool, true, false, nat_lt, Option, Some, refl, sym, ap, subst, ◌∙◌, arith}
 use Rattle.std.proofs.lemmas.Bool.Decides.{nat_tests}
 use Rattle.std.proofs.lemmas.List.{length-map}
 use Rattle.std.proofs.lemmas.Option.{slice_get_within, slice_get-map}
@@ -10,8 +10,7 @@ use Rattle.round_robin.specs.Dealt.{every}
 use Rattle.upload_reader.specs.Upload.{UploadState}
 use Rattle.upload_lanes.proofs.JoinLaws.{some_at}
 use Rattle.upload_lanes.proofs.RoundLaws.{in_map, pick_false, pick_true}
-use Rattle.upload_lanes.specs.Lane.{IsTaken}
-use Rattle.upload_lanes.specs.Round.{log_before, resumed}
+use Rattle.upload_lanes.specs.Round.{resumed}
 use Rattle.upload_lanes.specs.Threads.{both_stops, recorders_of, stop_of, AreTaken, IsLaneOf, Stops}
 use Rattle.upload_lanes.specs.inside.AllGroups.{AreGroups, IsDealt, IsPartyOf, parted}
 use Rattle.upload_lanes.specs.inside.Groups.{IsGroupOf}

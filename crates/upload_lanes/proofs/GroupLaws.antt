@@ -1,10 +1,9 @@
 -- What a lane's items say of its upload, and of its result.
-use Rattle.std.proofs.Common.{◌≡◌, ℕ, suc, ◌+◌, ◌≤◌, ◌<◌, List, [], ◌∷◌, ◌++◌, length, map, take, Bool, true, false, ◌||◌, is_some, if◌then◌else◌, Option, Some, None, refl, sym, ap, subst, ◌∙◌, arith, append_assoc, true≢false}
+use Rattle.std.proofs.Common.{◌≡◌, ℕ, suc, ◌+◌, ◌≤◌, ◌<◌, List, [], ◌∷◌, ◌++◌, length, take, Bool, true, false, ◌||◌, is_some, if◌then◌else◌, Option, Some, None, refl, sym, ap, subst, ◌∙◌, arith, append_assoc, true≢false}
 use Rattle.std.proofs.lemmas.List.{map-append, length-map}
 use Rattle.std.specs.Prelude.{IfSome}
 use Rattle.std.specs.List.{AllByRecursion}
-use Rattle.lane_queue.proofs.Lists.{of_append}
-use Rattle.lane_queue.specs.Items.{of_lane, has_last}
+use Rattle.lane_queue.specs.Items.{has_last}
 use Rattle.lane_queue.specs.declared.item.Item.{Item}
 use Rattle.upload_reader.specs.Next.{next_of, IfOver}
 use Rattle.upload_reader.specs.Stream.{Costed}

@@ -1,5 +1,5 @@
 -- From a party to what became of it.
-use Rattle.std.proofs.Common.{◌≡◌, ℕ, List, length, map, slice_get, Bool, Option, Some, refl, sym, ap, subst, ◌∙◌, arith}
+use Rattle.std.proofs.Common.{◌≡◌, ℕ, List, length, map, slice_get, Bool, Some, sym, ap, subst, ◌∙◌, arith}
 use Rattle.std.proofs.lemmas.List.{length-map}
 use Rattle.std.proofs.lemmas.Option.{slice_get_within, slice_get-map}
 use Rattle.std.specs.Option.{option_map}
@@ -10,7 +10,6 @@ use Rattle.upload_lanes.specs.Lane.{IsTaken}
 use Rattle.upload_lanes.specs.inside.AllGroups.{ArePlaced, AreGroups}
 use Rattle.upload_lanes.specs.inside.Groups.{AreUploads, IsParty, AreStarted, IsRunning, MayBeJoined, JoinsTo, IsGroup, IsGroupOf, promises_of}
 use Rattle.upload_lanes.specs.inside.Recording.{IsDuty}
-use Rattle.upload_lanes.specs.declared.gathered.LaneResult.{LaneResult}
 use Rattle.upload_lanes.specs.declared.group.Group.{Group}
 use Rattle.upload_lanes.specs.declared.group.Party.{Party}
 use Rattle.upload_lanes.specs.declared.group.Running.{Running}

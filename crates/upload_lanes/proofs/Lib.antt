@@ -15,3 +15,4 @@ pub mod DealtLaws
 pub mod TakenLaws
 pub mod CollectedLaws
 pub mod OneLane
+pub mod AloneLaws

@@ -1,8 +1,7 @@
 -- What parting lanes from their uploads keeps.
-use Rattle.std.proofs.Common.{◌≡◌, ℕ, ◌+◌, ◌≤◌, List, [], ◌∷◌, ◌++◌, length, map, Option, Some, None, refl, sym, ap, subst, ◌∙◌, arith, append_assoc, append-nil}
+use Rattle.std.proofs.Common.{◌≡◌, ℕ, ◌+◌, ◌≤◌, List, [], ◌∷◌, ◌++◌, length, map, Option, Some, refl, sym, ap, subst, ◌∙◌, arith, append_assoc, append-nil}
 use Rattle.std.proofs.lemmas.List.{length-append, map-append}
 use Rattle.std.specs.List.{AllByRecursion}
-use Rattle.lane_queue.proofs.Steps.{all_append}
 use Rattle.upload_reader.specs.Upload.{UploadState, IsUntouched}
 use Rattle.upload_lanes.specs.inside.AllGroups.{IsFresh, parted}
 use Rattle.upload_lanes.specs.declared.gathered.LaneResult.{LaneResult}

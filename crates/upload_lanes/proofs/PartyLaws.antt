@@ -1,5 +1,5 @@
 -- A queue's ends, and the party over them.
-use Rattle.std.proofs.Common.{◌≡◌, ℕ, zero, suc, ◌+◌, ◌≤◌, ◌<◌, List, [], ◌∷◌, length, map, slice_get, get_or, Option, Some, None, refl, sym, ap, subst, ◌∙◌, arith}
+use Rattle.std.proofs.Common.{◌≡◌, ℕ, zero, suc, ◌+◌, ◌<◌, List, length, map, slice_get, Some, refl, sym, ap, subst, ◌∙◌, arith}
 use Rattle.std.proofs.lemmas.List.{length-map}
 use Rattle.std.proofs.lemmas.Option.{slice_get_within, get_or_from_slice_get, slice_get-map}
 use Rattle.std.specs.List.{AllByRecursion, range_with_len}
@@ -10,7 +10,7 @@ use Rattle.lane_queue.specs.Opened.{ArePutters, AreOpened, IsFreshOf, fresh_putt
 use Rattle.lane_queue.specs.Queue.{Queue}
 use Rattle.lane_queue.specs.declared.item.Item.{Item}
 use Rattle.lane_queue.specs.declared.view.View.{View}
-use Rattle.upload_reader.specs.Upload.{UploadState, IsUntouched}
+use Rattle.upload_reader.specs.Upload.{IsUntouched}
 use Rattle.upload_lanes.proofs.RoundLaws.{all_at, in_map}
 use Rattle.upload_lanes.specs.inside.AllGroups.{IsFresh, parted}
 use Rattle.upload_lanes.specs.inside.Groups.{AreEnds, IsParty}

@@ -1,5 +1,5 @@
 -- What following a schedule keeps, lane by lane.
-use Rattle.std.proofs.Common.{◌≡◌, ◌≢◌, ℕ, zero, suc, ◌+◌, ◌≤◌, ◌<◌, List, [], ◌∷◌, ◌++◌, length, map, take, drop, set, get_or, replicate, is_some, Bool, true, false, ◌||◌, ◌&&◌, ◌==◌, if◌then◌else◌, bytes_eq, slice_get, Option, Some, None, inl, inr, ◌⊎◌, refl, sym, ap, subst, ◌∙◌, arith, append-nil, true≢false}
+use Rattle.std.proofs.Common.{◌≡◌, ◌≢◌, ℕ, zero, suc, ◌+◌, ◌≤◌, ◌<◌, List, [], ◌∷◌, ◌++◌, length, map, take, drop, set, get_or, replicate, is_some, Bool, true, false, ◌||◌, ◌&&◌, ◌==◌, if◌then◌else◌, bytes_eq, slice_get, Option, Some, None, inl, inr, ◌⊎◌, refl, sym, ap, subst, ◌∙◌, arith, true≢false}
 use Rattle.std.proofs.lemmas.Bool.Decides.{nat_tests}
 use Rattle.std.proofs.lemmas.List.{length-map, length-set, length-replicate, get_or-replicate, get_or-set_same, get_or-set_other}
 use Rattle.std.proofs.lemmas.List.Sums.{count_by_more_yes, count_by_more_no, sum_by-take-le}
@@ -19,8 +19,6 @@ use Rattle.upload_reader.specs.declared.ending.Ending.{Ending}
 use Rattle.upload_reader.proofs.FrontLaws.{taken_exists, passes_none}
 use Rattle.upload_reader.proofs.LaneLaws.{is_stream}
 use Rattle.client_log.specs.Client.{OfClient}
-use Rattle.client_log.specs.Log.{kept}
-use Rattle.client_log.specs.Session.{session_of}
 use Rattle.upload_lanes.proofs.LaneSteps.{continues_none}
 use Rattle.upload_lanes.specs.Lane.{NotOver}
 use Rattle.upload_lanes.specs.Round.{has_twice, clients_of, log_before, resumed, rested, entries_of, ahead_of, have_ended, IsAsked, IsTakenInTurn, IsLane, AreTakenInTurn}
@@ -179,6 +177,25 @@ few_begun known quota uploads lanes is k lane at now upload_is =
     let (upload, there, same) = in_map (begun_lane known quota) uploads k lane (ap (λ l. slice_get l k) (sym is) ∙ at) in
     let none : lane.1.taken ≡ 0 = ap (λ l. l.1.taken) (sym same) in omega (arith, none)
 
+-- a lane of which nothing was taken
+pub lane_begun : {R : Type 0} (before : OfClient) (upload : UploadState R) → upload.given ≡ [] → IsTakenInTurn before upload 0 0 (record { log = before; taken = 0; end = None; upload = Some upload })
+lane_begun {R = R} before upload fresh =
+    let none_given : length upload.given ≡ 0 = ap length fresh in
+    record {
+      is_taken = record {
+        now = upload;
+        upload_is = refl;
+        own = record { client = refl; lane = refl; start = refl; reads = reads_none (NotOver upload) upload.lines upload.lines refl refl };
+        first = nothing_first upload fresh;
+        few = omega (arith, none_given);
+        some = omega arith;
+        goes_on = continues_none before;
+        ends = tt;
+      };
+      asked_is = refl;
+      ahead_is = omega (arith, none_given);
+    }
+
 module _ {R : Type 0} (known : List ℕ → Option (LaneResult R)) (quota : ℕ) (uploads : List (UploadState R)) where
   -- a lane is asked as often by both counts
   lane_asked : (asked asked' ahead ahead' : ℕ → ℕ) (j : ℕ) (lane : List ℕ × LaneResult R) → asked j ≡ asked' j → ahead j ≡ ahead' j → IsLane known quota uploads asked ahead j lane → IsLane known quota uploads asked' ahead' j lane
@@ -273,24 +290,6 @@ module _ {R : Type 0} (known : List ℕ → Option (LaneResult R)) (quota : ℕ)
   untouched_behind : (upload : UploadState R) (found : Option (LaneResult R)) → IsUntouched upload → (resumed upload found).given ≡ []
   untouched_behind upload None untouched = untouched.given
   untouched_behind upload (Some lane) untouched = untouched.given
-
-  lane_begun : (before : OfClient) (upload : UploadState R) → upload.given ≡ [] → IsTakenInTurn before upload 0 0 (record { log = before; taken = 0; end = None; upload = Some upload })
-  lane_begun before upload fresh =
-      let none_given : length upload.given ≡ 0 = ap length fresh in
-      record {
-        is_taken = record {
-          now = upload;
-          upload_is = refl;
-          own = record { client = refl; lane = refl; start = refl; reads = reads_none (NotOver upload) upload.lines upload.lines refl refl };
-          first = nothing_first upload fresh;
-          few = omega (arith, none_given);
-          some = omega arith;
-          goes_on = continues_none before;
-          ends = tt;
-        };
-        asked_is = refl;
-        ahead_is = omega (arith, none_given);
-      }
 
   pub lanes_begun : (lanes : List (List ℕ × LaneResult R)) → AllByRecursion IsUntouched uploads → lanes ≡ map (begun_lane known quota) uploads → AreTakenInTurn known quota uploads (entries_of []) none lanes
   lanes_begun lanes untouched is = record {

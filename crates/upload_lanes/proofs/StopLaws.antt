@@ -1,5 +1,5 @@
 -- What a recorder made of its lanes, once their uploaders have ended.
-use Rattle.std.proofs.Common.{◌≡◌, ℕ, zero, suc, ◌+◌, ◌≤◌, ◌<◌, List, [], ◌∷◌, ◌++◌, length, Bool, true, false, ◌&&◌, is_some, slice_get, Option, Some, None, inl, inr, refl, sym, ap, subst, ◌∙◌, arith, append-nil}
+use Rattle.std.proofs.Common.{◌≡◌, ℕ, suc, ◌+◌, ◌<◌, List, [], ◌∷◌, ◌++◌, length, Bool, true, false, ◌&&◌, is_some, slice_get, Some, inl, inr, refl, sym, ap, subst, ◌∙◌, arith, append-nil}
 use Rattle.std.proofs.lemmas.List.{length-append}
 use Rattle.std.proofs.lemmas.List.Sums.{sum_by-cons}
 use Rattle.std.proofs.lemmas.Option.{slice_get_within}
@@ -7,14 +7,13 @@ use Rattle.std.specs.List.{AllByRecursion, sum_by}
 use Rattle.lane_queue.proofs.Lists.{of_append, of_more}
 use Rattle.lane_queue.specs.Items.{of_lane, has_last}
 use Rattle.lane_queue.specs.declared.item.Item.{Item}
-use Rattle.upload_reader.specs.Upload.{UploadState}
 use Rattle.upload_lanes.proofs.GroupLaws.{ends_in, gave_more, lane_count, lane_ended, lane_taken, tells_first}
 use Rattle.upload_lanes.proofs.JoinLaws.{some_at}
-use Rattle.upload_lanes.proofs.RecorderLaws.{total, total_same, lanes_total}
+use Rattle.upload_lanes.proofs.RecorderLaws.{total, lanes_total}
 use Rattle.upload_lanes.specs.Lane.{IsTaken}
 use Rattle.upload_lanes.specs.Round.{have_ended}
-use Rattle.upload_lanes.specs.Threads.{is_ended, items_of, items_taken, refused_by, GaveMore, Stops}
-use Rattle.upload_lanes.specs.inside.Groups.{Tells, IsJoined, AreJoined, IsGroup, with_upload}
+use Rattle.upload_lanes.specs.Threads.{is_ended, items_of, items_taken, refused_by, GaveMore}
+use Rattle.upload_lanes.specs.inside.Groups.{Tells, IsJoined, AreJoined, IsGroup}
 use Rattle.upload_lanes.specs.inside.Sent.{is_last}
 use Rattle.upload_lanes.specs.inside.Recording as Recorder
 use Rattle.upload_lanes.specs.inside.Recording.{IsHalted, IsRecording, IsUnrecorded}

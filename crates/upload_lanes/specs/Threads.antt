@@ -41,8 +41,11 @@ stop_of stops = fold both_stops kind.None stops
 
 module _ {R : Type 0} where
   -- what was taken of a lane: its messages, and its end
+  abbrev pub items_in : LaneResult R → ℕ
+  items_in lane = lane.taken + (if is_some lane.end then 1 else 0)
+
   abbrev pub items_of : List ℕ × LaneResult R → ℕ
-  items_of lane = lane.1.taken + (if is_some lane.1.end then 1 else 0)
+  items_of lane = items_in lane.1
 
   abbrev pub items_taken : List (List ℕ × LaneResult R) → Stop → ℕ
   items_taken lanes stop = sum_by items_of lanes + refused_by stop

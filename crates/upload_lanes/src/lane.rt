@@ -1,8 +1,9 @@
 //! Lanes of a round.
-ghost use Rattle.std.specs.Prelude.{ℕ, ◌≡◌, ◌+◌, OnOk, OnErr};
+ghost use Rattle.std.specs.Prelude.{ℕ, ◌≡◌, ◌+◌, true, false, is_some, OnOk, OnErr};
 ghost use Rattle.upload_reader.specs.Upload.{UploadState};
 ghost use Rattle.client_log.specs.Client.{OfClient};
 ghost use Rattle.upload_lanes.specs.Round.{IsTakenInTurn, have_ended, rested};
+ghost use Rattle.upload_lanes.specs.Threads.{items_in};
 ghost use Rattle.upload_lanes.specs.inside.Lanes.{HasFewTaken};
 
 use crate::gathered::LaneResult;
@@ -23,6 +24,8 @@ impl<R: Source + Drop> LaneResult<R> {
         ensures few { HasFewTaken self.new }
         ensures goes { (before : OfClient) (begun : UploadState R) (asked : ℕ) → IsTakenInTurn before begun asked 0 self.old → OnOk result (IsTakenInTurn before begun (asked + 1) 0 self.new) }
         ensures refused { (before : OfClient) (begun : UploadState R) (asked : ℕ) → IsTakenInTurn before begun asked 0 self.old → OnErr result (IsTakenInTurn before begun asked 1 self.new) }
+        ensures count { is_some self.old.upload ≡ true → is_some self.old.end ≡ false → OnOk result (items_in self.new ≡ items_in self.old + 1) }
+        ensures same { OnErr result ((self.new.taken ≡ self.old.taken) × (self.new.end ≡ self.old.end)) }
     {
         if self.end.is_some() {
             return Ok(());

@@ -11,7 +11,8 @@ mod gathered;
 mod lane;
 mod round;
 
-// Lanes in turn.
+// Lanes in turn, and a lane alone.
+mod alone;
 mod in_turn;
 
 // Lanes on threads.
@@ -22,6 +23,7 @@ mod halt;
 mod parties;
 mod recorder;
 mod sent;
+mod starter;
 mod threads;
 mod uploader;
 

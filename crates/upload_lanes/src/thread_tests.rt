@@ -3,6 +3,7 @@ ghost use Rattle.std.specs.List.{AllByRecursion};
 ghost use Rattle.upload_reader.specs.Upload.{IsUntouched};
 
 use crate::tests::{BYE, CLICK, END, LOAD, Reader, THREE_CLICKS, add, tells, upload};
+use crate::threads::gather_again_but;
 use crate::{
     Again, GatherFault, Gathered, LaneResult, Stop, gather, gather_again, gather_again_in_order,
 };
@@ -170,47 +171,37 @@ fn each_lane_has_its_own_end(rt: HostRuntime) -> Result<(), Fail> {
 
 // ---- recorders that are stopped
 
-fn one_goes<T: AllocGlobal + Threads + Wait + Abort + Sync>(
-    rt: &T,
-    items: u64,
-    want: &str,
-) -> Result<(), Fail> {
-    let gathered = take_until(rt, many(rt.alloc(), 1, 3)?, 2, items)?;
-    tells(rt, rt.alloc(), &gathered, want)
+// What becomes of a lane of five messages whose taking is stopped at so many items, and why that stopped.
+const UNTIL: [(u64, &str, &str); 7] = [
+    (0, "taken 0 end None", "Asked"),
+    (1, "taken 1 end None visit 1 events 0 ended false", "Asked"),
+    (3, "taken 3 end None visit 1 events 2 ended false", "Asked"),
+    (5, "taken 5 end None visit 1 events 3 ended true", "Asked"),
+    // The end is an item too, behind which there is no question.
+    (6, WHOLE, "None"),
+    (7, WHOLE, "None"),
+    (NEVER, WHOLE, "None"),
+];
+
+// Each of two lanes has a recorder.
+#[test]
+fn a_recorder_is_stopped_at_that_many_items(rt: HostRuntime) -> Result<(), Fail> {
+    let alloc = rt.alloc();
+    for (items, lane, stop) in UNTIL {
+        let gathered = take_until(&rt, many(alloc, 2, 3)?, 2, items)?;
+        let want = format!(in alloc; "c1 {lane}; c2 {lane}; stop {stop}")?;
+        tells(&rt, alloc, &gathered, want.as_str())?;
+    }
+    Ok(())
 }
 
 #[test]
-fn a_recorder_is_stopped_at_that_many_items(rt: HostRuntime) -> Result<(), Fail> {
-    let table: [(u64, &str); 7] = [
-        (0, "c1 taken 0 end None; stop Asked"),
-        (
-            1,
-            "c1 taken 1 end None visit 1 events 0 ended false; stop Asked",
-        ),
-        (
-            3,
-            "c1 taken 3 end None visit 1 events 2 ended false; stop Asked",
-        ),
-        (
-            5,
-            "c1 taken 5 end None visit 1 events 3 ended true; stop Asked",
-        ),
-        // The end is an item too, behind which there is no question.
-        (
-            6,
-            "c1 taken 5 end Some(Over(Bye)) visit 1 events 3 ended true; stop None",
-        ),
-        (
-            7,
-            "c1 taken 5 end Some(Over(Bye)) visit 1 events 3 ended true; stop None",
-        ),
-        (
-            NEVER,
-            "c1 taken 5 end Some(Over(Bye)) visit 1 events 3 ended true; stop None",
-        ),
-    ];
-    for (items, want) in table {
-        one_goes(&rt, items, want)?;
+fn one_lane_is_taken_until_the_question(rt: HostRuntime) -> Result<(), Fail> {
+    let alloc = rt.alloc();
+    for (items, lane, stop) in UNTIL {
+        let gathered = take_until(&rt, many(alloc, 1, 3)?, 2, items)?;
+        let want = format!(in alloc; "c1 {lane}; stop {stop}")?;
+        tells(&rt, alloc, &gathered, want.as_str())?;
     }
     Ok(())
 }
@@ -372,6 +363,56 @@ fn a_refused_round_gives_back_what_was_gathered(rt: HostRuntime) -> Result<(), F
         &earlier,
         "c1 taken 3 end None visit 1 events 2 ended false; stop Asked",
     )
+}
+
+// Two lanes, with two uploaders and two recorders: the start of one of these threads is refused.
+fn again_but<T: AllocGlobal + Threads + Wait + Sync>(
+    rt: &T,
+    refused: Option<u32>,
+) -> Result<Result<Gathered<Reader>, Again<Reader>>, Fail> {
+    let alloc = rt.alloc();
+    let halt = |_taken: u64| -> bool { false };
+    let quota = Quota::new(1_048_576)?;
+    let mut uploads = alone(alloc, "c1", &[CLICK, END, BYE])?;
+    add(&mut uploads, upload(alloc, "c2", &THREE_CLICKS)?)?;
+    Ok(gather_again_but(
+        rt,
+        after_three(rt)?,
+        uploads,
+        quota,
+        Room::new(2)?,
+        &halt,
+        refused,
+    ))
+}
+
+#[test]
+fn a_thread_that_cannot_start_gives_back_what_was_gathered(rt: HostRuntime) -> Result<(), Fail> {
+    let alloc = rt.alloc();
+    for refused in 0..4 {
+        let Err(Again { fault, earlier }) = again_but(&rt, Some(refused))? else {
+            return Err(Fail::from("a round went on without one of its threads"));
+        };
+        assert_eq!(rt; fault, GatherFault::NoMemory);
+        tells(
+            &rt,
+            alloc,
+            &earlier,
+            "c1 taken 3 end None visit 1 events 2 ended false; stop Asked",
+        )?;
+    }
+    Ok(())
+}
+
+// There is no fifth thread.
+#[test]
+fn all_threads_that_start_take_the_round(rt: HostRuntime) -> Result<(), Fail> {
+    let Ok(gathered) = again_but(&rt, Some(4))? else {
+        return Err(Fail::from("a round of four threads was refused"));
+    };
+    let want =
+        "c1 taken 2 end Some(Over(Bye)) visit 1 events 3 ended true; c2 taken 5 end Some(Over(Bye)) visit 1 events 3 ended true; stop None";
+    tells(&rt, rt.alloc(), &gathered, want)
 }
 
 // ---- threads that meet

@@ -1,8 +1,8 @@
-use Rattle.std.proofs.Common.{◌≡◌, ◌∷◌, ◌++◌, [], ap, arith, length, map, refl, set, slice_get, subst, ◌∙◌}
+use Rattle.std.proofs.Common.{◌≡◌, ◌∷◌, [], ap, arith, length, map, refl, set, slice_get, subst, ◌∙◌}
 use Rattle.std.proofs.lemmas.List.{length-map, map-append}
 use Rattle.crossbeam_queue.specs.Passes.{view}
 use Rattle.lane_queue.specs.Items.{of_lane}
-use Rattle.upload_lanes.proofs.JoinLaws.{joins_all, joins_none, joins_one, last_within, promise_at}
+use Rattle.upload_lanes.proofs.JoinLaws.{joins_all, joins_none, joins_one, promise_at}
 use Rattle.upload_lanes.specs.inside.Groups.{Tells, with_upload}
 use Rattle.upload_lanes.proofs.group.join_uploads.Goals as goal
 

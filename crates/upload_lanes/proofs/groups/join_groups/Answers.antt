@@ -2,7 +2,7 @@ use Rattle.std.proofs.Common.{◌≡◌, ◌++◌, ◌∷◌, [], Some, ap, arit
 use Rattle.std.proofs.lemmas.Option.{slice_get-get_or}
 use Rattle.std.specs.Vec.{vec_capacity}
 use Rattle.upload_lanes.proofs.PlaceLaws.{IsMaking, makes_none, makes_one, next_at, next_within}
-use Rattle.upload_lanes.specs.inside.Groups.{MayBeJoined, JoinsTo}
+use Rattle.upload_lanes.specs.inside.Groups.{JoinsTo}
 use Rattle.upload_lanes.proofs.groups.join_groups.Goals as goal
 
 pub loop-one-init : goal.loop-one-init

@@ -1,7 +1,7 @@
-use Rattle.std.proofs.Common.{◌≡◌, ◌<◌, ◌≤◌, Some, ap, arith, length, slice_get, subst, sym, ◌∙◌}
+use Rattle.std.proofs.Common.{◌≡◌, ap, arith, length, slice_get, subst, sym, ◌∙◌}
 use Rattle.std.proofs.lemmas.Option.{slice_get_within}
 use Rattle.std.specs.Vec.{vec_capacity}
-use Rattle.upload_lanes.proofs.DealtLaws.{IsDealing, deals_none, deals_one, dealt_all, fits_both, grown_dealing, hand_at, hand_fresh, hand_lanes, hand_within, parties_all, placed_all, same_dealing}
+use Rattle.upload_lanes.proofs.DealtLaws.{deals_none, deals_one, dealt_all, fits_both, grown_dealing, hand_at, hand_fresh, hand_lanes, hand_within, parties_all, placed_all, same_dealing}
 use Rattle.upload_lanes.proofs.JoinLaws.{some_at}
 use Rattle.upload_lanes.specs.inside.AllGroups.{IsDealt}
 use Rattle.upload_lanes.proofs.parties.make_parties.Goals as goal

@@ -1,4 +1,4 @@
-use Rattle.std.proofs.Common.{◌≡◌, ◌≤◌, ◌++◌, ◌∷◌, [], Some, ap, arith, is_some, length, map, subst, sym, ◌∙◌}
+use Rattle.std.proofs.Common.{◌≡◌, ◌≤◌, [], ap, arith, is_some, length, subst, sym}
 use Rattle.std.specs.Vec.{vec_capacity}
 use Rattle.upload_lanes.proofs.PartsLaws.{IsParting, next_fresh, parts_none, parts_one, parted_all, same_parting, ups_all}
 use Rattle.upload_lanes.proofs.parties.part.Goals as goal

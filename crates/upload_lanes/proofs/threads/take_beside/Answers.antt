@@ -1,4 +1,4 @@
-use Rattle.std.proofs.Common.{◌≡◌, ◌<◌, ℕ, ap, arith, length, map, replicate, sym, subst, ◌∙◌}
+use Rattle.std.proofs.Common.{◌≡◌, ℕ, ap, arith, length, replicate, sym, subst, ◌∙◌}
 use Rattle.std.proofs.lemmas.List.{length-map}
 use Rattle.std.proofs.lemmas.Option.{slice_get_within}
 use Rattle.round_robin.specs.Dealt.{every}
@@ -8,7 +8,7 @@ use Rattle.upload_lanes.proofs.TakenLaws.{party_of}
 use Rattle.upload_lanes.specs.Threads.{AreTaken, recorders_of}
 use Rattle.upload_lanes.specs.inside.AllGroups.{IsPartyOf}
 use Rattle.upload_lanes.specs.inside.Lanes.{begun_lane}
-use Rattle.upload_lanes.proofs.threads.take_lanes.Goals as goal
+use Rattle.upload_lanes.proofs.threads.take_beside.Goals as goal
 
 pub collect_groups-requires-clause-shares : goal.collect_groups-requires-clause-shares
 collect_groups-requires-clause-shares g c κs within = λ place group group_at.

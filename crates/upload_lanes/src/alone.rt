@@ -1,0 +1,60 @@
+//! A round of one lane.
+ghost use Rattle.std.specs.Prelude.{ℕ, ◌≡◌, ◌≤◌, ◌^◌, List, [], ◌∷◌, length, map, Option, Some};
+ghost use Rattle.std.specs.List.{AllByRecursion};
+ghost use Rattle.upload_reader.specs.Upload.{UploadState};
+ghost use Rattle.upload_lanes.specs.Lane.{IsTaken};
+ghost use Rattle.upload_lanes.specs.Threads.{AreTaken, Stops};
+ghost use Rattle.upload_lanes.specs.inside.AllGroups.{IsFresh};
+ghost use Rattle.upload_lanes.specs.inside.Lanes.{begun_lane};
+ghost use Rattle.upload_lanes.specs.declared.gathered.LaneResult.{LaneResult};
+
+use crate::gathered::{LaneResult, Stop};
+use crate::halt::Halt;
+use byte_streams::Source;
+use std::sync::Wait;
+use upload_reader::Client;
+
+/// Takes the only lane of a round on this thread: reads a message and records it, then the next. Recording is a small part of that, and to hand each message
+/// to another thread would cost more.
+pub(crate) fn take_only<H: Halt, R: Source + Drop, W: Wait>(
+    rt: &W,
+    lanes: Vec<(Client, LaneResult<R>)>,
+    halt: &H,
+) -> (Vec<(Client, LaneResult<R>)>, Stop)
+    requires fresh { AllByRecursion IsFresh lanes.items }
+    requires one { length lanes.items ≡ 1 }
+    requires halt { (n : ℕ) → n ≤ 2 ^ 61 → H.may halt.now n }
+    ensures { (known : List ℕ → Option (LaneResult R)) (quota : ℕ) (uploads : List (UploadState R)) → lanes.items ≡ map (begun_lane known quota) uploads → AreTaken (H.allows halt.now) known quota uploads result.0.items result.1 }
+{
+    let mut lanes = lanes;
+    let stop = take_alone(rt, &mut lanes[0], halt);
+    (lanes, stop)
+}
+
+// Takes it until it has ended, the question is answered by true, or memory is refused.
+fn take_alone<H: Halt, R: Source + Drop, W: Wait>(
+    rt: &W,
+    lane: &mut (Client, LaneResult<R>),
+    halt: &H,
+) -> Stop
+    requires fresh { IsFresh lane.old }
+    requires halt { (n : ℕ) → n ≤ 2 ^ 61 → H.may halt.now n }
+    ensures client { lane.new.0 ≡ lane.old.0 }
+    ensures taken { (begun : UploadState R) → lane.old.1.upload ≡ Some begun → IsTaken lane.old.1.log begun lane.new.1 }
+    ensures stops { Stops (H.allows halt.now) (lane.new ∷ []) result }
+{
+    let mut items = 0;
+    for _ in rt.forever() {
+        if lane.1.end.is_some() {
+            return Stop::None;
+        }
+        if halt.ask(items) {
+            return Stop::Asked;
+        }
+        if lane.1.take_next().is_err() {
+            return Stop::Memory;
+        }
+        items += 1;
+    }
+    unreachable!()
+}
