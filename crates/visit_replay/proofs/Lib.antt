@@ -5,3 +5,6 @@ pub mod OneNumberMore
 pub mod Overlay
 pub mod Sorting
 pub mod Stepping
+pub mod FirstOfNumber
+pub mod Families
+pub mod Places

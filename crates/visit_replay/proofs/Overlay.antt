@@ -12,7 +12,7 @@ use Rattle.page_tree.specs.declared.control.Control.TheVariants as control
 use Rattle.upload_reader.specs.declared.message.Event.{Event}
 use Rattle.upload_reader.specs.declared.message.Event.TheVariants.{Input, Click, Submit}
 use Rattle.xpath_child.specs.Path.{Step}
-use Rattle.xpath_child.specs.Targets.{target_in}
+use Rattle.xpath_child.specs.Targets.{target_in, only_place}
 use Rattle.xpath_child.specs.declared.path.Target.TheVariants.{One}
 use Rattle.visit_replay.specs.Conflict.{path_of}
 use Rattle.visit_replay.specs.Field.{written, is_click_on, turned, is_on_before}
@@ -98,3 +98,12 @@ pub kept_submit : {at req : ℕ} {path : List Step} {by : Option (List Step)} (f
     → event ≡ Submit at path by req → (before : List Event) → Keeps fields new before → Keeps fields new (before ++ event ∷ [])
 kept_submit {at} {req} {path} {by} fields new event is before kept =
     rw is (kept_push fields fields new before (Submit at path by req) (λ number there. refl) (λ number there checkbox. refl) kept)
+
+-- and so does an event whose path selects no one place
+pub kept_else : (fields : Fields) (new : Tree) (event : Event) → only_place (target_in (path_of event) new) ≡ None → (before : List Event) → Keeps fields new before → Keeps fields new (before ++ event ∷ [])
+kept_else fields new (Input at path text) none before kept =
+    kept_push fields fields new before (Input at path text) (λ number there. rw none refl) (λ number there checkbox. refl) kept
+kept_else fields new (Click at path req) none before kept =
+    kept_push fields fields new before (Click at path req) (λ number there. refl) (λ number there checkbox. rw none refl) kept
+kept_else fields new (Submit at path by req) none before kept =
+    kept_push fields fields new before (Submit at path by req) (λ number there. refl) (λ number there checkbox. refl) kept

@@ -16,9 +16,9 @@ use Rattle.xpath_child.specs.declared.path.Target.TheVariants.{Missing, One, Sev
 use Rattle.upload_reader.specs.declared.message.Event.{Event}
 use Rattle.upload_reader.specs.declared.message.Event.TheVariants.{Input, Click, Submit}
 use Rattle.visit_replay.specs.declared.outcome.ConflictKind.{ConflictKind}
-use Rattle.visit_replay.specs.declared.outcome.ConflictKind.TheVariants.{NoPage, NoTarget, ManyTargets, NotAField, BaseChanged, NotALink, NotAForm, LogCut, Ui}
+use Rattle.visit_replay.specs.declared.outcome.ConflictKind.TheVariants.{NoPage, NoTarget, ManyTargets, NotAField, BaseChanged, NotALink, NotAForm, LogCut, Ui, Moved}
 
--- K2 to K7 are of one event, and their rules stand below; K1, K8 and K9 are of a whole visit (`Outcome`)
+-- K2 to K7 are of one event, and their rules stand below; K1, K8 and K9 are of a whole visit (`Outcome`), and K10 is of a visit behind another (`Following`)
 abbrev pub conflict_code : ConflictKind → List ℕ
 conflict_code NoPage = codes "K1"
 conflict_code NoTarget = codes "K2"
@@ -29,6 +29,7 @@ conflict_code NotALink = codes "K6"
 conflict_code NotAForm = codes "K7"
 conflict_code LogCut = codes "K8"
 conflict_code Ui = codes "K9"
+conflict_code Moved = codes "K10"
 
 abbrev pub path_of : Event → List Step
 path_of (Input at target value) = target

@@ -1,3 +1,5 @@
 pub mod FieldsNow
 pub mod KeptFields
 pub mod OneEvent
+pub mod Moves
+pub mod Families

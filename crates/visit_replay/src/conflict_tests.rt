@@ -38,6 +38,7 @@ const CODES: &[(ConflictKind, &str)] = &[
     (ConflictKind::NotAForm, "K7"),
     (ConflictKind::LogCut, "K8"),
     (ConflictKind::Ui, "K9"),
+    (ConflictKind::Moved, "K10"),
 ];
 
 #[test]

@@ -1,11 +1,11 @@
 //! Why one event can't be replayed (K2 to K7), or where it is.
-ghost use Rattle.std.specs.Prelude.{◌≡◌, ◌<◌, IfOk, IfSome, option_map};
+ghost use Rattle.std.specs.Prelude.{◌≡◌, ◌<◌, None, IfOk, IfSome, IfNone, option_map};
 ghost use Rattle.page_tree.specs.Limits.{nodes};
 ghost use Rattle.page_tree.specs.Number.{place_numbered};
 ghost use Rattle.page_tree.specs.Under.{is_under};
 ghost use Rattle.xpath_child.specs.Targets.{target_in, only_place};
 ghost use Rattle.visit_replay.specs.Conflict.{path_of, is_disabled, input_conflict, input_conflict_on, is_unchanged, off_link, click_conflict, click_conflict_on, is_enabled_submit, is_button_of, has_button, submit_conflict, submit_conflict_on, conflict_at};
-ghost use Rattle.visit_replay.specs.inside.OneEvent.{Locates, IsButton, by_of};
+ghost use Rattle.visit_replay.specs.inside.OneEvent.{Locates, IsTargetOf, IsButton, by_of};
 
 use crate::outcome::ConflictKind;
 use page_tree::{Control, NoMemory, Page};
@@ -32,6 +32,17 @@ pub(crate) fn find(old: &Page, new: &Page, event: &Event) -> Result<Located, NoM
     match conflict_at(old, new, event, target, button)? {
         Some(kind) => Ok(Located::Bad(kind)),
         None => Ok(Located::At { target, button }),
+    }
+}
+
+/// The number of the event's target, if its path selects one node.
+pub(crate) fn target_of(page: &Page, event: &Event) -> Option<u32>
+    ensures target { IfSome result (IsTargetOf page.now event.now) }
+    ensures none { IfNone result (only_place (target_in (path_of event.now) page.now) ≡ None) }
+{
+    match path_of(event).find(page) {
+        Found::One(number) => Some(number),
+        Found::Missing | Found::Several => None,
     }
 }
 

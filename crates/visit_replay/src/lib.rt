@@ -9,12 +9,17 @@
 mod address;
 mod conflicts;
 mod fields;
+mod following;
 mod forms;
+mod moves;
+mod moving;
 mod outcome;
 mod patch;
 mod replaying;
 mod requests;
 
+pub use following::follow_parents;
+pub use moving::moved;
 pub use outcome::{ConflictKind, Outcome};
 pub use patch::{Patch, affected};
 pub use replaying::replay;
@@ -23,7 +28,11 @@ pub use requests::{Method, Request, Requests};
 #[cfg(test)]
 mod conflict_tests;
 #[cfg(test)]
+mod following_tests;
+#[cfg(test)]
 mod form_tests;
+#[cfg(test)]
+mod moving_tests;
 #[cfg(test)]
 mod test_visits;
 #[cfg(test)]

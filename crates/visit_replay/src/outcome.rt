@@ -26,6 +26,8 @@ pub enum ConflictKind {
     LogCut,
     /// K9: the site's own test signals a conflict.
     Ui,
+    /// K10: the request that opened the visit goes elsewhere now.
+    Moved,
 }
 
 impl fmt::Display for ConflictKind {
@@ -42,6 +44,7 @@ impl fmt::Display for ConflictKind {
             ConflictKind::NotAForm => "K7",
             ConflictKind::LogCut => "K8",
             ConflictKind::Ui => "K9",
+            ConflictKind::Moved => "K10",
         })
     }
 }

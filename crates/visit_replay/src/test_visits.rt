@@ -98,6 +98,19 @@ pub(crate) fn visit(alloc: Global, was: Was<'_>) -> Result<Visit, Fail> {
     Ok(visit)
 }
 
+/// The same with its number, its parent's, and that of the request that opened it.
+pub(crate) fn opened(
+    alloc: Global,
+    (number, parent, from): (u64, u64, u64),
+    was: Was<'_>,
+) -> Result<Visit, Fail> {
+    let mut visit = visit(alloc, was)?;
+    visit.number = number;
+    visit.parent = parent;
+    visit.from = from;
+    Ok(visit)
+}
+
 pub(crate) fn patch(alloc: Global, addresses: &[&str]) -> Result<Patch, Fail> {
     let mut entries = Vec::new(alloc);
     for address in addresses {

@@ -1,0 +1,50 @@
+-- The outcomes of a list of visits, of which each follows the visit that opened it, its parent (this project's own rule).
+use Rattle.std.specs.Prelude.{ℕ, List, [], ◌∷◌, ◌++◌, Bool, true, false, nat_lt, ◌==◌, if◌then◌else◌, Option, Some, None, map, filter, fold}
+use Rattle.std.specs.List.{last_or}
+use Rattle.page_tree.specs.Tree.{Tree}
+use Rattle.client_log.specs.declared.visit.Visit.{Visit}
+use Rattle.visit_replay.specs.Moved.{is_moved}
+use Rattle.visit_replay.specs.Outcome.{outcome}
+use Rattle.visit_replay.specs.declared.outcome.ConflictKind.TheVariants.{Moved}
+use Rattle.visit_replay.specs.declared.outcome.Outcome.{Outcome}
+use Rattle.visit_replay.specs.declared.outcome.Outcome.TheVariants.{Untouched, Conflict}
+
+-- a visit with its outcome
+abbrev pub Replayed : Type 0
+Replayed = Visit × Outcome
+
+-- the last with that number
+abbrev pub last_numbered : ℕ → List Replayed → Option Replayed
+last_numbered number visits = last_or None (filter (λ one. one.0.number == number) visits)
+
+-- the last before it with the number of its parent, where that is less than its own
+abbrev pub parent_among : List Replayed → Visit → Option Replayed
+parent_among before visit = if nat_lt visit.parent visit.number then last_numbered visit.parent before else None
+
+-- whether the request that opened it goes elsewhere by its parent's outcome
+abbrev pub is_elsewhere : Visit → Option Replayed → Bool
+is_elsewhere visit None = false
+is_elsewhere visit (Some parent) = is_moved parent.0 parent.1 visit.from
+
+abbrev pub is_untouched : Outcome → Bool
+is_untouched Untouched = true
+is_untouched other = false
+
+abbrev pub moved_away : Outcome
+moved_away = Conflict [] 0 Moved
+
+-- what the visit gives behind these, by what it gives by itself: a visit that is untouched stays so; any other is a conflict at its load where its parent
+-- leads elsewhere now (K10)
+abbrev pub outcome_behind : List Replayed → Visit → Outcome → Outcome
+outcome_behind before visit own = if is_untouched own then Untouched else (if is_elsewhere visit (parent_among before visit) then moved_away else own)
+
+abbrev pub with_next : List Replayed → Replayed → List Replayed
+with_next before one = before ++ (one.0, outcome_behind before one.0 one.1) ∷ []
+
+-- visits with their outcomes, from the same with what they give by themselves
+abbrev pub following : List Replayed → List Replayed
+following visits = fold with_next [] visits
+
+-- by a site's law
+abbrev pub outcomes : (List ℕ → Option Tree) → (List ℕ → Tree → Tree → Bool) → List (List ℕ) → List Visit → List Outcome
+outcomes page_of signals patch visits = map (λ one. one.1) (following (map (λ visit. (visit, outcome page_of signals patch visit)) visits))

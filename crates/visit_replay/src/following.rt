@@ -1,0 +1,149 @@
+//! The outcomes of a list of visits, of which each follows its parent.
+ghost use Rattle.std.specs.Prelude.{◌≡◌, ◌≢◌, ◌<◌, ◌==◌, if◌then◌else◌, List, ℕ, length, map, zip, slice_get, Some, IfOk, IfSome, OnOk};
+ghost use Rattle.std.specs.BTreeMap.{get};
+ghost use Rattle.std.specs.Ordering.{nat_cmp};
+ghost use Rattle.client_log.specs.declared.visit.Visit.{Visit as AVisit};
+ghost use Rattle.visit_replay.specs.Moved.{is_moved};
+ghost use Rattle.visit_replay.specs.Following.{Replayed, parent_among, is_elsewhere, is_untouched, moved_away, outcome_behind, following};
+ghost use Rattle.visit_replay.specs.inside.Families.{IsKnown, AreKnown, Stands};
+ghost use Rattle.visit_replay.specs.declared.outcome.Outcome.{Outcome as AnOutcome};
+
+use crate::moves::{has_moved, moves_of};
+use crate::outcome::{ConflictKind, Outcome};
+use crate::requests::Requests;
+use client_log::Visit;
+use page_tree::NoMemory;
+use std::alloc::{AllocError, Global};
+use std::collections::BTreeMap;
+
+/// The outcomes of visits in their order, from those that `replay` gives of each by itself. A visit that isn't untouched is a conflict at its load where its
+/// parent's request that opened it goes elsewhere now (K10). Its parent is the last visit before it with the number `parent`, if that is less than its own.
+///
+/// Each visit that opened others is looked through once, however many these are.
+pub fn follow_parents(
+    alloc: Global,
+    visits: &[Visit],
+    outcomes: Vec<Outcome>,
+) -> Result<Vec<Outcome>, NoMemory>
+    requires { length outcomes.items ≡ length visits.now }
+    ensures { IfOk result (λ all. all.items ≡ map (λ one. one.1) (following (zip visits.now outcomes.items))) }
+{
+    let mut outcomes = outcomes;
+    let mut places = BTreeMap::new(alloc);
+    let mut slots = Vec::with_capacity(alloc, visits.len())?;
+    for k in 0..visits.len() {
+        settle(
+            alloc,
+            visits,
+            outcomes.as_mut_slice(),
+            k,
+            &places,
+            slots.as_mut_slice(),
+        )?;
+        put_place(&mut places, visits[k].number, k)?;
+        slots.push_reserved(None);
+    }
+    Ok(outcomes)
+}
+
+// Gives the visit there the outcome that it has behind those before it.
+fn settle(
+    alloc: Global,
+    visits: &[Visit],
+    outcomes: &mut [Outcome],
+    k: usize,
+    places: &BTreeMap<u64, usize>,
+    slots: &mut [Option<BTreeMap<u64, bool>>],
+) -> Result<(), NoMemory>
+    requires there { (k < length visits.now) × (k < length outcomes.old) × (length slots.old ≡ k) }
+    requires within { (number : ℕ) → IfSome (get nat_cmp places.now number) (λ j. j < k) }
+    requires known { AreKnown visits.now outcomes.old slots.old }
+    ensures known { AreKnown visits.now outcomes.new slots.new }
+    ensures others { (j : ℕ) → j ≢ k → slice_get outcomes.new j ≡ slice_get outcomes.old j }
+    ensures settled { (before : List Replayed) (visit : AVisit) (mine : AnOutcome) → Stands visits.now outcomes.old (get nat_cmp places.now) before → slice_get visits.now k ≡ Some visit → slice_get outcomes.old k ≡ Some mine → OnOk result (slice_get outcomes.new k ≡ Some (outcome_behind before visit mine)) }
+{
+    if is_untouched(&outcomes[k]) {
+        return Ok(());
+    }
+    if !is_elsewhere(alloc, visits, outcomes, places, slots, &visits[k])? {
+        return Ok(());
+    }
+    outcomes[k] = moved_away(alloc);
+    Ok(())
+}
+
+fn is_untouched(outcome: &Outcome) -> bool
+    ensures { result ≡ is_untouched outcome.now }
+{
+    match outcome {
+        Outcome::Untouched => true,
+        Outcome::Done { .. } | Outcome::Conflict { .. } => false,
+    }
+}
+
+fn moved_away(alloc: Global) -> Outcome
+    ensures { result ≡ moved_away }
+{
+    Outcome::Conflict {
+        requests: Requests::new(alloc),
+        at: 0,
+        kind: ConflictKind::Moved,
+    }
+}
+
+fn put_place(places: &mut BTreeMap<u64, usize>, number: u64, place: usize) -> Result<(), AllocError>
+    ensures { OnOk result ((other : ℕ) → get nat_cmp places.new other ≡ (if number == other then Some place else get nat_cmp places.old other)) }
+{
+    places.insert(number, place)?;
+    Ok(())
+}
+
+// Whether the visit's parent leads elsewhere now.
+fn is_elsewhere(
+    alloc: Global,
+    visits: &[Visit],
+    outcomes: &[Outcome],
+    places: &BTreeMap<u64, usize>,
+    slots: &mut [Option<BTreeMap<u64, bool>>],
+    visit: &Visit,
+) -> Result<bool, NoMemory>
+    requires within { (number : ℕ) → IfSome (get nat_cmp places.now number) (λ j. (j < length visits.now) × (j < length outcomes.now) × (j < length slots.old)) }
+    requires known { AreKnown visits.now outcomes.now slots.old }
+    ensures known { AreKnown visits.now outcomes.now slots.new }
+    ensures answer { (before : List Replayed) → Stands visits.now outcomes.now (get nat_cmp places.now) before → IfOk result (λ answer. answer ≡ is_elsewhere visit.now (parent_among before visit.now)) }
+{
+    if visit.parent >= visit.number {
+        return Ok(false);
+    }
+    match places.get(&visit.parent).copied() {
+        Some(place) => knows(
+            alloc,
+            &visits[place],
+            &outcomes[place],
+            &mut slots[place],
+            visit.from,
+        ),
+        None => Ok(false),
+    }
+}
+
+// Whether the request of that number goes elsewhere, by what is kept of that or is looked up now.
+fn knows(
+    alloc: Global,
+    visit: &Visit,
+    outcome: &Outcome,
+    slot: &mut Option<BTreeMap<u64, bool>>,
+    number: u64,
+) -> Result<bool, NoMemory>
+    requires { IsKnown visit.now outcome.now slot.old }
+    ensures slot { IsKnown visit.now outcome.now slot.new }
+    ensures answer { IfOk result (λ answer. answer ≡ is_moved visit.now outcome.now number) }
+{
+    if slot.is_none() {
+        *slot = Some(moves_of(alloc, visit, outcome)?);
+    }
+    match slot {
+        Some(moves) => Ok(has_moved(moves, number)),
+        None => Ok(false),
+    }
+}

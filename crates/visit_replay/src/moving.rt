@@ -1,0 +1,146 @@
+//! Whether a request of a visit goes elsewhere now.
+ghost use Rattle.std.specs.Prelude.{◌≡◌, ◌<◌, [], ◌∷◌, ◌++◌, List, length, take, IfOk, IfSome, OnOk, option_map};
+ghost use Rattle.upload_reader.specs.declared.message.Event.{Event as AnEvent};
+ghost use Rattle.visit_replay.specs.Moved.{requests_of, request_now, number_of, event_numbered, own_request, request_then, is_moved};
+ghost use Rattle.visit_replay.specs.inside.KeptFields.{Keeps};
+
+use crate::conflicts::{Located, find, target_of};
+use crate::fields::Fields;
+use crate::forms::Filled;
+use crate::outcome::Outcome;
+use crate::requests::{Request, request_at};
+use client_log::Visit;
+use page_tree::{NoMemory, Page};
+use std::alloc::Global;
+use upload_reader::Event;
+
+/// Whether the request of that number goes to another address by the visit's outcome than it did on the page that the visit was made on. It doesn't where
+/// either of both is missing. `from` is the number as a visit gives it that the request opened; 0 is none.
+pub fn moved(alloc: Global, visit: &Visit, outcome: &Outcome, from: u64) -> Result<bool, NoMemory>
+    ensures { IfOk result (λ answer. answer ≡ is_moved visit.now outcome.now from) }
+{
+    if from == 0 {
+        return Ok(false);
+    }
+    let Some(now) = request_now(outcome, from) else {
+        return Ok(false);
+    };
+    match request_then(alloc, visit, from)? {
+        Some(before) => Ok(before.address.as_str() != now.address.as_str()),
+        None => Ok(false),
+    }
+}
+
+// ---- what the replay asks for
+
+pub(crate) fn requests_of(outcome: &Outcome) -> &[Request]
+    ensures { result.now ≡ requests_of outcome.now }
+{
+    match outcome {
+        Outcome::Untouched => &[],
+        Outcome::Done { requests } => requests.as_slice(),
+        Outcome::Conflict { requests, .. } => requests.as_slice(),
+    }
+}
+
+fn request_now(outcome: &Outcome, number: u64) -> Option<&Request>
+    ensures { option_map (λ request. request.now) result ≡ request_now outcome.now number }
+{
+    requests_of(outcome)
+        .iter()
+        .find(|request| request.number == number)
+}
+
+// ---- what the visit asked for
+
+pub(crate) fn number_of(event: &Event) -> u64
+    ensures { result ≡ number_of event.now }
+{
+    match event {
+        Event::Input { .. } => 0,
+        Event::Click { req, .. } => *req,
+        Event::Submit { req, .. } => *req,
+    }
+}
+
+// Where the first event stands that made the request of that number.
+fn event_numbered(events: &[Event], number: u64) -> Option<usize>
+    ensures place { result ≡ event_numbered events.now number }
+    ensures within { IfSome result (λ k. k < length events.now) }
+{
+    events.iter().position(|event| number_of(event) == number)
+}
+
+fn request_then(alloc: Global, visit: &Visit, number: u64) -> Result<Option<Request>, NoMemory>
+    ensures { IfOk result (λ request. request ≡ request_then visit.now number) }
+{
+    match event_numbered(visit.events.as_slice(), number) {
+        Some(k) => own_request(alloc, visit, k),
+        None => Ok(None),
+    }
+}
+
+// Of the event with k events before it.
+fn own_request(alloc: Global, visit: &Visit, k: usize) -> Result<Option<Request>, NoMemory>
+    requires { k < length visit.now.events }
+    ensures { IfOk result (λ request. request ≡ own_request visit.now k) }
+{
+    let fields = fields_behind(alloc, &visit.page, visit.events.as_slice(), k)?;
+    own_request_on(alloc, visit, &fields, k)
+}
+
+// The same, by the fields as these events left them.
+pub(crate) fn own_request_on(
+    alloc: Global,
+    visit: &Visit,
+    fields: &Fields<'_>,
+    k: usize,
+) -> Result<Option<Request>, NoMemory>
+    requires there { k < length visit.now.events }
+    requires fields { Keeps fields.now visit.now.page (take k visit.now.events) }
+    ensures { IfOk result (λ request. request ≡ own_request visit.now k) }
+{
+    let page = &visit.page;
+    let event = &visit.events.as_slice()[k];
+    let (target, button) = match find(page, page, event)? {
+        Located::Bad(_) => return Ok(None),
+        Located::At { target, button } => (target, button),
+    };
+    let filled = Filled {
+        page,
+        fields,
+        button,
+    };
+    request_at(alloc, visit.address.as_str(), &filled, event, target)
+}
+
+// The fields as the first so many events left them.
+fn fields_behind<'a>(
+    alloc: Global,
+    page: &Page,
+    events: &'a [Event],
+    count: usize,
+) -> Result<Fields<'a>, NoMemory>
+    requires { count < length events.now }
+    ensures { IfOk result (λ fields. Keeps fields page.now (take count events.now)) }
+{
+    let mut fields = Fields::new(alloc);
+    for k in 0..count {
+        note(page, &events[k], &mut fields)?;
+    }
+    Ok(fields)
+}
+
+// Takes in one event more, if its path selects one node.
+pub(crate) fn note<'a>(
+    page: &Page,
+    event: &'a Event,
+    fields: &mut Fields<'a>,
+) -> Result<(), NoMemory>
+    ensures { OnOk result ((before : List AnEvent) → Keeps fields.old page.now before → Keeps fields.new page.now (before ++ event.now ∷ [])) }
+{
+    match target_of(page, event) {
+        Some(target) => fields.note(page, event, target),
+        None => Ok(()),
+    }
+}
