@@ -1,0 +1,6 @@
+pub mod Lists
+pub mod Steps
+pub mod Gathering
+pub mod Divided
+pub mod Working
+pub mod Placing

@@ -1,0 +1,5 @@
+pub mod Limits
+pub mod Fault
+pub mod Draws
+pub mod Work
+pub mod inside

@@ -1,0 +1,9 @@
+-- This project's own limit on workers.
+use Rattle.std.specs.Prelude.{◌≤◌, ℕ}
+
+abbrev pub max_workers : ℕ
+max_workers = 32
+
+pub record AreWorkers (workers : ℕ) : Type 0 where
+  pub some : 1 ≤ workers
+  pub few : workers ≤ max_workers

@@ -1,0 +1,31 @@
+-- What the shares of all workers leave.
+use Rattle.std.specs.Prelude.{ℕ, ◌≡◌, ◌<◌, ◌≤◌, List, ◌∷◌, [], ◌++◌, true, All, IfOk, length, slice_get}
+use Rattle.std.specs.List.{sum_by}
+use Rattle.visit_replay.specs.declared.outcome.Outcome.{Outcome}
+use Rattle.replay_workers.specs.Draws.{Pool, Draws, IsOf, is_spent, times}
+use Rattle.replay_workers.specs.Work.{numbers_of, AreOf}
+use Rattle.replay_workers.specs.declared.share.Done.{Done}
+use Rattle.replay_workers.specs.declared.share.Share.{Share}
+
+-- a worker with a fresh seat drew these numbers, and then one at or past the count
+pub record HasAll (own : List Outcome) (pool : Pool) (seat : Draws) (done : List Done) : Type 0 where
+  pub last : ℕ
+  pub past : pool.count ≤ last
+  pub drawn : seat.drawn ≡ numbers_of done ++ last ∷ []
+  pub outcomes : AreOf own done
+
+-- the share of a worker with a fresh seat
+pub record IsWorked (own : List Outcome) (pool : Pool) (share : Share) : Type 0 where
+  pub of : IsOf pool share.seat
+  pub spent : is_spent share.seat ≡ true
+  pub done : IfOk share.done (λ done. HasAll own pool share.seat done.items)
+
+-- so many seats came back, all spent
+pub record AreBack (pool : Pool) (count : ℕ) (seats : List Draws) : Type 0 where
+  pub count_is : length seats ≡ count
+  pub of : All (IsOf pool) seats
+  pub spent : All (λ seat. is_spent seat ≡ true) seats
+
+-- each number below the count that one of these seats drew has its outcome
+abbrev pub IsPlaced : List Outcome → List Draws → List Outcome → Type 0
+IsPlaced own seats all = (x : ℕ) → x < length own → 1 ≤ sum_by (λ seat. times x seat.drawn) seats → slice_get all x ≡ slice_get own x

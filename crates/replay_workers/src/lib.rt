@@ -1,0 +1,28 @@
+//! Visits replayed by several worker threads, which divide their list among themselves: each draws numbers, and the visit at a number that it drew is its own to
+//! replay. Then each visit follows its parent, on the thread that calls.
+//!
+//! What a contract says of the numbers that threads draw is said by seats. A seat is one worker's, and knows which numbers it drew (in proofs alone).
+#![tactic(auto)]
+
+mod claims;
+mod fault;
+mod limits;
+mod pool;
+mod rule;
+mod seat;
+mod share;
+mod view;
+
+pub use claims::Claims;
+pub use fault::PoolFault;
+pub use limits::MAX_WORKERS;
+pub use pool::replay_all;
+pub use seat::Seat;
+pub use share::{Done, Share, work};
+
+#[cfg(test)]
+mod pool_tests;
+#[cfg(test)]
+mod tests;
+#[cfg(test)]
+mod thread_tests;

@@ -1,0 +1,120 @@
+//! All workers together.
+ghost use Rattle.std.specs.Prelude.{ℕ, ◌≡◌, ◌≢◌, ◌<◌, ◌≤◌, ◌^◌, ◌⊎◌, List, [], length, map, replicate, slice_get, All, IfOk, IfErr, vec_len, Some};
+ghost use Rattle.std.specs.List.{sum_by};
+ghost use Rattle.std.specs.Vec.{vec_capacity};
+ghost use Rattle.visit_replay.specs.Following.{outcomes};
+ghost use Rattle.visit_replay.specs.declared.outcome.Outcome.{Outcome as AnOutcome};
+ghost use Rattle.visit_replay.specs.declared.outcome.Outcome.TheVariants.{Untouched};
+ghost use Rattle.replay_workers.specs.Draws.{Pool, IsFreshOf, times};
+ghost use Rattle.replay_workers.specs.Limits.{AreWorkers};
+ghost use Rattle.replay_workers.specs.Work.{own_outcomes, numbers_of, AreOf, IsShare};
+ghost use Rattle.replay_workers.specs.inside.Shares.{IsWorked, AreBack, IsPlaced};
+ghost use Rattle.replay_workers.specs.declared.fault.PoolFault.TheVariants.{BadWorkers, NoMemory};
+
+use crate::claims::Claims;
+use crate::fault::PoolFault;
+use crate::seat::Seat;
+use crate::share::{Done, Share, work};
+use client_log::Visit;
+use site_hooks::SiteHooks;
+use std::alloc::{AllocError, Global};
+use std::thread;
+use std::thread::Threads;
+use visit_replay::{Outcome, Patch, follow_parents};
+
+/// The outcomes of visits in their order, fewer than 2^32, each behind its parent's, by so many workers, 1 to `MAX_WORKERS`, each on a thread of its own.
+/// Where no thread can be started, the one that calls does a worker's part.
+pub fn replay_all<H: SiteHooks, R: AllocGlobal + Threads + Sync>(
+    rt: &R,
+    workers: u32,
+    hooks: &H,
+    patch: &Patch,
+    visits: &[Visit],
+) -> Result<Vec<Outcome>, PoolFault>
+    requires { length visits.now < 2 ^ 32 }
+    ensures ok { IfOk result (λ all. AreWorkers workers × (all.items ≡ outcomes (H.page_of hooks.now) (H.signals hooks.now) patch.now visits.now)) }
+    ensures refused { IfErr result (λ fault. fault ≢ NoMemory → (fault ≡ BadWorkers) × ¬ AreWorkers workers) }
+    ensures memory { IfErr result (λ fault. fault ≡ NoMemory → AreWorkers workers) }
+{
+    let (claims, seats) = Claims::open(rt.alloc(), visits.len() as u32, workers)?;
+    let own = replay_each(rt, rt.alloc(), hooks, patch, visits, claims, seats)?;
+    Ok(follow_parents(rt.alloc(), visits, own)?)
+}
+
+// What each visit gives by itself.
+fn replay_each<H: SiteHooks, R: Threads + Sync>(
+    rt: &R,
+    alloc: Global,
+    hooks: &H,
+    patch: &Patch,
+    visits: &[Visit],
+    claims: Claims,
+    seats: Vec<Seat>,
+) -> Result<Vec<Outcome>, AllocError>
+    requires fresh { All (IsFreshOf claims) seats.items }
+    requires all { (1 ≤ vec_len seats) × (vec_len seats ≡ claims.workers) }
+    requires count { claims.count ≡ length visits.now }
+    ensures { IfOk result (λ own. own.items ≡ own_outcomes (H.page_of hooks.now) (H.signals hooks.now) patch.now visits.now) }
+{
+    let mut own = untouched(alloc, visits.len())?;
+    let room = Vec::with_capacity(alloc, seats.len())?;
+    let lent = &claims;
+    let shares = thread::map_vec(
+        rt,
+        seats,
+        &|seat| -> Share
+            requires { IsFreshOf lent.now seat × (lent.now.count ≡ length visits.now) }
+            ensures { IsWorked (own_outcomes (H.page_of hooks.entry.now) (H.signals hooks.entry.now) patch.entry.now visits.entry.now) lent.entry.now result }
+        { work(alloc, hooks, patch, visits, lent, seat) },
+    )?;
+    let seats = place_all(shares, own.as_mut_slice(), room)?;
+    let _drawn = claims.close(seats);
+    Ok(own)
+}
+
+fn untouched(alloc: Global, count: usize) -> Result<Vec<Outcome>, AllocError>
+    ensures { IfOk result (λ all. length all.items ≡ count) }
+{
+    let mut all = Vec::with_capacity(alloc, count)?;
+    for k in 0..count {
+        all.push_reserved(Outcome::Untouched);
+    }
+    Ok(all)
+}
+
+// Puts all outcomes at their places, and gives the seats back.
+fn place_all(
+    shares: Vec<Share>,
+    all: &mut [Outcome],
+    room: Vec<Seat>,
+) -> Result<Vec<Seat>, AllocError>
+    requires room { (room.items ≡ []) × (length shares.items ≤ vec_capacity room) }
+    requires within { All (λ share. IfOk share.done (λ done. All (λ one. one.number < length all.old) done.items)) shares.items }
+    ensures { (own : List AnOutcome) (claims : Pool) → (length own ≡ length all.old) × (claims.count ≡ length own) → All (IsWorked own claims) shares.items → IfOk result (λ seats. AreBack claims (length shares.items) seats.items × IsPlaced own seats.items all.new) }
+{
+    let mut shares = shares;
+    let mut seats = room;
+    while let Some(share) = shares.pop() {
+        let Share { seat, done } = share;
+        place(all, done?);
+        seats.push_reserved(seat);
+    }
+    Ok(seats)
+}
+
+// Puts these outcomes at their places.
+fn place(all: &mut [Outcome], done: Vec<Done>)
+    requires { All (λ one. one.number < length all.old) done.items }
+    ensures { (own : List AnOutcome) (x : ℕ) → AreOf own done.items → (slice_get all.old x ≡ slice_get own x) ⊎ (1 ≤ times x (numbers_of done.items)) → slice_get all.new x ≡ slice_get own x }
+{
+    let mut done = done;
+    while let Some(one) = done.pop() {
+        put(&mut all[one.number as usize], one.outcome);
+    }
+}
+
+fn put(place: &mut Outcome, outcome: Outcome)
+    ensures { place.new ≡ outcome }
+{
+    *place = outcome;
+}

@@ -1,0 +1,67 @@
+//! What one worker draws numbers with.
+ghost use Rattle.std.specs.Prelude.{◌≡◌, [], ◌∷◌};
+ghost use Rattle.replay_workers.specs.Draws.{is_spent};
+ghost use Rattle.replay_workers.specs.inside.Rule.{fresh_row, row_of};
+ghost use Rattle.replay_workers.specs.inside.Seats.{rows, drawn_of, draws_of_pass};
+
+use crate::view::View;
+use atomic_table::Seat as Pass;
+use std::marker::Model;
+
+/// One worker's seat, on whatever thread it is. Contracts see of which claims it is, and which numbers it drew.
+#[derive(Drop)]
+pub struct Seat {
+    pub(crate) pass: Pass<(), View>,
+    pub(crate) count: u32,
+    pub(crate) spent: bool,
+}
+
+impl Model for Seat {
+    ghost use Rattle.replay_workers.specs.Draws.{Draws, draws_coded};
+    ghost use Rattle.replay_workers.specs.inside.Seats.{draws_of_pass, IsSeat};
+
+    ghost Value = { Draws };
+
+    ghost coded = { draws_coded };
+
+    ghost view = { λ s. draws_of_pass s.pass s.count };
+
+    ghost invariant = { λ s. IsSeat s.pass s.count s.spent };
+}
+
+impl Seat {
+    /// A seat that has drawn nothing.
+    pub(crate) fn of_pass(pass: Pass<(), View>, count: u32) -> Seat
+        requires whole { pass.me.1 ≡ [] }
+        requires fresh { (number : _) × (rows pass ≡ fresh_row number ∷ []) }
+        ensures { result ≡ draws_of_pass pass count }
+    {
+        Seat {
+            pass,
+            count,
+            spent: false,
+        }
+    }
+
+    /// Whether it drew a number at or past the count: then it draws no more.
+    pub fn spent(&self) -> bool
+        ensures { result ≡ is_spent self.now }
+    {
+        self.spent
+    }
+
+    /// The pass that it holds.
+    pub(crate) fn into_pass(self) -> Pass<(), View>
+        ensures of { result.table_id ≡ self.table_id }
+        ensures whole { result.me.1 ≡ [] }
+        ensures one { rows result ≡ row_of (rows result) ∷ [] }
+        ensures list { drawn_of result ≡ self.drawn }
+    {
+        let Self {
+            pass,
+            count: _,
+            spent: _,
+        } = self;
+        pass
+    }
+}
