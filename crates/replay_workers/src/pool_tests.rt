@@ -372,8 +372,8 @@ fn the_first_at_work_leaves_none(rt: HostRuntime) -> Result<(), Fail> {
 const LINK_C: &str =
     r#"{"n":"html","c":[{"n":"body","c":[{"n":"a","a":{"href":"/c"},"c":["go"]}]}]}"#;
 
-// The second was opened by the first one's request.
-const PARENT_AND_CHILD: [Was; 2] = [
+// The second was opened by the first one's request, and the third, which isn't patched, by the second's.
+const THREE_GENERATIONS: [Was; 3] = [
     Was {
         number: 1,
         parent: 0,
@@ -390,11 +390,19 @@ const PARENT_AND_CHILD: [Was; 2] = [
         cut: false,
         events: &[],
     },
+    Was {
+        number: 3,
+        parent: 2,
+        address: "/x",
+        old: LINK,
+        cut: false,
+        events: &[],
+    },
 ];
 
-fn parent_and_child(alloc: Global) -> Result<Vec<Visit>, Fail> {
+fn three_generations(alloc: Global) -> Result<Vec<Visit>, Fail> {
     let mut visits = Vec::new(alloc);
-    for was in PARENT_AND_CHILD {
+    for was in THREE_GENERATIONS {
         visits.push(visit(alloc, was)?)?;
     }
     Ok(visits)
@@ -404,10 +412,16 @@ fn parent_and_child(alloc: Global) -> Result<Vec<Visit>, Fail> {
 fn a_visit_follows_its_parent(rt: HostRuntime) -> Result<(), Fail> {
     let alloc = rt.alloc();
     let patch = patch(alloc, &["/a", "/b"])?;
-    let visits = parent_and_child(alloc)?;
+    let visits = three_generations(alloc)?;
     let table = [
-        (LINK, "done | load 0 /a  | get 1 /b ; done | load 0 /b ; "),
-        (LINK_C, "done | load 0 /a  | get 1 /c ; K10 at 0; "),
+        (
+            LINK,
+            "done | load 0 /a  | get 1 /b ; done | load 0 /b ; untouched; ",
+        ),
+        (
+            LINK_C,
+            "done | load 0 /a  | get 1 /c ; K10 at 0; untouched; ",
+        ),
     ];
     for (at_a, want) in table {
         let hooks = site(alloc, &[("/a", at_a), ("/b", LINK)])?;
@@ -480,10 +494,10 @@ fn workers_meet(rt: HostRuntime) -> Result<(), Fail> {
         elsewhere: AtomicBool::new(false),
     };
     let patch = patch(alloc, &["/a", "/b"])?;
-    let visits = parent_and_child(alloc)?;
+    let visits = three_generations(alloc)?;
     assert_eq!(rt;
         told_by(&rt, 2, &hooks, &patch, visits.as_slice())?.as_str(),
-        "done | load 0 /a  | get 1 /b ; done | load 0 /b ; "
+        "done | load 0 /a  | get 1 /b ; done | load 0 /b ; untouched; "
     );
     Ok(())
 }
