@@ -10,7 +10,7 @@ use Rattle.atomic_table.specs.Seated.{TableId}
 use Rattle.replay_workers.specs.declared.view.Terms.{Terms}
 use Rattle.replay_workers.specs.declared.view.Row.{Row}
 use Rattle.replay_workers.specs.Draws.{Pool, Draws, EndsOnce, times, AreClaimed}
-use Rattle.replay_workers.specs.inside.Rule.{IsKept, row_of, with_lists}
+use Rattle.replay_workers.specs.inside.Rule.{IsInTurn, row_of, with_lists}
 use Rattle.replay_workers.specs.inside.Seats.{pool_of, Pass, rows, drawn_of, lists_of_rows, lists_of_seats, IsGathered}
 use Rattle.replay_workers.proofs.Lists.{sum-map}
 use Rattle.replay_workers.proofs.Steps.{Told, tells}
@@ -41,7 +41,7 @@ All-from_map P f (x ∷ xs) all = All-cons (λ y. P (f y)) x xs (All-head P (f x
 -- what is known once the word is read
 module _ (table_id : TableId) (terms : Terms) (pool : Pool) (seats : List Draws) (pass : Pass) (words : List ℕ) (slots : List (Unit {0})) (word : ℕ)
     (told : pool_of table_id terms ≡ pool) (kept : IsGathered pool [] seats pass) (whole : length seats ≡ pool.workers)
-    (final : Final (Seen (IsKept terms) pass.id pass.me.0) words slots) (at : get_elem? words 0 ≡ some word) where
+    (final : Final (Seen (IsInTurn terms) pass.id pass.me.0) words slots) (at : get_elem? words 0 ≡ some word) where
   told_of : Told terms (rows pass) word
   told_of =
       let long : length (rows pass) ≡ length seats =

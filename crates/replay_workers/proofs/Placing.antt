@@ -11,7 +11,7 @@ use Rattle.visit_replay.specs.declared.outcome.Outcome.{Outcome}
 use Rattle.replay_workers.proofs.Divided.{each_drawn}
 use Rattle.replay_workers.proofs.Lists.{once_else}
 use Rattle.replay_workers.specs.Draws.{Pool, Draws, IsOf, is_spent, times, AreClaimed}
-use Rattle.replay_workers.specs.Work.{numbers_of, AreOf}
+use Rattle.replay_workers.specs.Work.{done_numbers, AreOf}
 use Rattle.replay_workers.specs.inside.Shares.{HasAll, AreBack, IsPlaced}
 use Rattle.replay_workers.specs.declared.share.Done.{Done}
 
@@ -33,13 +33,13 @@ times_push x drawn n = sum_by_push (λ y. cond {A = ℕ} (y == x) 1 0) drawn n
 
 -- one outcome comes to its place
 pub one_placed : (own all : List Outcome) (x : ℕ) (rest : List Done) (one : Done) → one.number < length all → slice_get own one.number ≡ Some one.outcome
-    → (slice_get all x ≡ slice_get own x) ⊎ (1 ≤ times x (numbers_of (rest ++ one ∷ []))) → (slice_get (set all one.number one.outcome) x ≡ slice_get own x) ⊎ (1 ≤ times x (numbers_of rest))
+    → (slice_get all x ≡ slice_get own x) ⊎ (1 ≤ times x (done_numbers (rest ++ one ∷ []))) → (slice_get (set all one.number one.outcome) x ≡ slice_get own x) ⊎ (1 ≤ times x (done_numbers rest))
 one_placed own all x rest one below right stood = elim (eqb_tells one.number x) [
   | inl same ↦ inl (ap (slice_get (set all one.number one.outcome)) (sym same.1) ∙ set_here all one.number one.outcome below ∙ sym right ∙ ap (slice_get own) same.1)
   | inr other ↦ elim stood [
     | inl stands ↦ inl (set_there all one.number one.outcome x (λ is. other.1 (sym is)) ∙ stands)
     | inr comes ↦
-        let split = ap (times x) (map-append (λ o. o.number) rest (one ∷ [])) ∙ times_push x (numbers_of rest) one.number in
+        let split = ap (times x) (map-append (λ o. o.number) rest (one ∷ [])) ∙ times_push x (done_numbers rest) one.number in
         let none = once_else one.number x other.1 in
         inr (omega (arith, comes, split, none))
   ]
@@ -49,10 +49,10 @@ one_placed own all x rest one below right stood = elim (eqb_tells one.number x) 
 
 module _ (own : List Outcome) (pool : Pool) (count : pool.count ≡ length own) (all new : List Outcome) (seats : List Draws) (seat : Draws) (done : List Done) (worked : HasAll own pool seat done)
     (placed : IsPlaced own seats all)
-    (put : (x : ℕ) → (slice_get all x ≡ slice_get own x) ⊎ (1 ≤ times x (numbers_of done)) → slice_get new x ≡ slice_get own x) where
-  mine : (x : ℕ) → x < length own → 1 ≤ times x seat.drawn → 1 ≤ times x (numbers_of done)
+    (put : (x : ℕ) → (slice_get all x ≡ slice_get own x) ⊎ (1 ≤ times x (done_numbers done)) → slice_get new x ≡ slice_get own x) where
+  mine : (x : ℕ) → x < length own → 1 ≤ times x seat.drawn → 1 ≤ times x (done_numbers done)
   mine x below some =
-      let split = ap (times x) worked.drawn ∙ times_push x (numbers_of done) worked.last in
+      let split = ap (times x) worked.drawn ∙ times_push x (done_numbers done) worked.last in
       let past : pool.count ≤ worked.last = worked.past in
       let none = once_else worked.last x (λ same. omega (arith, same, below, past, count)) in
       omega (arith, split, none, some)
@@ -81,18 +81,18 @@ module _ (all : List Outcome) (done rest : List Done) (one : Done) (new : Outcom
   pub next_within : All (λ (d : Done). d.number < length (set all one.number new)) rest
   next_within = subst (λ n. All (λ (d : Done). d.number < n) rest) (sym (length-set all one.number new)) both.0
 
-  pub next_stands : (own : List Outcome) (x : ℕ) → AreOf own done → (slice_get all x ≡ slice_get own x) ⊎ (1 ≤ times x (numbers_of done))
-      → AreOf own rest × ((slice_get (set all one.number new) x ≡ slice_get own x) ⊎ (1 ≤ times x (numbers_of rest)))
+  pub next_stands : (own : List Outcome) (x : ℕ) → AreOf own done → (slice_get all x ≡ slice_get own x) ⊎ (1 ≤ times x (done_numbers done))
+      → AreOf own rest × ((slice_get (set all one.number new) x ≡ slice_get own x) ⊎ (1 ≤ times x (done_numbers rest)))
   next_stands own x are stood =
       let parts = front_all (λ (d : Done). slice_get own d.number ≡ Some d.outcome) rest one (subst (AreOf own) split are) in (
         parts.0,
-        subst (λ o. (slice_get (set all one.number o) x ≡ slice_get own x) ⊎ (1 ≤ times x (numbers_of rest))) (sym new_is)
-            (one_placed own all x rest one both.1 parts.1 (subst (λ them. (slice_get all x ≡ slice_get own x) ⊎ (1 ≤ times x (numbers_of them))) split stood)),
+        subst (λ o. (slice_get (set all one.number o) x ≡ slice_get own x) ⊎ (1 ≤ times x (done_numbers rest))) (sym new_is)
+            (one_placed own all x rest one both.1 parts.1 (subst (λ them. (slice_get all x ≡ slice_get own x) ⊎ (1 ≤ times x (done_numbers them))) split stood)),
       )
 
-pub none_placed : (own all : List Outcome) (x : ℕ) (done : List Done) → done ≡ [] → (slice_get all x ≡ slice_get own x) ⊎ (1 ≤ times x (numbers_of done)) → slice_get all x ≡ slice_get own x
+pub none_placed : (own all : List Outcome) (x : ℕ) (done : List Done) → done ≡ [] → (slice_get all x ≡ slice_get own x) ⊎ (1 ≤ times x (done_numbers done)) → slice_get all x ≡ slice_get own x
 none_placed own all x done none (inl stands) = stands
-none_placed own all x done none (inr some) = absurd (omega (arith, some, ap (λ them. times x (numbers_of them)) none))
+none_placed own all x done none (inr some) = absurd (omega (arith, some, ap (λ them. times x (done_numbers them)) none))
 
 -- ---- a share more
 

@@ -15,12 +15,12 @@ use Rattle.replay_workers.specs.declared.view.Terms.{Terms}
 use Rattle.replay_workers.specs.declared.view.Row.{Row}
 use Rattle.replay_workers.specs.declared.view.View.{View}
 use Rattle.replay_workers.specs.Draws.{has_end, times, once_below}
-use Rattle.replay_workers.specs.inside.Rule.{RowEnds, lists, lists_of, draws_of, ended, Knows, IsKept, fresh_row, first_view, with_seat, of_new_seat, row_of, with_number, with_lists, emptied, DrewNumber}
+use Rattle.replay_workers.specs.inside.Rule.{RowEnds, lists, lists_of, draws_of, ended_lists, SaysSo, IsInTurn, fresh_row, first_view, with_seat, of_new_seat, row_of, with_number, with_lists, emptied, DrewNumber}
 use Rattle.replay_workers.proofs.Lists.{sum_set, at_most_sum, sum_joined, sum_of_one, each_set, one_drawn, none_drawn, once_past, within_once, once_at, one_more}
 
 -- no more lists end than there are
-ended_few : (terms : Terms) (views : List View) → sum_by (ended terms.count) views ≤ sum_by lists views
-ended_few terms views = sum_by-le-sum_by (ended terms.count) lists views (λ v. count_by-le-length (λ (row : Row). has_end terms.count row.drawn) v.rows)
+ended_few : (terms : Terms) (views : List View) → sum_by (ended_lists terms.count) views ≤ sum_by lists views
+ended_few terms views = sum_by-le-sum_by (ended_lists terms.count) lists views (λ v. count_by-le-length (λ (row : Row). has_end terms.count row.drawn) v.rows)
 
 abbrev Views : Type 0
 Views = State (Unit {0}) View
@@ -33,7 +33,7 @@ one_row count number = All-cons (RowEnds count) (fresh_row number) [] (none_draw
 one_list : (k number : ℕ) → 0 + cond {A = ℕ} (number == k) 1 0 ≡ cond {A = ℕ} (number == k) 1 0
 one_list k number = omega arith
 
-pub begins : (terms : Terms) → 1 ≤ terms.workers → IsKept terms (opening (0 ∷ []) [] (first_view terms))
+pub begins : (terms : Terms) → 1 ≤ terms.workers → IsInTurn terms (opening (0 ∷ []) [] (first_view terms))
 begins terms some_ = record {
   word = 0;
   made = 1;
@@ -50,12 +50,12 @@ begins terms some_ = record {
     one_seat : (k : ℕ) → 0 + (0 + cond {A = ℕ} (0 == k) 1 0) ≡ once_below 1 k
     one_seat k = omega (arith, one_more 0 k, once_past 0 k (omega arith))
 
-    only : (pass : ℕ) (v : View) → get_elem? (first_view terms ∷ []) pass ≡ some v → Knows terms.count 1 0 pass v
-    only zero v at = subst (Knows terms.count 1 0 0) (some-injective (first_view terms) v at)
+    only : (pass : ℕ) (v : View) → get_elem? (first_view terms ∷ []) pass ≡ some v → SaysSo terms.count 1 0 pass v
+    only zero v at = subst (SaysSo terms.count 1 0 0) (some-injective (first_view terms) v at)
         (record { leads = λ _. (refl, refl); ends = one_row terms.count 0 })
     only (suc pass) v at = absurd (some-ne-none v (sym at))
 
-pub forks : (terms : Terms) (pass : ℕ) (v : View) → v.leads ≡ true → v.made < terms.workers → Splits (IsKept terms) pass v (with_seat v) (of_new_seat v)
+pub forks : (terms : Terms) (pass : ℕ) (v : View) → v.leads ≡ true → v.made < terms.workers → Splits (IsInTurn terms) pass v (with_seat v) (of_new_seat v)
 forks terms pass v leads more s kept at =
     let mine : (pass ≡ kept.first) × (v.made ≡ kept.made) = (kept.passes pass v at).leads leads in
     let made : v.made ≡ kept.made = mine.1 in
@@ -71,14 +71,14 @@ forks terms pass v leads more s kept at =
           ap (λ m. lists_of k (record { leads = false; made = 0; rows = fresh_row m ∷ [] })) made ∙ one_list k kept.made in
           omega (arith, added (lists_of k) refl, kept.each_seat k, new, one_more kept.made k);
       claimed = λ x. same (draws_of x) refl refl ∙ kept.claimed x;
-      within = let before = kept.within in omega (arith, before, same (ended terms.count) refl refl);
-      passes = λ j u at_j. ⊎_elim (λ was. each_set (Knows terms.count (kept.made + 1) kept.first) s.views pass (with_seat v)
+      within = let before = kept.within in omega (arith, before, same (ended_lists terms.count) refl refl);
+      passes = λ j u at_j. ⊎_elim (λ was. each_set (SaysSo terms.count (kept.made + 1) kept.first) s.views pass (with_seat v)
           (record { leads = λ _. (mine.0, ap (λ n. n + 1) made); ends = (kept.passes pass v at).ends })
           (λ i t else at_i. record {
             leads = λ leads_t. absurd (else (((kept.passes i t at_i).leads leads_t).0 ∙ sym mine.0));
             ends = (kept.passes i t at_i).ends;
           }) j u was)
-          (λ is. subst (Knows terms.count (kept.made + 1) kept.first j) is
+          (λ is. subst (SaysSo terms.count (kept.made + 1) kept.first j) is
           (record { leads = λ none. absurd (true≢false (sym none)); ends = one_row terms.count v.made }))
           (at_snoc (set s.views pass (with_seat v)) (of_new_seat v) u j at_j);
     }
@@ -117,11 +117,11 @@ module _ (v : View) (one : v.rows ≡ row_of v.rows ∷ []) where
   lists_of_same : (k word : ℕ) → lists_of k (with_number v word) ≡ lists_of k v
   lists_of_same k word = sym (ap (λ rows. count_by (λ (row : Row). row.number == k) rows) one)
 
-  ended_not : (count : ℕ) → has_end count own ≡ false → ended count v ≡ 0
+  ended_not : (count : ℕ) → has_end count own ≡ false → ended_lists count v ≡ 0
   ended_not count unspent = ap (λ rows. count_by (λ (row : Row). has_end count row.drawn) rows) one ∙ ap (λ b. 0 + cond {A = ℕ} b 1 0) unspent
 
   -- it is one of the lists that end at or past the count, or the number is below
-  ended_more : (count word : ℕ) → count ≤ word → ended count (with_number v word) ≡ 1
+  ended_more : (count word : ℕ) → count ≤ word → ended_lists count (with_number v word) ≡ 1
   ended_more count word past = ap (λ b. 0 + cond {A = ℕ} b 1 0) (list_any-append (λ x. nat_le count x) own (word ∷ []) ∙ or_last (has_end count own))
     where
       or_last : (b : Bool) → (b || (nat_le count word || false)) ≡ true
@@ -142,7 +142,7 @@ module _ (v : View) (one : v.rows ≡ row_of v.rows ∷ []) where
 
 pub draws : (terms : Terms) (slots pass : ℕ) (me : Me (Unit {0}) View) → terms.count < 2 ^ 32 → terms.workers ≤ 32
     → me.0.rows ≡ row_of me.0.rows ∷ [] → has_end terms.count (row_of me.0.rows).drawn ≡ false
-    → Allows (IsKept terms) slots pass me 0 (λ n. (n + 1) % 2 ^ 64) (λ n next. DrewNumber me.0 n next.0 × (next.1 ≡ me.1))
+    → Allows (IsInTurn terms) slots pass me 0 (λ n. (n + 1) % 2 ^ 64) (λ n next. DrewNumber me.0 n next.0 × (next.1 ≡ me.1))
 draws terms slots pass me small few one unspent s kept len at fits = (
   w,
   keeps,
@@ -160,7 +160,7 @@ draws terms slots pass me small few one unspent s kept len at fits = (
       | inl past ↦ let is = ended_more v one terms.count kept.word past.1 in let before = kept.within in omega (arith, before, sum_ended, not_yet, is)
       | inr less ↦ omega (arith, less.1)
     ];
-    passes = each_set (Knows terms.count kept.made kept.first) s.views pass w
+    passes = each_set (SaysSo terms.count kept.made kept.first) s.views pass w
         (record {
           leads = (kept.passes pass v at).leads;
           ends = All-cons (RowEnds terms.count) _ [] (one_drawn terms.count (row_of v.rows).drawn kept.word unspent) (All-nil (RowEnds terms.count));
@@ -185,15 +185,15 @@ draws terms slots pass me small few one unspent s kept len at fits = (
     number : slice_index s.words 0 ≡ kept.word
     number = ap (λ ws. slice_index ws 0) kept.words
 
-    sum_ended : sum_by (ended terms.count) (set s.views pass w) + ended terms.count v ≡ sum_by (ended terms.count) s.views + ended terms.count w
-    sum_ended = sum_set (ended terms.count) s.views pass v w at
+    sum_ended : sum_by (ended_lists terms.count) (set s.views pass w) + ended_lists terms.count v ≡ sum_by (ended_lists terms.count) s.views + ended_lists terms.count w
+    sum_ended = sum_set (ended_lists terms.count) s.views pass v w at
 
-    not_yet : ended terms.count v ≡ 0
+    not_yet : ended_lists terms.count v ≡ 0
     not_yet = ended_not v one terms.count unspent
 
     below : kept.word + 1 < 2 ^ 64
     below =
-        let most : sum_by (ended terms.count) s.views ≤ sum_by lists s.views = ended_few terms s.views in
+        let most : sum_by (ended_lists terms.count) s.views ≤ sum_by lists s.views = ended_few terms s.views in
         let within = kept.within in
         let made = kept.seats in
         let made_few = kept.few in
@@ -210,7 +210,7 @@ draws terms slots pass me small few one unspent s kept len at fits = (
 
 -- ---- a seat takes over the lists of another
 
-pub merges : (terms : Terms) (pass : ℕ) (v : View) (other : ℕ) (w : View) → Joins (IsKept terms) pass v other w (with_lists v w) emptied
+pub merges : (terms : Terms) (pass : ℕ) (v : View) (other : ℕ) (w : View) → Joins (IsInTurn terms) pass v other w (with_lists v w) emptied
 merges terms pass v other w s kept at apart at_other =
     record {
       word = kept.word;
@@ -223,10 +223,10 @@ merges terms pass v other w s kept at apart at_other =
       claimed = λ x. same (draws_of x) (sum_by-append (λ (row : Row). times x row.drawn) v.rows w.rows) refl ∙ kept.claimed x;
       within =
           let before = kept.within in
-          omega (arith, before, same (ended terms.count) (sum_by-append (λ (row : Row). cond {A = ℕ} (has_end terms.count row.drawn) 1 0) v.rows w.rows) refl);
-      passes = each_set (Knows terms.count kept.made kept.first) (set s.views pass both) other emptied
+          omega (arith, before, same (ended_lists terms.count) (sum_by-append (λ (row : Row). cond {A = ℕ} (has_end terms.count row.drawn) 1 0) v.rows w.rows) refl);
+      passes = each_set (SaysSo terms.count kept.made kept.first) (set s.views pass both) other emptied
           (record { leads = λ none. absurd (true≢false (sym none)); ends = All-nil (RowEnds terms.count) })
-          (λ j u _ at_j. each_set (Knows terms.count kept.made kept.first) s.views pass both
+          (λ j u _ at_j. each_set (SaysSo terms.count kept.made kept.first) s.views pass both
           (record {
             leads = (kept.passes pass v at).leads;
             ends = All-append (RowEnds terms.count) v.rows w.rows (kept.passes pass v at).ends (kept.passes other w was).ends;
@@ -257,11 +257,11 @@ no_rows [] none = refl
 no_rows (row ∷ rows) none = absurd (omega (arith, none))
 
 pub tells : (terms : Terms) (words : List ℕ) (slots : List (Unit {0})) (pass : ℕ) (v : View)
-    → terms.workers ≤ length v.rows → Final (Seen (IsKept terms) pass v) words slots
+    → terms.workers ≤ length v.rows → Final (Seen (IsInTurn terms) pass v) words slots
     → (word : ℕ) × (words ≡ word ∷ []) × Told terms v.rows word
 tells terms words slots pass v all_ final =
     let s : Views = final.0 in
-    let kept : IsKept terms s = final.1.0 in
+    let kept : IsInTurn terms s = final.1.0 in
     let at : get_elem? s.views pass ≡ some v = final.1.1 in
     let made = kept.seats in
     let few = kept.few in
@@ -271,7 +271,7 @@ tells terms words slots pass v all_ final =
       record {
         claimed = λ x. sym (sum_of_one (draws_of x) lists (none_of x) s.views pass v at whole) ∙ kept.claimed x;
         few =
-            let most : sum_by (ended terms.count) s.views ≤ sum_by lists s.views = ended_few terms s.views in
+            let most : sum_by (ended_lists terms.count) s.views ≤ sum_by lists s.views = ended_few terms s.views in
             let within = kept.within in
             omega (arith, most, within, made, few);
         ends = (kept.passes pass v at).ends;

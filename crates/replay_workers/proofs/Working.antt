@@ -6,7 +6,7 @@ use Rattle.std.proofs.lemmas.List.Elements.{All-push}
 use Rattle.std.proofs.lemmas.List.Folds.{list_any-append}
 use Rattle.visit_replay.specs.declared.outcome.Outcome.{Outcome}
 use Rattle.replay_workers.specs.Draws.{Pool, Draws, IsOf, has_end, is_spent, with_draw}
-use Rattle.replay_workers.specs.Work.{numbers_of, AreOf, HasDrawn}
+use Rattle.replay_workers.specs.Work.{done_numbers, AreOf, HasDrawn}
 use Rattle.replay_workers.specs.declared.share.Done.{Done}
 
 end_push : (count : ℕ) (drawn : List ℕ) (x : ℕ) → has_end count drawn ≡ false → has_end count (drawn ++ x ∷ []) ≡ has_end count (x ∷ [])
@@ -29,14 +29,14 @@ before_end seat x unspent still = elim (leb_tells seat.count x) [
 pub record IsWorking {V E : Type 0} (items : V → List Done) (own : List Outcome) (pool : Pool) (old seat : Draws) (done : Result V E) : Type 0 where
   pub of : IsOf pool seat
   pub unspent : is_spent seat ≡ false
-  pub done_is : IfOk done (λ some. (seat.drawn ≡ old.drawn ++ numbers_of (items some)) × AreOf own (items some))
+  pub done_is : IfOk done (λ some. (seat.drawn ≡ old.drawn ++ done_numbers (items some)) × AreOf own (items some))
 
 module _ {V E : Type 0} (items : V → List Done) (own : List Outcome) (pool : Pool) (old : Draws) where
   pub begins : (none : V) → IsOf pool old → is_spent old ≡ false → items none ≡ [] → IsWorking {V = V} {E = E} items own pool old old (Ok none)
   begins none of unspent empty = record {
     of = of;
     unspent = unspent;
-    done_is = (sym (ap (λ done. old.drawn ++ numbers_of done) empty ∙ append-nil old.drawn), none_of (items none) empty);
+    done_is = (sym (ap (λ done. old.drawn ++ done_numbers done) empty ∙ append-nil old.drawn), none_of (items none) empty);
   }
     where
       none_of : (done : List Done) → done ≡ [] → AreOf own done
@@ -49,7 +49,7 @@ module _ {V E : Type 0} (items : V → List Done) (own : List Outcome) (pool : P
   ends seat (Ok some) x working spent same = record {
     last = x;
     past = let past = past_end seat x working.unspent spent in omega (arith, past, same);
-    drawn = ap (λ drawn. drawn ++ x ∷ []) working.done_is.0 ∙ append_assoc old.drawn (numbers_of (items some)) (x ∷ []);
+    drawn = ap (λ drawn. drawn ++ x ∷ []) working.done_is.0 ∙ append_assoc old.drawn (done_numbers (items some)) (x ∷ []);
     outcomes = working.done_is.1;
   }
 
@@ -59,13 +59,13 @@ module _ {V E : Type 0} (items : V → List Done) (own : List Outcome) (pool : P
       → IsWorking items own pool old (with_draw seat x) more
   goes_on seat done x more working still of added = record { of = of; unspent = still; done_is = with_more more done working.done_is added }
     where
-      with_more : (more done : Result V E) → IfOk done (λ some. (seat.drawn ≡ old.drawn ++ numbers_of (items some)) × AreOf own (items some))
+      with_more : (more done : Result V E) → IfOk done (λ some. (seat.drawn ≡ old.drawn ++ done_numbers (items some)) × AreOf own (items some))
           → IfOk more (λ more. IsOkAnd done (λ some. (one : Done) × (items more ≡ items some ++ one ∷ []) × (one.number ≡ x) × (slice_get own x ≡ Some one.outcome)))
-          → IfOk more (λ more. (seat.drawn ++ x ∷ [] ≡ old.drawn ++ numbers_of (items more)) × AreOf own (items more))
+          → IfOk more (λ more. (seat.drawn ++ x ∷ [] ≡ old.drawn ++ done_numbers (items more)) × AreOf own (items more))
       with_more (Err e) done was one = tt
       with_more (Ok more) (Err e) was one = absurd one
       with_more (Ok more) (Ok some) was (one, are, number, outcome) = (
-        ap (λ drawn. drawn ++ x ∷ []) was.0 ∙ append_assoc old.drawn (numbers_of (items some)) (x ∷ [])
-            ∙ ap (λ numbers. old.drawn ++ numbers) (ap (λ n. numbers_of (items some) ++ n ∷ []) (sym number) ∙ sym (map-append (λ o. o.number) (items some) (one ∷ [])) ∙ ap numbers_of (sym are)),
+        ap (λ drawn. drawn ++ x ∷ []) was.0 ∙ append_assoc old.drawn (done_numbers (items some)) (x ∷ [])
+            ∙ ap (λ numbers. old.drawn ++ numbers) (ap (λ n. done_numbers (items some) ++ n ∷ []) (sym number) ∙ sym (map-append (λ o. o.number) (items some) (one ∷ [])) ∙ ap done_numbers (sym are)),
         subst (AreOf own) (sym are) (All-push (λ (o : Done). slice_get own o.number ≡ Some o.outcome) (items some) one was.1 (ap (slice_get own) number ∙ outcome)),
       )

@@ -12,8 +12,8 @@ use Rattle.replay_workers.specs.declared.share.Share.{Share}
 abbrev pub own_outcomes : (List ℕ → Option Tree) → (List ℕ → Tree → Tree → Bool) → List (List ℕ) → List Visit → List Outcome
 own_outcomes page_of signals patch visits = map (outcome page_of signals patch) visits
 
-abbrev pub numbers_of : List Done → List ℕ
-numbers_of done = map (λ one. one.number) done
+abbrev pub done_numbers : List Done → List ℕ
+done_numbers done = map (λ one. one.number) done
 
 -- each of these is the outcome at its number
 abbrev pub AreOf : List Outcome → List Done → Type 0
@@ -23,7 +23,7 @@ AreOf own done = All (λ one. slice_get own one.number ≡ Some one.outcome) don
 pub record HasDrawn (own : List Outcome) (old new : Draws) (done : List Done) : Type 0 where
   pub last : ℕ
   pub past : old.count ≤ last
-  pub drawn : new.drawn ≡ old.drawn ++ (numbers_of done ++ last ∷ [])
+  pub drawn : new.drawn ≡ old.drawn ++ (done_numbers done ++ last ∷ [])
   pub outcomes : AreOf own done
 
 -- The share of a worker with that seat: it drew until it was spent, and where memory sufficed, it has the outcomes at its numbers below the count.

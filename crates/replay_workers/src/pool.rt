@@ -7,7 +7,7 @@ ghost use Rattle.visit_replay.specs.declared.outcome.Outcome.{Outcome as AnOutco
 ghost use Rattle.visit_replay.specs.declared.outcome.Outcome.TheVariants.{Untouched};
 ghost use Rattle.replay_workers.specs.Draws.{Pool, IsFreshOf, times};
 ghost use Rattle.replay_workers.specs.Limits.{AreWorkers};
-ghost use Rattle.replay_workers.specs.Work.{own_outcomes, numbers_of, AreOf, IsShare};
+ghost use Rattle.replay_workers.specs.Work.{own_outcomes, done_numbers, AreOf, IsShare};
 ghost use Rattle.replay_workers.specs.inside.Shares.{IsWorked, AreBack, IsPlaced};
 ghost use Rattle.replay_workers.specs.declared.fault.PoolFault.TheVariants.{BadWorkers, NoMemory};
 
@@ -105,7 +105,7 @@ fn place_all(
 // Puts these outcomes at their places.
 fn place(all: &mut [Outcome], done: Vec<Done>)
     requires { All (λ one. one.number < length all.old) done.items }
-    ensures { (own : List AnOutcome) (x : ℕ) → AreOf own done.items → (slice_get all.old x ≡ slice_get own x) ⊎ (1 ≤ times x (numbers_of done.items)) → slice_get all.new x ≡ slice_get own x }
+    ensures { (own : List AnOutcome) (x : ℕ) → AreOf own done.items → (slice_get all.old x ≡ slice_get own x) ⊎ (1 ≤ times x (done_numbers done.items)) → slice_get all.new x ≡ slice_get own x }
 {
     let mut done = done;
     while let Some(one) = done.pop() {

@@ -5,9 +5,9 @@ use atomic_table::{Join, Play, Split, TableRule};
 pub(crate) struct InTurn;
 
 impl TableRule<(), View, Terms> for InTurn {
-    ghost use Rattle.replay_workers.specs.inside.Rule.{IsKept, first_view};
+    ghost use Rattle.replay_workers.specs.inside.Rule.{IsInTurn, first_view};
 
-    ghost holds = { IsKept };
+    ghost holds = { IsInTurn };
 
     ghost first = { first_view };
 }

@@ -24,8 +24,8 @@ abbrev pub draws_of : ℕ → View → ℕ
 draws_of x v = sum_by (λ row. times x row.drawn) v.rows
 
 -- how many of its lists have a number at or past the count
-abbrev pub ended : ℕ → View → ℕ
-ended count v = count_by (λ row. has_end count row.drawn) v.rows
+abbrev pub ended_lists : ℕ → View → ℕ
+ended_lists count v = count_by (λ row. has_end count row.drawn) v.rows
 
 -- a number at or past the count is a list's last
 abbrev pub RowEnds : ℕ → Row → Type 0
@@ -34,11 +34,11 @@ RowEnds count row = EndsOnce count row.drawn
 -- ---- of all views
 
 -- what a view says is so, where so many seats were made, and this is the pass of the first
-pub record Knows (count made first pass : ℕ) (v : View) : Type 0 where
+pub record SaysSo (count made first pass : ℕ) (v : View) : Type 0 where
   pub leads : v.leads ≡ true → (pass ≡ first) × (v.made ≡ made)
   pub ends : All (RowEnds count) v.rows
 
-pub record IsKept (terms : Terms) (s : State (Unit {0}) View) : Type 0 where
+pub record IsInTurn (terms : Terms) (s : State (Unit {0}) View) : Type 0 where
   pub word : ℕ
   pub made : ℕ
   pub first : ℕ
@@ -49,8 +49,8 @@ pub record IsKept (terms : Terms) (s : State (Unit {0}) View) : Type 0 where
   pub each_seat : (k : ℕ) → sum_by (lists_of k) s.views ≡ once_below made k
   -- the numbers below the word were drawn, each once, and no others
   pub claimed : (x : ℕ) → sum_by (draws_of x) s.views ≡ once_below word x
-  pub within : word ≤ terms.count + sum_by (ended terms.count) s.views
-  pub passes : (pass : ℕ) (v : View) → get_elem? s.views pass ≡ some v → Knows terms.count made first pass v
+  pub within : word ≤ terms.count + sum_by (ended_lists terms.count) s.views
+  pub passes : (pass : ℕ) (v : View) → get_elem? s.views pass ≡ some v → SaysSo terms.count made first pass v
 
 -- ---- the steps
 

@@ -3,7 +3,7 @@ use Rattle.std.specs.Prelude.{ℕ, ◌≡◌, ◌<◌, ◌≤◌, List, ◌∷�
 use Rattle.std.specs.List.{sum_by}
 use Rattle.visit_replay.specs.declared.outcome.Outcome.{Outcome}
 use Rattle.replay_workers.specs.Draws.{Pool, Draws, IsOf, is_spent, times}
-use Rattle.replay_workers.specs.Work.{numbers_of, AreOf}
+use Rattle.replay_workers.specs.Work.{done_numbers, AreOf}
 use Rattle.replay_workers.specs.declared.share.Done.{Done}
 use Rattle.replay_workers.specs.declared.share.Share.{Share}
 
@@ -11,7 +11,7 @@ use Rattle.replay_workers.specs.declared.share.Share.{Share}
 pub record HasAll (own : List Outcome) (pool : Pool) (seat : Draws) (done : List Done) : Type 0 where
   pub last : ℕ
   pub past : pool.count ≤ last
-  pub drawn : seat.drawn ≡ numbers_of done ++ last ∷ []
+  pub drawn : seat.drawn ≡ done_numbers done ++ last ∷ []
   pub outcomes : AreOf own done
 
 -- the share of a worker with a fresh seat
