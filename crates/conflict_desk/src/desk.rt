@@ -1,10 +1,10 @@
 //! A desk with the dockets of several clients.
-ghost use Rattle.std.specs.Prelude.{ℕ, ◌≡◌, ◌≢◌, ◌<◌, ◌+◌, ◌≤◌, List, length, option_map, Option, Some, None, bytes_eq, ◌↔◌, slice_get, IfOk, IfErr, OnOk};
+ghost use Rattle.std.specs.Prelude.{ℕ, ◌≡◌, ◌≢◌, ◌<◌, ◌+◌, ◌≤◌, List, length, option_map, Option, Some, None, bytes_eq, ◌↔◌, slice_get, IfOk, IfErr, IfSome, OnOk};
 ghost use Rattle.indexmap.specs.IndexMap.{values, spare, insert_entry, set_value_at};
 ghost use Rattle.conflict_desk.specs.Book.{Book, front_visit, with_decision};
 ghost use Rattle.conflict_desk.specs.Desk.{AreDockets, opened_all, book_of, standing_on, outcome_on, requests_on, refusal, front_on, decided_on, Call, after_calls};
 ghost use Rattle.conflict_desk.specs.Laws.{AllLeaveInOrder, StayAsTheyLeft, IsBelowCancelled};
-ghost use Rattle.conflict_desk.specs.Docket.{case_of_visit};
+ghost use Rattle.conflict_desk.specs.Docket.{AreAscending, case_of_visit};
 ghost use Rattle.conflict_desk.specs.declared.docket.Case.{Case as OneCase};
 ghost use Rattle.conflict_desk.specs.declared.decided.Standing.TheVariants.{Cancelled};
 ghost use Rattle.conflict_desk.specs.declared.fault.DeskFault.TheVariants.{NotFront, NoMemory};
@@ -107,7 +107,8 @@ impl Desk {
 
     /// A client's cases, as they were opened.
     pub fn cases(&self, client: &Client) -> Option<&[Case]>
-        ensures { option_map (λ cases. cases.now) result ≡ option_map (λ book. book.cases) (book_of client.now self.now) }
+        ensures cases { option_map (λ cases. cases.now) result ≡ option_map (λ book. book.cases) (book_of client.now self.now) }
+        ensures ascend { IfSome result (λ cases. AreAscending cases.now) }
     {
         Some(self.dockets.get(client)?.cases())
     }

@@ -66,7 +66,8 @@ impl OpenDocket {
     }
 
     pub(crate) fn cases(&self) -> &[Case]
-        ensures { result.now ≡ self.now.cases }
+        ensures cases { result.now ≡ self.now.cases }
+        ensures ascend { AreAscending result.now }
     {
         self.cases.as_slice()
     }
