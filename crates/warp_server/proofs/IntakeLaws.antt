@@ -10,15 +10,15 @@ use Rattle.upload_reader.specs.Upload as upload
 use Rattle.upload_reader.specs.Upload.{UploadState, Begins}
 use Rattle.upload_reader.specs.declared.hello_fault.HelloFault.{HelloFault}
 use Rattle.upload_reader.specs.declared.hello_fault.HelloFault.TheVariants as hello
-use Rattle.warp_server.specs.site.Site.{Site as PlainSite, IsJsonOf, IsSiteOf}
+use Rattle.site_line.specs.Site.{Site as PlainSite, IsJsonOf, IsSiteOf}
 use Rattle.warp_server.specs.program.Run.{site_line, max_site_bytes, HasBadHello, Reads, ReadWhileUndecided}
 use Rattle.warp_server.specs.inside.Intake.{IsFresh, IsBehindSite, IsRefused, bad_site, no_hello}
 use Rattle.warp_server.specs.inside.Answering.{IsUnread}
 use Rattle.warp_server.specs.declared.program.intake.Refused.{Refused}
 use Rattle.warp_server.specs.declared.program.intake.Refused.TheVariants as refused
-use Rattle.warp_server.specs.declared.site.Site.{Site}
-use Rattle.warp_server.specs.declared.site.fault.SiteFault.{SiteFault}
-use Rattle.warp_server.specs.declared.site.fault.SiteFault.TheVariants as site_fault
+use Rattle.site_line.specs.declared.site.Site.{Site}
+use Rattle.site_line.specs.declared.fault.SiteFault.{SiteFault}
+use Rattle.site_line.specs.declared.fault.SiteFault.TheVariants as site_fault
 use Rattle.warp_server.proofs.NeededLaws.{goes_nowhere, site_later}
 
 -- ---- the site line

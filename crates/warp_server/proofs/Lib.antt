@@ -1,7 +1,8 @@
-pub mod SiteSteps
-pub mod SiteLaws
 pub mod OpeningLaws
 pub mod NeededLaws
 pub mod OnlyLaws
 pub mod IntakeLaws
 pub mod RunLaws
+pub mod RepairLaws
+pub mod ReportLaws
+pub mod HeadlineLaws

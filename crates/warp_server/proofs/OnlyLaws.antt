@@ -14,7 +14,8 @@ use Rattle.upload_lanes.specs.declared.gathered.LaneResult.{LaneResult}
 use Rattle.upload_lanes.specs.declared.gathered.Stop.{Stop}
 use Rattle.upload_lanes.specs.declared.gathered.Stop.TheVariants as stops
 use Rattle.upload_lanes.proofs.OneLane.{one_lane}
-use Rattle.warp_server.specs.inside.Answering.{never, IsWhole}
+use Rattle.warp_server.specs.Answer.{never}
+use Rattle.warp_server.specs.inside.Answering.{IsWhole, HasOnlyUpload}
 
 -- ---- a question that allows no more
 
@@ -77,9 +78,16 @@ module _ {R : Type 0} (upload : UploadState R) (quota : ℕ) where
   whole_lane gathered (earlier, empty, g) =
       let one = one_lane never (get bytes_eq earlier.clients) quota upload g.lanes gathered.stop g.taken in
       record {
-        client = one.lane.0;
         lane = one.lane.1;
-        only = record { entries_are = g.clients_are ∙ one_entry (λ entry. (entry.0, rested entry.1)) earlier.clients.entries g.lanes one.lane empty one.lanes_are };
+        only = record {
+          entries_are =
+              g.clients_are
+              ∙ one_entry (λ entry. (entry.0, rested entry.1)) earlier.clients.entries g.lanes one.lane empty one.lanes_are
+              ∙ ap (λ client. (client, one.lane.1) ∷ []) one.is_lane.client;
+        };
         is_taken = taken_new (get bytes_eq earlier.clients upload.client) one.lane.1 (ap (lookup (bytes_eq upload.client)) empty) one.is_lane.is_taken;
         ends = ended_by one.lane gathered.stop one.stops_so;
       }
+
+  abbrev pub has_only : (gathered : Gathered R) → IsWhole upload quota gathered → HasOnlyUpload gathered
+  has_only gathered whole = record { client = upload.client; lane = whole.lane; now = whole.is_taken.now; only = whole.only; upload_is = whole.is_taken.upload_is }

@@ -18,7 +18,7 @@ use Rattle.upload_reader.specs.declared.hello_fault.HelloFault.TheVariants.{Line
 use Rattle.upload_reader.specs.declared.lane_fault.LaneFault.{LaneFault}
 use Rattle.upload_reader.specs.declared.lane_fault.LaneFault.TheVariants.{LineTooLong as TooLong}
 use Rattle.upload_reader.proofs.FrontLaws.{taken_unique}
-use Rattle.warp_server.specs.site.Site.{Site}
+use Rattle.site_line.specs.Site.{Site}
 use Rattle.warp_server.specs.program.Run.{max_site_bytes, behind, HasSite, Opening, OpensBy, lane_place}
 
 -- ---- greetings

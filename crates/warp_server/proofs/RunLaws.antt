@@ -1,7 +1,7 @@
 -- What a run does, by what was read and written.
 use Rattle.std.proofs.Common.{◌≡◌, ℕ, List, [], ◌∷◌, ◌++◌, length, map, take, drop, Bool, false, ◌||◌, if◌then◌else◌, true≢false, Option, Some, None, refl, sym, ap, subst, ◌∙◌, inl, inr, ◌⊎◌}
-use Rattle.std.specs.Prelude.{IsSome, IfSome}
-use Rattle.std.specs.List.{list_any}
+use Rattle.std.specs.Prelude.{IsSome, IfSome, Result, Ok, Err}
+use Rattle.std.specs.List.{list_any, zip}
 use Rattle.std.proofs.lemmas.List.{length-take-le, take-append-drop}
 use Rattle.std.proofs.Math.Seq.{take-length}
 use Rattle.byte_streams.specs.Answers.{Answer, bytes_of}
@@ -24,13 +24,22 @@ use Rattle.visit_replay.specs.Form.{bare}
 use Rattle.visit_replay.specs.Outcome.{outcome, on_page}
 use Rattle.visit_replay.specs.declared.outcome.Outcome.{Outcome}
 use Rattle.visit_replay.specs.declared.outcome.Outcome.TheVariants.{Untouched}
-use Rattle.warp_server.specs.site.Site.{Site as PlainSite, page_of, signals_of}
-use Rattle.warp_server.specs.site.Reading.{Stands, site_patch, site_table, site_quota}
+use Rattle.visit_replay.specs.Following.{Replayed, following}
+use Rattle.conflict_desk.specs.Desk.{opened_all}
+use Rattle.conflict_desk.specs.declared.docket.Case.{Case}
+use Rattle.site_line.specs.Site.{Site as PlainSite, page_of, signals_of}
+use Rattle.site_line.specs.Reading.{AnswersAs, site_patch, site_table, site_quota, site_decisions}
 use Rattle.upload_lanes.specs.Lane.{EndsWith}
-use Rattle.warp_server.specs.report.Report.{visit_report, report_text}
-use Rattle.warp_server.specs.program.Run.{client_of, visit_of, Opening, OpensBy, lane_behind, lane_place, AreAll, AreFirst, IsReportOf, HasReport, HasShortReport, IsShort, Reads, Writes, WritesPart, WritesNothing, Meets}
-use Rattle.warp_server.specs.inside.Answering.{IsOpened, IsWhole, HasText, IsUnread, IsAnswered, gave_up, status_by, status_of, refused_status}
-use Rattle.warp_server.specs.inside.Reported.{replayed_by, report_of_visit, lane_report, gathered_report}
+use Rattle.warp_server.specs.Answer.{site_settled}
+use Rattle.warp_server.specs.Repair.{as_case, cases_of, docket_for, summary_of}
+use Rattle.warp_server.specs.Report.{report_text, WritesNothing, WritesReport}
+use Rattle.warp_server.specs.Settle.{settled}
+use Rattle.warp_server.specs.declared.repaired.ClientSummary.{ClientSummary}
+use Rattle.warp_server.specs.declared.repaired.Repaired.{Repaired}
+use Rattle.warp_server.specs.declared.reporting.fault.ReportFault.{ReportFault}
+use Rattle.warp_server.specs.declared.reporting.fault.ReportFault.TheVariants as report_fault
+use Rattle.warp_server.specs.program.Run.{repaired_by, Opening, OpensBy, lane_behind, lane_place, AreAll, AreFirst, IsReportOf, HasReport, HasShortReport, IsShort, Reads, Writes, WritesPart, Meets}
+use Rattle.warp_server.specs.inside.Answering.{IsOpened, IsWhole, HasText, IsUnread, IsAnswered, gave_up, status_by, status_of, refused_status, written_status}
 use Rattle.upload_lanes.specs.declared.gathered.Gathered.{Gathered}
 use Rattle.upload_lanes.specs.declared.gathered.LaneResult.{LaneResult}
 use Rattle.upload_lanes.specs.declared.gathered.Stop.{Stop}
@@ -39,7 +48,7 @@ use Rattle.warp_server.specs.declared.program.intake.Refused.{Refused}
 use Rattle.warp_server.specs.declared.program.intake.Refused.TheVariants as refused
 use Rattle.warp_server.specs.declared.program.status.Status.{Status}
 use Rattle.warp_server.specs.declared.program.status.Status.TheVariants.{Done, BadSite, BadHello, OutOfMemory, InputOutput}
-use Rattle.warp_server.specs.declared.site.Site.{Site}
+use Rattle.site_line.specs.declared.site.Site.{Site}
 use Rattle.warp_server.proofs.NeededLaws.{goes_nowhere, opening, opens_later, lane_needed}
 use Rattle.warp_server.proofs.IntakeLaws.{given_back}
 use Rattle.upload_lanes.proofs.LaneSteps.{shorter_front}
@@ -52,28 +61,39 @@ outcome_by affected page watched visit = if affected then on_page visit (λ new.
 same_by : (affected affected' : Bool) (page page' : Option Tree) (watched watched' : List (List Step)) (visit : Visit) → affected ≡ affected' → page ≡ page' → watched ≡ watched' → outcome_by affected page watched visit ≡ outcome_by affected' page' watched' visit
 same_by affected affected' page page' watched watched' visit a p w = rw (a, p, w) refl
 
-same_outcome : (site : Site) (plain : PlainSite) (visit : Visit) → Stands site plain
+same_outcome : (site : Site) (plain : PlainSite) (visit : Visit) → AnswersAs site plain
     → outcome (table_page (site_table site)) (λ address. signals_in (site_table site)) (site_patch site) visit ≡ outcome (page_of plain) (λ address. signals_of plain) plain.patched visit
 same_outcome site plain visit stands = same_by _ _ _ _ _ _ visit (stands.patched (bare visit.address)) (stands.pages visit.address) stands.watched
 
-same_visits : (site : Site) (plain : PlainSite) (visits : List Visit) → Stands site plain
-    → map report_of_visit (map (replayed_by (table_page (site_table site)) (λ address. signals_in (site_table site)) (site_patch site)) visits) ≡ map (visit_of plain) visits
-same_visits site plain [] stands = refl
-same_visits site plain (visit ∷ visits) stands =
-    let here : visit_report visit.number (outcome (table_page (site_table site)) (λ address. signals_in (site_table site)) (site_patch site) visit) ≡ visit_of plain visit = ap (visit_report visit.number) (same_outcome site plain visit stands) in
-    rw (here, same_visits site plain visits stands) refl
+abbrev with_own : (List ℕ → Option Tree) → (List ℕ → Tree → Tree → Bool) → List (List ℕ) → Visit → Replayed
+with_own page_of signals patch visit = (visit, outcome page_of signals patch visit)
 
--- ---- the report of what was taken is that of the input
+same_own : (site : Site) (plain : PlainSite) (visits : List Visit) → AnswersAs site plain
+    → map (with_own (table_page (site_table site)) (λ address. signals_in (site_table site)) (site_patch site)) visits ≡ map (with_own (page_of plain) (λ address. signals_of plain) plain.patched) visits
+same_own site plain [] stands = refl
+same_own site plain (visit ∷ visits) stands = rw (same_outcome site plain visit stands, same_own site plain visits stands) refl
 
-same_lane : {R : Type 0} (site : Site) (plain : PlainSite) (lane : LaneResult R) (client : List ℕ) (messages : List Costed) → Stands site plain → lane.log.client ≡ client
-    → lane.taken ≡ length messages → lane.log.log ≡ kept (site_quota site) messages → lane_report site lane ≡ client_of plain client (length messages) lane.end (kept plain.quota messages)
-same_lane site plain lane client messages stands clients takens logs =
+same_cases : (site : Site) (plain : PlainSite) (visits : List Visit) → AnswersAs site plain
+    → cases_of (table_page (site_table site)) (λ address. signals_in (site_table site)) (site_patch site) visits ≡ cases_of (page_of plain) (λ address. signals_of plain) plain.patched visits
+same_cases site plain visits stands = ap (λ own. map as_case (zip visits (map (λ one. one.1) (following own)))) (same_own site plain visits stands)
+
+-- ---- what is made of what was taken is that of the input
+
+-- with one client
+abbrev one_client : Stop → ClientSummary → List ℕ × List Case → Repaired
+one_client stop summary (client, cases) = record { stop = stop; clients = summary ∷ []; desk = opened_all (record { client = client; cases = cases } ∷ []); decided = [] }
+
+same_repaired : {R : Type 0} (site : Site) (plain : PlainSite) (lane : LaneResult R) (client : List ℕ) (stop : Stop) (messages : List Costed) (end : Option Ending) → AnswersAs site plain
+    → lane.taken ≡ length messages → lane.log.log ≡ kept (site_quota site) messages → lane.end ≡ end
+    → settled (site_decisions site) (one_client stop (summary_of (client, lane)) (client, cases_of (table_page (site_table site)) (λ address. signals_in (site_table site)) (site_patch site) lane.log.log.visits))
+    ≡ repaired_by plain stop client messages end
+same_repaired site plain lane client stop messages end stands takens logs ends =
     let log : lane.log.log ≡ kept plain.quota messages = rw (← stands.quota) logs in
-    let visits = same_visits site plain lane.log.log.visits stands in
-    rw (visits, clients, takens, log) refl
+    let cases = same_cases site plain lane.log.log.visits stands in
+    rw (cases, stands.decisions, takens, log, ends) refl
 
 module _ {R : Type 0} (fresh : Reading R) (site : Site) (upload : UploadState R) (opened : IsOpened fresh site upload) (gathered : Gathered R) (whole : IsWhole upload (site_quota site) gathered)
-    (text : List ℕ) (text_is : text ≡ report_text (gathered_report site gathered)) where
+    (text : List ℕ) (text_is : text ≡ report_text (site_settled site gathered)) where
   abbrev lane : LaneResult R
   lane = whole.lane
 
@@ -102,9 +122,14 @@ module _ {R : Type 0} (fresh : Reading R) (site : Site) (upload : UploadState R)
   count : lane.taken ≡ length messages
   count = sym (length-take-le lane.taken now.given whole.is_taken.some)
 
-  same_client : lane_report site lane ≡ client_of opened.behind.plain upload.client (length messages) lane.end (kept opened.behind.plain.quota messages)
-  same_client =
-      same_lane site opened.behind.plain lane upload.client messages opened.behind.stands whole.is_taken.goes_on.client count kept_is
+  -- what the code makes of what was gathered, by its entries
+  abbrev made_of : Stop → List (List ℕ × LaneResult R) → Repaired
+  made_of stop entries = settled (site_decisions site) record {
+    stop = stop;
+    clients = map summary_of entries;
+    desk = opened_all (map (docket_for (table_page (site_table site)) (λ address. signals_in (site_table site)) (site_patch site)) entries);
+    decided = [];
+  }
 
   abbrev reported : (stop : Stop) (end : Option Ending) → gathered.stop ≡ stop → lane.end ≡ end → IsReportOf read ending stop messages end text
   reported stop end stops ends = record {
@@ -112,10 +137,9 @@ module _ {R : Type 0} (fresh : Reading R) (site : Site) (upload : UploadState R)
     opens = opens.0;
     text_is =
         text_is
-        ∙ ap (λ entries. report_text (record { stop = gathered.stop; clients = map (lane_report site) (map (λ entry. entry.1) entries) })) whole.only.entries_are
-        ∙ ap (λ client. report_text (record { stop = gathered.stop; clients = client ∷ [] })) same_client
-        ∙ ap (λ s. report_text (record { stop = s; clients = client_of begun.site begun.client (length messages) lane.end (kept begun.site.quota messages) ∷ [] })) stops
-        ∙ ap (λ e. report_text (record { stop = stop; clients = client_of begun.site begun.client (length messages) e (kept begun.site.quota messages) ∷ [] })) ends;
+        ∙ ap (λ entries. report_text (made_of gathered.stop entries)) whole.only.entries_are
+        ∙ ap (λ s. report_text (made_of s ((upload.client, lane) ∷ []))) stops
+        ∙ ap report_text (same_repaired site opened.behind.plain lane upload.client stop messages end opened.behind.stands count kept_is ends);
   }
 
   of_lane : (P : Lane → ℕ → Type 0) → P now.lane now.start → P (lane_behind begun) (lane_place begun read)
@@ -190,7 +214,7 @@ module _ {R : Type 0} (answers : R → List Answer) (remaining : R → Option (L
   pub same_reader : after.lines.first ≡ fresh.first
   same_reader = whole.is_taken.own.reads.first ∙ opened.begins.reads.first ∙ opened.first
 
-  pub answered : (text : List ℕ) → text ≡ report_text (gathered_report site gathered) → (reader : R) → WasRead answers remaining after.lines.first reader after.lines.answers → StopsAtEnd after.lines.answers
+  pub answered : (text : List ℕ) → text ≡ report_text (site_settled site gathered) → (reader : R) → WasRead answers remaining after.lines.first reader after.lines.answers → StopsAtEnd after.lines.answers
       → IsAnswered (answers fresh.first) (answers reader) (remaining fresh.first) (remaining reader) (status_of gathered) text
   answered text is reader read ends =
       given_back answers remaining fresh.first reader after.lines same_reader read
@@ -227,3 +251,10 @@ module _ (reads reads' : List Answer) (left left' : Option (List ℕ)) (puts put
   nothing_written refused.NoSite unread nothing = (nothing, unread)
   nothing_written refused.NoHello unread nothing = (nothing, unread)
   nothing_written refused.NoMemory unread nothing = inl nothing
+
+  -- by what became of the report
+  pub report_met : (status : Status) (text : List ℕ) (report : Result (Unit {0}) ReportFault) → IsAnswered reads reads' left left' status text → WritesReport puts puts' contents contents' text report
+      → Meets reads reads' left left' puts puts' contents contents' (written_status status report)
+  report_met status text (Ok done) told takes = whole_written status text told takes
+  report_met status text (Err report_fault.WriteFailed) told takes = inr (part_written status text told takes)
+  report_met status text (Err report_fault.NoMemory) told nothing = inl nothing

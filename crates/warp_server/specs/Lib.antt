@@ -1,4 +1,7 @@
-pub mod site
-pub mod report
+pub mod Repair
+pub mod Settle
+pub mod Report
+pub mod Answer
+pub mod Headline
 pub mod program
 pub mod inside

@@ -1,4 +1,2 @@
-pub mod SiteMembers
-pub mod Reported
-pub mod Intake
 pub mod Answering
+pub mod Intake

@@ -1,18 +1,34 @@
 //! The replay server: a site line and an upload come in, a report goes out.
 //!
-//! `run` is the whole of it, for any reader and any writer. Its contract says which report was written, or which fault the input has.
+//! Uploads are taken (`upload_lanes`), `repair` replays what is kept of them, `settle` puts the administrator's decisions to the desk, and `report` writes
+//! what became of it all. `answer` is all of these for any number of uploads, and carries what the server promises (`specs/Headline.antt`). `run` is the
+//! program: its contract says which report was written, or which fault the input has, by what its reads gave.
 #![tactic(auto)]
 
-// Data goes through `site`, the lanes of `upload_lanes`, `repair` and `report`, by `program`.
+// Data goes through `repairing`, `settling` and `reporting`, by `program`.
+mod listed;
 mod program;
-mod repair;
-mod report;
-mod site;
+mod repaired;
+mod repairing;
+mod reporting;
+mod settling;
 
 pub use byte_streams::{Sink, Told};
-pub use program::{CallFault, Status, accept_call, run};
-pub use site::{Site, SiteFault};
+pub use listed::Listed;
+pub use program::{Answered, CallFault, Status, accept_call, answer, run};
+pub use repaired::{ClientSummary, PutDecision, Repaired};
+pub use repairing::repair;
+pub use reporting::{ReportFault, report};
+pub use settling::settle;
+pub use site_line::{Decision, Site, SiteFault};
 pub use upload_lanes::{
     Again, GatherFault, Gathered, LaneResult, Stop, gather, gather_again, gather_again_in_order,
     gather_in_order,
 };
+
+#[cfg(test)]
+mod fixtures;
+#[cfg(test)]
+mod repairing_tests;
+#[cfg(test)]
+mod settling_tests;

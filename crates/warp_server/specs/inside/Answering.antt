@@ -1,5 +1,5 @@
 -- What a run makes of the upload that it reads.
-use Rattle.std.specs.Prelude.{◌≡◌, ℕ, List, [], ◌∷◌, Bool, true, false, if◌then◌else◌, Option, Some, None, IsSome, ◌⊎◌}
+use Rattle.std.specs.Prelude.{◌≡◌, ℕ, List, [], ◌∷◌, Bool, true, false, if◌then◌else◌, Option, Some, None, IsSome, Result, Ok, Err, ◌⊎◌}
 use Rattle.std.specs.List.{list_any}
 use Rattle.byte_streams.specs.Answers.{Answer}
 use Rattle.byte_streams.specs.Reading.{Reading}
@@ -20,17 +20,15 @@ use Rattle.warp_server.specs.declared.program.intake.Refused.{Refused}
 use Rattle.warp_server.specs.declared.program.intake.Refused.TheVariants.{ReadFailed, NoSite, NoHello, NoMemory}
 use Rattle.warp_server.specs.declared.program.status.Status.{Status}
 use Rattle.warp_server.specs.declared.program.status.Status.TheVariants.{Done, BadSite, BadHello, OutOfMemory, InputOutput}
-use Rattle.warp_server.specs.declared.site.Site.{Site}
+use Rattle.site_line.specs.declared.site.Site.{Site}
+use Rattle.warp_server.specs.declared.reporting.fault.ReportFault.{ReportFault}
+use Rattle.warp_server.specs.declared.reporting.fault.ReportFault.TheVariants as report_fault
 
 -- ---- how a run ends
 
 abbrev pub gave_up : Option Ending → Bool
 gave_up (Some GaveUp) = true
 gave_up other = false
-
--- a question that no number of items answers by true
-abbrev pub never : ℕ → Bool → Type 0
-never items answer = answer ≡ false
 
 module _ {R : Type 0} where
   abbrev pub status_of_lanes : List (LaneResult R) → Status
@@ -50,11 +48,18 @@ module _ {R : Type 0} where
   pub record IsOnly (gathered : Gathered R) (client : List ℕ) (lane : LaneResult R) : Type 0 where
     pub entries_are : gathered.clients.entries ≡ (client, lane) ∷ []
 
-  -- the lane of that upload was taken to its end, or until memory was refused
-  pub record IsWhole (upload : UploadState R) (quota : ℕ) (gathered : Gathered R) : Type 0 where
+  -- a lane alone was gathered, and it has its upload
+  pub record HasOnlyUpload (gathered : Gathered R) : Type 0 where
     pub client : List ℕ
     pub lane : LaneResult R
+    pub now : UploadState R
     pub only : IsOnly gathered client lane
+    pub upload_is : lane.upload ≡ Some now
+
+  -- the lane of that upload was taken to its end, or until memory was refused
+  pub record IsWhole (upload : UploadState R) (quota : ℕ) (gathered : Gathered R) : Type 0 where
+    pub lane : LaneResult R
+    pub only : IsOnly gathered upload.client lane
     pub is_taken : IsTaken (new_log quota upload.client) upload lane
     pub ends : ((gathered.stop ≡ stops.None) × IsSome lane.end) ⊎ ((gathered.stop ≡ stops.Memory) × (lane.end ≡ None))
 
@@ -71,6 +76,12 @@ refused_status ReadFailed = InputOutput
 refused_status NoSite = BadSite
 refused_status NoHello = BadHello
 refused_status NoMemory = OutOfMemory
+
+-- how a run ends that had this text to write
+abbrev pub written_status : Status → Result (Unit {0}) ReportFault → Status
+written_status status (Ok done) = status
+written_status status (Err report_fault.WriteFailed) = InputOutput
+written_status status (Err report_fault.NoMemory) = OutOfMemory
 
 -- ---- what a run writes
 

@@ -6,12 +6,12 @@ use Rattle.byte_streams.specs.declared.fault.LineFault.{LineFault}
 use Rattle.byte_streams.specs.declared.fault.LineFault.TheVariants as line_fault
 use Rattle.upload_reader.specs.declared.hello_fault.HelloFault.{HelloFault}
 use Rattle.upload_reader.specs.declared.hello_fault.HelloFault.TheVariants as hello_fault
-use Rattle.warp_server.specs.site.Site.{Site as PlainSite}
-use Rattle.warp_server.specs.site.Reading.{Stands}
+use Rattle.site_line.specs.Site.{Site as PlainSite}
+use Rattle.site_line.specs.Reading.{AnswersAs}
 use Rattle.warp_server.specs.program.Run.{HasBadSite, HasBadHello, HasFailedRead, HasSite}
-use Rattle.warp_server.specs.declared.site.Site.{Site}
-use Rattle.warp_server.specs.declared.site.fault.SiteFault.{SiteFault}
-use Rattle.warp_server.specs.declared.site.fault.SiteFault.TheVariants as site_fault
+use Rattle.site_line.specs.declared.site.Site.{Site}
+use Rattle.site_line.specs.declared.fault.SiteFault.{SiteFault}
+use Rattle.site_line.specs.declared.fault.SiteFault.TheVariants as site_fault
 use Rattle.warp_server.specs.declared.program.intake.Refused.{Refused}
 use Rattle.warp_server.specs.declared.program.intake.Refused.TheVariants.{ReadFailed, NoSite, NoHello, NoMemory}
 
@@ -25,7 +25,7 @@ pub record IsFresh {R : Type 0} (lines : Reading R) : Type 0 where
 pub record IsBehindSite {R : Type 0} (lines : Reading R) (site : Site) : Type 0 where
   pub plain : PlainSite
   pub site_is : HasSite (input lines) (ending_of lines.answers) lines.line plain
-  pub stands : Stands site plain
+  pub stands : AnswersAs site plain
   pub place : lines.place ≡ length lines.line + 1
   pub fault : lines.fault ≡ None
 

@@ -1,5 +1,5 @@
 -- What a run answers and writes, by what its reads gave: this project's own rules. The input is the bytes that the reads gave, and how it ended.
-use Rattle.std.specs.Prelude.{◌≡◌, ◌≢◌, ℕ, ◌+◌, List, [], ◌∷◌, ◌++◌, length, map, drop, Option, Some, None, Result, Ok, Err, ◌⊎◌}
+use Rattle.std.specs.Prelude.{◌≡◌, ◌≢◌, ℕ, ◌+◌, List, [], ◌∷◌, ◌++◌, length, drop, Option, Some, None, Result, Ok, Err, ◌⊎◌}
 use Rattle.std.specs.Io.KnownBytes.{Consumes}
 use Rattle.serde_json.specs.Data.{Data}
 use Rattle.byte_streams.specs.Answers.{Answer, bytes_of}
@@ -14,30 +14,30 @@ use Rattle.upload_reader.specs.declared.ending.Ending.{Ending}
 use Rattle.upload_reader.specs.declared.ending.Ending.TheVariants.{Over, GaveUp}
 use Rattle.upload_reader.specs.declared.hello_fault.HelloFault.{HelloFault}
 use Rattle.upload_reader.specs.declared.lane_fault.LaneEnd.{LaneEnd}
-use Rattle.client_log.specs.Log.{Log, kept, cost_of}
-use Rattle.client_log.specs.declared.visit.Visit.{Visit}
-use Rattle.visit_replay.specs.Outcome.{outcome}
-use Rattle.warp_server.specs.site.Site.{Site, IsSiteOf, IsJsonOf, page_of, signals_of}
-use Rattle.warp_server.specs.report.Report.{Report, ClientReport, VisitReport, visit_report, report_text}
+use Rattle.client_log.specs.Log.{kept}
+use Rattle.conflict_desk.specs.Desk.{opened_all}
+use Rattle.site_line.specs.Site.{Site, IsSiteOf, IsJsonOf, page_of, signals_of}
+use Rattle.warp_server.specs.Repair.{summary_by, docket_by}
+use Rattle.warp_server.specs.Settle.{settled}
+use Rattle.warp_server.specs.Report.{report_text, WritesNothing}
+use Rattle.warp_server.specs.declared.repaired.Repaired.{Repaired}
 use Rattle.upload_lanes.specs.declared.gathered.Stop.{Stop}
 use Rattle.upload_lanes.specs.declared.gathered.Stop.TheVariants as stops
 use Rattle.warp_server.specs.declared.program.status.Status.{Status}
 use Rattle.warp_server.specs.declared.program.status.Status.TheVariants.{Done, BadSite, BadHello, OutOfMemory, InputOutput}
 
--- ---- the report of a site and of the messages that were taken of a lane
+-- ---- what is made of the messages that were taken of a lane
 
--- what became of a visit that is kept, by the site's law
-abbrev pub visit_of : Site → Visit → VisitReport
-visit_of site visit = visit_report visit.number (outcome (page_of site) (λ address. signals_of site) site.patched visit)
-
-abbrev pub client_of : Site → List ℕ → ℕ → Option Ending → Log → ClientReport
-client_of site client taken end log =
-    record { client = client; taken = taken; end = end; cost = cost_of log.visits; lost = log.lost; visits = map (visit_of site) log.visits }
-
--- of the messages the log keeps what the site's quota leaves
-abbrev pub report_of : Site → Stop → List ℕ → List Costed → Option Ending → Report
-report_of site stop client messages end =
-    record { stop = stop; clients = client_of site client (length messages) end (kept site.quota messages) ∷ [] }
+-- Of the messages the log keeps what the site's quota leaves. Its visits are replayed by the site's law, and then the site's decisions are made.
+abbrev pub repaired_by : Site → Stop → List ℕ → List Costed → Option Ending → Repaired
+repaired_by site stop client messages end =
+    let log = kept site.quota messages in
+    settled site.decisions record {
+      stop = stop;
+      clients = summary_by client (length messages) end log ∷ [];
+      desk = opened_all (docket_by (page_of site) (λ address. signals_of site) site.patched client log ∷ []);
+      decided = [];
+    }
 
 -- ---- the site line
 
@@ -118,7 +118,7 @@ AreFirst lane place input messages =
 pub record IsReportOf (input : List ℕ) (ending : Option LineFault) (stop : Stop) (messages : List Costed) (end : Option Ending) (text : List ℕ) : Type 0 where
   pub opening : Opening
   pub opens : OpensBy input ending opening
-  pub text_is : text ≡ report_text (report_of opening.site stop opening.client messages end)
+  pub text_is : text ≡ report_text (repaired_by opening.site stop opening.client messages end)
 
 -- of all messages of the lane, with its end
 pub record HasReport (input : List ℕ) (ending : Option LineFault) (text : List ℕ) : Type 0 where
@@ -161,10 +161,6 @@ pub record Reads (reads reads' : List Answer) (left left' : Option (List ℕ)) (
   pub needed : ReadWhileUndecided more
   pub ends : StopsAtEnd more
   pub holds : P (bytes_of more) (ending_of more)
-
-pub record WritesNothing (puts puts' : List Answer) (contents contents' : Option (List ℕ)) : Type 0 where
-  pub puts_are : puts' ≡ puts
-  pub contents_are : contents' ≡ contents
 
 -- a text that the input has was written whole
 abbrev pub Writes : List Answer → List Answer → Option (List ℕ) → Option (List ℕ) → (List ℕ → Option LineFault → List ℕ → Type 0) → List ℕ → Option LineFault → Type 0

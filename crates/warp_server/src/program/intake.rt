@@ -7,8 +7,8 @@ ghost use Rattle.upload_reader.specs.Upload.{Begins};
 ghost use Rattle.warp_server.specs.inside.Answering.{IsOpened, IsUnread};
 ghost use Rattle.warp_server.specs.inside.Intake.{IsFresh, IsBehindSite, IsRefused, no_site, bad_site, no_hello};
 
-use crate::site::{Site, SiteFault};
 use byte_streams::{LineFault, Lines, Source};
+use site_line::{Site, SiteFault};
 use std::alloc::Global;
 use upload_reader::{HelloFault, Upload};
 

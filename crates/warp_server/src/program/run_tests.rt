@@ -1,3 +1,6 @@
+use crate::fixtures::{
+    BYE, CHILD, CLICK, END, GRANDCHILD, LOAD, MOVED_SITE, OTHER_SITE, with_members,
+};
 use crate::{Status, Told, run};
 use byte_streams::Fed;
 use std::alloc::{AllocError, Global};
@@ -11,20 +14,7 @@ use stream_fakes::{Drip, Refusal, Sips};
 const SITE: &str =
     r#"{"patched":["/a"],"pages":{"/a":{"n":"html","c":[{"n":"body","c":[{"n":"a","a":{"href":"/b"},"c":["go"]}]}]}}}"#;
 
-// The site has a second link there.
-const OTHER_SITE: &str =
-    r#"{"patched":["/a"],"pages":{"/a":{"n":"html","c":[{"n":"body","c":[{"n":"a","a":{"href":"/b"},"c":["go"]},{"n":"a","a":{"href":"/c"},"c":["no"]}]}]}}}"#;
-
 const HELLO: &str = r#"{"t":"hello","client":"c1"}"#;
-
-const LOAD: &str =
-    r#"{"t":"load","visit":1,"at":1,"path":"/a","page":{"n":"html","c":[{"n":"body","c":[{"n":"a","a":{"href":"/b"},"c":["go"]}]}]}}"#;
-
-const CLICK: &str = r#"{"t":"click","visit":1,"at":2,"target":"/html/body/a","req":1}"#;
-
-const END: &str = r#"{"t":"end","visit":1,"at":3}"#;
-
-const BYE: &str = r#"{"t":"bye"}"#;
 
 const REPORT: &str =
     "stop none\nclient c1 taken 3 end bye cost 187 lost 0\nvisit 1 done\nload 0 \"/a\"\nget 1 \"/b\"\n";
@@ -175,8 +165,8 @@ fn refuses_what_is_no_site_or_hello(rt: HostRuntime) -> Result<(), Fail> {
         (&[r#"{"quota":0}"#, HELLO], Status::BadSite),
         (&[r#"{"quota":null}"#, HELLO], Status::BadSite),
         (&[r#"{"watch":["a"]}"#, HELLO], Status::BadSite),
-        (&[r#"{"decide":[]}"#, HELLO], Status::BadSite),
-        (&[r#"{"workers":1}"#, HELLO], Status::BadSite),
+        (&[r#"{"decide":[["c1",0,"keep"]]}"#, HELLO], Status::BadSite),
+        (&[r#"{"workers":33}"#, HELLO], Status::BadSite),
         (&["{}"], Status::BadHello),
         (&["{}", LOAD], Status::BadHello),
     ];
@@ -463,21 +453,36 @@ fn tells_failed_reads(rt: HostRuntime) -> Result<(), Fail> {
     Ok(())
 }
 
-// A writer that takes one byte a write and refuses one write holds what came before.
+// A run whose writer takes one byte a write and refuses this write ends so, and the writer holds what came before.
+fn fails_at(
+    rt: &(impl Abort + AllocGlobal + Threads + Wait + Sync),
+    input: &str,
+    at: usize,
+    refusal: Refusal,
+    report: &str,
+) -> Result<(), Fail> {
+    let alloc = rt.alloc();
+    let mut reader = Fed::new(Drip::new(alloc, input.as_bytes(), 8192)?);
+    let mut sips = Sips::new(alloc, 1, Some((u32::try_from(at)?, refusal)));
+    let status = run(rt, &mut reader, &mut Told::new(&mut sips));
+    assert_eq!(rt; status, Status::InputOutput, "at {at}");
+    assert!(rt;
+        report.as_bytes().get(..at) == Some(sips.taken.as_slice()),
+        "at {at}"
+    );
+    Ok(())
+}
+
+// At each byte of the report, also among the decisions.
 #[test]
 fn tells_failed_writes(rt: HostRuntime) -> Result<(), Fail> {
     let alloc = rt.alloc();
-    let input = joined(alloc, &[SITE, HELLO, LOAD, CLICK, END, BYE])?;
-    let report = REPORT.as_bytes();
-    for refusal in [Refusal::Fails, Refusal::TakesNothing] {
+    let decided = with_members(alloc, OTHER_SITE, THREE_DECISIONS)?;
+    for (site, report) in [(SITE, REPORT), (decided.as_str(), DECIDED_REPORT)] {
+        let input = joined(alloc, &[site, HELLO, LOAD, CLICK, END, BYE])?;
         for at in 0..report.len() {
-            let mut reader = Fed::new(Drip::new(alloc, input.as_bytes(), 8192)?);
-            let mut sips = Sips::new(alloc, 1, Some((u32::try_from(at)?, refusal)));
-            assert_eq!(rt;
-                run(&rt, &mut reader, &mut Told::new(&mut sips)),
-                Status::InputOutput
-            );
-            assert!(rt; sips.taken.as_slice() == &report[..at], "at {at}");
+            fails_at(&rt, input.as_str(), at, Refusal::Fails, report)?;
+            fails_at(&rt, input.as_str(), at, Refusal::TakesNothing, report)?;
         }
     }
     Ok(())
@@ -496,4 +501,220 @@ fn has_codes_and_lines(rt: HostRuntime) {
         assert_eq!(rt; status.code(), code);
         assert!(rt; status.line() == line, "at {code}");
     }
+}
+
+// ---- decisions
+
+const THREE_DECISIONS: &str = r#""decide":[["c1",2,"keep"],["c1",1,"cancel"],["c9",1,"keep"]]"#;
+
+const DECIDED_REPORT: &str =
+    "stop none\nclient c1 taken 3 end bye cost 187 lost 0\nvisit 1 cancelled K3 at 1\ndecide c1 2 keep C2 front 1\ndecide c1 1 cancel ok\ndecide c9 1 keep C1\n";
+
+// Members of the site where one conflict waits, and the status and the report behind the client's line.
+const ONE_CONFLICT: [(&str, &str); 6] = [
+    (
+        THREE_DECISIONS,
+        "visit 1 cancelled K3 at 1\ndecide c1 2 keep C2 front 1\ndecide c1 1 cancel ok\ndecide c9 1 keep C1\n",
+    ),
+    (r#""decide":[]"#, "visit 1 waiting K3 at 1\nload 0 \"/a\"\n"),
+    (
+        r#""decide":[["c1",1,"keep"]]"#,
+        "visit 1 kept K3 at 1\nload 0 \"/a\"\ndecide c1 1 keep ok\n",
+    ),
+    (
+        r#""decide":[["c1",1,"keep"],["c1",1,"cancel"]]"#,
+        "visit 1 kept K3 at 1\nload 0 \"/a\"\ndecide c1 1 keep ok\ndecide c1 1 cancel C2 front none\n",
+    ),
+    (
+        r#""decide":[["c1",1,"cancel"],["c1",1,"cancel"]]"#,
+        "visit 1 cancelled K3 at 1\ndecide c1 1 cancel ok\ndecide c1 1 cancel C2 front none\n",
+    ),
+    (
+        r#""decide":[["C1",1,"cancel"],["c1",9007199254740991,"cancel"]]"#,
+        "visit 1 waiting K3 at 1\nload 0 \"/a\"\ndecide C1 1 cancel C1\ndecide c1 9007199254740991 cancel C2 front 1\n",
+    ),
+];
+
+#[test]
+fn puts_the_decisions_of_the_site_line(rt: HostRuntime) -> Result<(), Fail> {
+    let alloc = rt.alloc();
+    for (members, visits) in ONE_CONFLICT {
+        let site = with_members(alloc, OTHER_SITE, members)?;
+        let want = format!(in alloc;
+            "0 stop none\nclient c1 taken 3 end bye cost 187 lost 0\n{visits}"
+        )?;
+        says(
+            &rt,
+            site.as_str(),
+            &[HELLO, LOAD, CLICK, END, BYE],
+            want.as_str(),
+        )?;
+    }
+    Ok(())
+}
+
+// A visit that is done or untouched is no conflict.
+#[test]
+fn decides_conflicts_alone(rt: HostRuntime) -> Result<(), Fail> {
+    let alloc = rt.alloc();
+    let decided = r#""decide":[["c1",1,"cancel"]]"#;
+    let line = "decide c1 1 cancel C2 front none\n";
+    for (site, visit) in [
+        (SITE, "visit 1 done\nload 0 \"/a\"\nget 1 \"/b\"\n"),
+        (r#"{"patched":[]}"#, "visit 1 untouched\n"),
+    ] {
+        let site = with_members(alloc, site, decided)?;
+        let want = format!(in alloc;
+            "0 stop none\nclient c1 taken 3 end bye cost 187 lost 0\n{visit}{line}"
+        )?;
+        says(
+            &rt,
+            site.as_str(),
+            &[HELLO, LOAD, CLICK, END, BYE],
+            want.as_str(),
+        )?;
+    }
+    Ok(())
+}
+
+// What is no list of decisions, and no number of workers.
+const NO_MEMBERS: [&str; 18] = [
+    r#""decide":null"#,
+    r#""decide":{}"#,
+    r#""decide":["c1",1,"keep"]"#,
+    r#""decide":[[]]"#,
+    r#""decide":[["c1",1]]"#,
+    r#""decide":[["c1",1,"keep",0]]"#,
+    r#""decide":[["c1",0,"keep"]]"#,
+    r#""decide":[["c1",1.5,"keep"]]"#,
+    r#""decide":[["c1",9007199254740992,"keep"]]"#,
+    r#""decide":[["c1","1","keep"]]"#,
+    r#""decide":[["c1",1,"Keep"]]"#,
+    r#""decide":[["c1",1,null]]"#,
+    r#""decide":[["c 1",1,"keep"]]"#,
+    r#""decide":[["c1",1,"cancel"],["",1,"keep"]]"#,
+    r#""workers":0"#,
+    r#""workers":33"#,
+    r#""workers":1.0"#,
+    r#""workers":"1""#,
+];
+
+#[test]
+fn refuses_bad_decisions_and_workers(rt: HostRuntime) -> Result<(), Fail> {
+    let alloc = rt.alloc();
+    for members in NO_MEMBERS {
+        let site = with_members(alloc, OTHER_SITE, members)?;
+        says(&rt, site.as_str(), &[HELLO, LOAD, CLICK, END, BYE], "3 ")?;
+    }
+    Ok(())
+}
+
+// ---- visits that others opened
+
+// The link leads where it led.
+const SAME_SITE: &str =
+    r#"{"patched":["/a","/b"],"pages":{"/a":{"n":"html","c":[{"n":"body","c":[{"n":"a","a":{"href":"/b"},"c":["go"]}]}]},"/b":{"n":"html","c":[{"n":"body","c":[{"n":"a","a":{"href":"/b"},"c":["go"]}]}]}}}"#;
+
+// The links of both pages lead to `/c` now.
+const BOTH_MOVED_SITE: &str =
+    r#"{"patched":["/a","/b"],"pages":{"/a":{"n":"html","c":[{"n":"body","c":[{"n":"a","a":{"href":"/c"},"c":["go"]}]}]},"/b":{"n":"html","c":[{"n":"body","c":[{"n":"a","a":{"href":"/c"},"c":["go"]}]}]}}}"#;
+
+const CHILD_CLICK: &str = r#"{"t":"click","visit":2,"at":3,"target":"/html/body/a","req":1}"#;
+
+// The child's click opened it.
+const CLICKED_GRANDCHILD: &str =
+    r#"{"t":"load","visit":3,"at":4,"parent":2,"from":1,"path":"/b","page":{"n":"html","c":[{"n":"body","c":[{"n":"a","a":{"href":"/b"},"c":["go"]}]}]}}"#;
+
+const FAMILY: &[&str] = &[HELLO, LOAD, CLICK, CHILD, GRANDCHILD, BYE];
+
+const CLICKED_FAMILY: &[&str] = &[
+    HELLO,
+    LOAD,
+    CLICK,
+    CHILD,
+    CHILD_CLICK,
+    CLICKED_GRANDCHILD,
+    BYE,
+];
+
+// The site, members more, the lines, and the report behind its first word.
+const FAMILIES: [(&str, &str, &[&str], &str); 7] = [
+    (
+        MOVED_SITE,
+        r#""decide":[["c1",2,"cancel"]]"#,
+        FAMILY,
+        "client c1 taken 4 end bye cost 468 lost 0\nvisit 1 done\nload 0 \"/a\"\nget 1 \"/c\"\nvisit 2 cancelled K10 at 0\nvisit 3 cancelled\ndecide c1 2 cancel ok\n",
+    ),
+    (
+        MOVED_SITE,
+        r#""watch":[]"#,
+        FAMILY,
+        "client c1 taken 4 end bye cost 468 lost 0\nvisit 1 done\nload 0 \"/a\"\nget 1 \"/c\"\nvisit 2 waiting K10 at 0\nvisit 3 untouched\n",
+    ),
+    (
+        SAME_SITE,
+        r#""watch":[]"#,
+        FAMILY,
+        "client c1 taken 4 end bye cost 468 lost 0\nvisit 1 done\nload 0 \"/a\"\nget 1 \"/b\"\nvisit 2 done\nload 0 \"/b\"\nvisit 3 untouched\n",
+    ),
+    (
+        BOTH_MOVED_SITE,
+        r#""watch":[]"#,
+        CLICKED_FAMILY,
+        "client c1 taken 5 end bye cost 539 lost 0\nvisit 1 done\nload 0 \"/a\"\nget 1 \"/c\"\nvisit 2 waiting K10 at 0\nvisit 3 done\nload 0 \"/b\"\n",
+    ),
+    (
+        BOTH_MOVED_SITE,
+        r#""decide":[["c1",2,"cancel"],["c1",3,"keep"]]"#,
+        CLICKED_FAMILY,
+        "client c1 taken 5 end bye cost 539 lost 0\nvisit 1 done\nload 0 \"/a\"\nget 1 \"/c\"\nvisit 2 cancelled K10 at 0\nvisit 3 cancelled\ndecide c1 2 cancel ok\ndecide c1 3 keep C2 front none\n",
+    ),
+    (
+        MOVED_SITE,
+        r#""decide":[["c1",2,"keep"]]"#,
+        FAMILY,
+        "client c1 taken 4 end bye cost 468 lost 0\nvisit 1 done\nload 0 \"/a\"\nget 1 \"/c\"\nvisit 2 kept K10 at 0\nvisit 3 untouched\ndecide c1 2 keep ok\n",
+    ),
+    (
+        MOVED_SITE,
+        r#""decide":[["c1",1,"cancel"],["c1",3,"keep"]]"#,
+        FAMILY,
+        "client c1 taken 4 end bye cost 468 lost 0\nvisit 1 done\nload 0 \"/a\"\nget 1 \"/c\"\nvisit 2 waiting K10 at 0\nvisit 3 untouched\ndecide c1 1 cancel C2 front 2\ndecide c1 3 keep C2 front 2\n",
+    ),
+];
+
+// A visit whose link leads elsewhere now, those below it, and what is decided on them.
+#[test]
+fn visits_follow_those_that_opened_them(rt: HostRuntime) -> Result<(), Fail> {
+    let alloc = rt.alloc();
+    for (site, members, lines, report) in FAMILIES {
+        let site = with_members(alloc, site, members)?;
+        let want = format!(in alloc; "0 stop none\n{report}")?;
+        says(&rt, site.as_str(), lines, want.as_str())?;
+    }
+    Ok(())
+}
+
+// So many workers report the same as one.
+#[test]
+fn workers_do_not_show(rt: HostRuntime) -> Result<(), Fail> {
+    let alloc = rt.alloc();
+    let one = format!(in alloc; "0 {REPORT}")?;
+    for workers in [1, 2, 32] {
+        let members = format!(in alloc; "\"workers\":{workers}")?;
+        let site = with_members(alloc, SITE, members.as_str())?;
+        says(
+            &rt,
+            site.as_str(),
+            &[HELLO, LOAD, CLICK, END, BYE],
+            one.as_str(),
+        )?;
+        for (site, more, lines, report) in FAMILIES {
+            let both = format!(in alloc; "{members},{more}")?;
+            let site = with_members(alloc, site, both.as_str())?;
+            let want = format!(in alloc; "0 stop none\n{report}")?;
+            says(&rt, site.as_str(), lines, want.as_str())?;
+        }
+    }
+    Ok(())
 }

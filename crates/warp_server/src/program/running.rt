@@ -1,34 +1,28 @@
 //! One run: the site line and one upload in, the report out.
-ghost use Rattle.std.specs.Prelude.{◌≡◌, ℕ, List, [], ◌∷◌, Some, IfSome, IfOk, MatchResult};
+ghost use Rattle.std.specs.Prelude.{◌≡◌, [], ◌∷◌, IfSome, IfNone, IfOk, Some};
 ghost use Rattle.byte_streams.specs.Cutting.{StopsAtEnd};
 ghost use Rattle.byte_streams.specs.Reading.{Reading, WasRead};
-ghost use Rattle.upload_reader.specs.Upload.{UploadState, IsUntouched};
+ghost use Rattle.upload_reader.specs.Upload.{IsUntouched};
+ghost use Rattle.warp_server.specs.Report.{WritesNothing};
 ghost use Rattle.warp_server.specs.program.Run.{Meets};
-ghost use Rattle.warp_server.specs.inside.Answering.{IsOpened, IsUnread, IsAnswered, refused_status};
+ghost use Rattle.warp_server.specs.inside.Answering.{IsOpened, HasOnlyUpload, refused_status};
 ghost use Rattle.warp_server.specs.inside.Intake.{IsFresh};
-ghost use Rattle.upload_lanes.specs.declared.gathered.LaneResult.{LaneResult};
 
-use crate::program::answer::{answer, status_of};
+use crate::program::answering::answer;
+use crate::program::ending::{status_of, written_status};
 use crate::program::intake::{Refused, read_input};
 use crate::program::status::Status;
-use crate::site::Site;
-use byte_streams::{Lines, Sink, Source, write_text};
+use byte_streams::{Lines, Sink, Source};
 use page_tree::NoMemory;
+use site_line::Site;
 use std::alloc::Global;
 use std::sync::Wait;
 use std::thread::Threads;
 use upload_lanes::{Gathered, LaneResult};
 use upload_reader::Upload;
 
-/// A text to be written, and how the run ends if it is.
-#[derive(Drop)]
-struct Written {
-    status: Status,
-    text: Vec<u8>,
-}
-
-/// Reads a site line and an upload, replays what the log keeps of it on the site, and writes the report. The upload is read on a thread of its own, and
-/// recorded on another.
+/// Reads a site line and an upload, replays what the log keeps of it on the site, puts the site's decisions, and writes the report. The upload is read and
+/// recorded on the thread that calls, and its visits are replayed by the site's workers.
 ///
 /// Nothing is written unless a site and a hello were read. A fault of a later line ends the upload and stands in the report; what stands behind it, or
 /// behind the bye, is not looked at.
@@ -39,70 +33,55 @@ pub fn run<T: AllocGlobal + Threads + Wait + Sync, R: Source + Send, W: Sink>(
 ) -> Status
     ensures { Meets (R.answers reader.old) (R.answers reader.new) (R.remaining reader.old) (R.remaining reader.new) (W.puts writer.old) (W.puts writer.new) (W.contents writer.old) (W.contents writer.new) result }
 {
-    match answer_source(rt, reader) {
-        Err(refused) => refused_status(refused),
-        Ok(written) => match write_text(writer, written.text.as_slice()) {
-            Err(_) => Status::InputOutput,
-            Ok(()) => written.status,
-        },
-    }
-}
-
-// What is to be written for the input of this source.
-fn answer_source<R: Source + Send, T: AllocGlobal + Threads + Wait + Sync>(
-    rt: &T,
-    reader: &mut R,
-) -> Result<Written, Refused>
-    ensures { MatchResult result (λ written. IsAnswered (R.answers reader.old) (R.answers reader.new) (R.remaining reader.old) (R.remaining reader.new) written.status written.text.items) (λ refused. IsUnread (R.answers reader.old) (R.answers reader.new) (R.remaining reader.old) (R.remaining reader.new) refused) }
-{
     let Ok(lines) = Lines::over(rt.alloc(), &mut *reader) else {
-        return Err(Refused::NoMemory);
+        return Status::OutOfMemory;
     };
-    let Some((back, written)) = answer_input(rt, lines) else {
-        return Err(Refused::NoMemory);
+    let Some((back, status)) = run_lines(rt, lines, writer) else {
+        return Status::OutOfMemory;
     };
     let _reader = back;
-    written
+    status
 }
 
-// The same of its lines, with their reader, unless an allocation was refused.
-fn answer_input<R: Source + Drop + Send, T: AllocGlobal + Threads + Wait + Sync>(
+// The same of the source's lines, with their reader; or nothing is written, since an allocation was refused.
+fn run_lines<R: Source + Drop + Send, W: Sink, T: AllocGlobal + Threads + Wait + Sync>(
     rt: &T,
     lines: Lines<R>,
-) -> Option<(R, Result<Written, Refused>)>
+    writer: &mut W,
+) -> Option<(R, Status)>
     requires fresh { IsFresh lines }
     ensures same { IfSome result (λ both. R.lender both.0 ≡ R.lender lines.first) }
-    ensures answered { IfSome result (λ both. MatchResult both.1 (λ written. IsAnswered (R.answers lines.first) (R.answers both.0) (R.remaining lines.first) (R.remaining both.0) written.status written.text.items) (λ refused. IsUnread (R.answers lines.first) (R.answers both.0) (R.remaining lines.first) (R.remaining both.0) refused)) }
+    ensures met { IfSome result (λ both. Meets (R.answers lines.first) (R.answers both.0) (R.remaining lines.first) (R.remaining both.0) (W.puts writer.old) (W.puts writer.new) (W.contents writer.old) (W.contents writer.new) both.1) }
+    ensures nothing { IfNone result (WritesNothing (W.puts writer.old) (W.puts writer.new) (W.contents writer.old) (W.contents writer.new)) }
 {
     match read_input(rt.alloc(), lines) {
-        Err(unread) => Some((unread.reader, Err(unread.refused))),
-        Ok((site, upload)) => {
-            let (reader, written) = answer_upload(rt, &site, upload)?;
-            Some((reader, Ok(written)))
-        }
+        Err(unread) => Some((unread.reader, refused_status(unread.refused))),
+        Ok((site, upload)) => run_upload(rt, &site, upload, writer),
     }
 }
 
 // The same of the upload behind the site.
-fn answer_upload<R: Source + Drop + Send, T: AllocGlobal + Threads + Wait + Sync>(
+fn run_upload<R: Source + Drop + Send, W: Sink, T: AllocGlobal + Threads + Wait + Sync>(
     rt: &T,
     site: &Site,
     upload: Upload<R>,
-) -> Option<(R, Written)>
+    writer: &mut W,
+) -> Option<(R, Status)>
     requires untouched { IsUntouched upload }
     ensures same { (fresh : Reading R) → IsOpened fresh site.now upload → IfSome result (λ both. R.lender both.0 ≡ R.lender fresh.first) }
-    ensures answered { (fresh : Reading R) → IsOpened fresh site.now upload → IfSome result (λ both. IsAnswered (R.answers fresh.first) (R.answers both.0) (R.remaining fresh.first) (R.remaining both.0) both.1.status both.1.text.items) }
+    ensures met { (fresh : Reading R) → IsOpened fresh site.now upload → IfSome result (λ both. Meets (R.answers fresh.first) (R.answers both.0) (R.remaining fresh.first) (R.remaining both.0) (W.puts writer.old) (W.puts writer.new) (W.contents writer.old) (W.contents writer.new) both.1) }
+    ensures nothing { IfNone result (WritesNothing (W.puts writer.old) (W.puts writer.new) (W.contents writer.old) (W.contents writer.new)) }
 {
     let Ok(uploads) = only(rt.alloc(), upload) else {
         return None;
     };
-    let Ok(answer) = answer(rt, site, uploads) else {
-        return None;
-    };
-    let status = status_of(&answer.gathered);
-    let text = answer.text;
-    let reader = take_reader(answer.gathered)?;
-    Some((reader, Written { status, text }))
+    match answer(rt, site, uploads, writer) {
+        Err(_) => None,
+        Ok(answered) => {
+            let status = written_status(status_of(&answered.gathered), answered.report);
+            Some((take_reader(answered.gathered), status))
+        }
+    }
 }
 
 fn only<R: Source + Drop>(alloc: Global, upload: Upload<R>) -> Result<Vec<Upload<R>>, NoMemory>
@@ -114,19 +93,17 @@ fn only<R: Source + Drop>(alloc: Global, upload: Upload<R>) -> Result<Vec<Upload
 }
 
 // The reader of the only lane.
-fn take_reader<R: Source + Drop>(gathered: Gathered<R>) -> Option<R>
-    ensures { (client : List ℕ) (lane : LaneResult R) (now : UploadState R) → gathered.clients.entries ≡ (client, lane) ∷ [] → lane.upload ≡ Some now
-        → IfSome result (λ reader. (R.lender reader ≡ R.lender now.lines.first) × WasRead R.answers R.remaining now.lines.first reader now.lines.answers × StopsAtEnd now.lines.answers) }
+fn take_reader<R: Source + Drop>(gathered: Gathered<R>) -> R
+    requires { HasOnlyUpload gathered }
+    ensures { (has : HasOnlyUpload gathered) → (R.lender result ≡ R.lender has.now.lines.first) × WasRead R.answers R.remaining has.now.lines.first result has.now.lines.answers × StopsAtEnd has.now.lines.answers }
 {
     let mut clients = gathered.clients;
     let Some((_, lane)) = clients.pop() else {
-        return None;
+        unreachable!()
     };
     let LaneResult { upload, .. } = lane;
-    match upload {
-        Some(upload) => Some(upload.into_reader()),
-        None => None,
-    }
+    let Some(upload) = upload else { unreachable!() };
+    upload.into_reader()
 }
 
 fn refused_status(refused: Refused) -> Status

@@ -1,0 +1,4 @@
+pub mod Options
+pub mod SiteSteps
+pub mod SiteLaws
+pub mod DecisionLaws

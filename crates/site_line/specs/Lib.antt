@@ -1,0 +1,5 @@
+pub mod Site
+pub mod Decision
+pub mod Reading
+pub mod Fault
+pub mod inside

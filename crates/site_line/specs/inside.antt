@@ -1,0 +1,2 @@
+pub mod SiteMembers
+pub mod Entries

@@ -1,0 +1,76 @@
+//! A decision, as an entry of a site line says it.
+ghost use Rattle.std.specs.Prelude.{◌≡◌, option_and_then};
+ghost use Rattle.serde_json.specs.View.{view};
+ghost use Rattle.serde_json.specs.Find.{as_str};
+ghost use Rattle.upload_reader.specs.Member.{number_in};
+ghost use Rattle.site_line.specs.inside.SiteMembers.{GivesSite};
+ghost use Rattle.site_line.specs.inside.Entries.{client_named, choice_said, decision_in};
+
+use crate::fault::SiteFault;
+use conflict_desk::Choice;
+use serde_json::Value;
+use std::alloc::Global;
+use upload_reader::{Client, HelloFault};
+
+// The greatest number that a visit has.
+const MAX_VISIT: u64 = 9_007_199_254_740_991;
+
+/// What the administrator chose for a conflict, that of the client's visit of this number.
+#[derive(Debug, Drop)]
+pub struct Decision {
+    pub client: Client,
+    pub visit: u64,
+    pub choice: Choice,
+}
+
+impl Decision {
+    /// The decision that an entry says: an array of just a client, the number of a visit (1 to 9,007,199,254,740,991) and `cancel` or `keep`.
+    pub(crate) fn from_value(alloc: Global, value: &Value) -> Result<Decision, SiteFault>
+        ensures { GivesSite (λ decision. decision) result (decision_in (view value.now)) }
+    {
+        let Some(items) = value.as_array() else {
+            return Err(SiteFault::BadMember);
+        };
+        if items.len() != 3 {
+            return Err(SiteFault::BadMember);
+        }
+        Ok(Decision {
+            client: read_client(alloc, &items[0])?,
+            visit: read_visit(&items[1])?,
+            choice: read_choice(&items[2])?,
+        })
+    }
+}
+
+fn read_client(alloc: Global, value: &Value) -> Result<Client, SiteFault>
+    ensures { GivesSite (λ client. client) result (option_and_then client_named (as_str (view value.now))) }
+{
+    let Some(text) = value.as_str() else {
+        return Err(SiteFault::BadMember);
+    };
+    match Client::read(alloc, text) {
+        Ok(client) => Ok(client),
+        Err(HelloFault::NoMemory) => Err(SiteFault::NoMemory),
+        Err(_) => Err(SiteFault::BadMember),
+    }
+}
+
+#[tactic(auto, unfolding(upload_reader::specs::Member::number_in))]
+fn read_visit(value: &Value) -> Result<u64, SiteFault>
+    ensures { GivesSite (λ visit. visit) result (number_in 1 (view value.now)) }
+{
+    match value.as_u64() {
+        Some(visit) if 1 <= visit && visit <= MAX_VISIT => Ok(visit),
+        _ => Err(SiteFault::BadMember),
+    }
+}
+
+fn read_choice(value: &Value) -> Result<Choice, SiteFault>
+    ensures { GivesSite (λ choice. choice) result (option_and_then choice_said (as_str (view value.now))) }
+{
+    match value.as_str() {
+        Some("cancel") => Ok(Choice::Cancel),
+        Some("keep") => Ok(Choice::Keep),
+        _ => Err(SiteFault::BadMember),
+    }
+}

@@ -1,0 +1,16 @@
+//! The site line: what an administrator repaired, which pages the site shows now, and how its uploads are replayed.
+//!
+//! A line is read as a site exactly where it is one, and what is kept answers as that site does (`Site::read`).
+#![tactic(auto)]
+
+mod decision;
+mod fault;
+mod reading;
+mod site;
+
+pub use decision::Decision;
+pub use fault::SiteFault;
+pub use site::Site;
+
+#[cfg(test)]
+mod tests;

@@ -1,0 +1,105 @@
+//! The repaired site.
+ghost use Rattle.std.specs.Prelude.{◌≡◌, IfOk, IsErrOf};
+ghost use Rattle.serde_json.specs.Data.{Data};
+ghost use Rattle.serde_json.specs.View.{view};
+ghost use Rattle.replay_workers.specs.Limits.{AreWorkers};
+ghost use Rattle.site_line.specs.Site.{Site as PlainSite, IsSiteOf, IsJsonOf};
+ghost use Rattle.site_line.specs.declared.fault.SiteFault.TheVariants.{NotJson, BadMember};
+
+use crate::decision::Decision;
+use crate::fault::SiteFault;
+use crate::reading::{
+    read_decisions, read_line, read_pages, read_patched, read_quota, read_watched, read_workers,
+};
+use client_log::Quota;
+use serde_json::Value;
+use site_hooks::Table;
+use std::alloc::Global;
+use visit_replay::Patch;
+
+/// What was repaired, the pages that the site shows now, which texts of them must not have changed, how much is kept of each client, how many workers
+/// replay its visits, and what was decided on conflicts so far.
+#[derive(Drop)]
+pub struct Site {
+    patch: Patch,
+    table: Table,
+    quota: Quota,
+    workers: u32,
+    decisions: Vec<Decision>,
+    ghost workers_in_range: { AreWorkers workers },
+}
+
+impl Site {
+    ghost use Rattle.site_line.specs.Reading.{site_patch, site_table, site_quota, site_workers, site_decisions, AnswersAs};
+    ghost use Rattle.site_line.specs.inside.SiteMembers.{StandsBy};
+
+    /// The site that a line says: a JSON object with `patched` (an array of address texts), `pages` (an object, from address to page), `watch` (an
+    /// array of path texts), `quota` (1 to 4,294,967,295 bytes, else 1,048,576), `workers` (1 to 32, else 1) and `decide` (an array of decisions, each an
+    /// array of client, visit and choice), all optional. Unknown members are ignored.
+    pub fn read(alloc: Global, line: &[u8]) -> Result<Site, SiteFault>
+        ensures ok { IfOk result (λ site. (d : Data) × IsJsonOf line.now d × ((plain : PlainSite) × IsSiteOf d plain × AnswersAs site plain)) }
+        ensures only { IfOk result (λ site. (d : Data) → IsJsonOf line.now d → (plain : PlainSite) → IsSiteOf d plain → AnswersAs site plain) }
+        ensures not_json { IsErrOf result NotJson → (d : Data) → ¬ IsJsonOf line.now d }
+        ensures bad_member { IsErrOf result BadMember → (d : Data) × IsJsonOf line.now d × ((plain : PlainSite) → ¬ IsSiteOf d plain) }
+    {
+        let value = read_line(alloc, line)?;
+        Site::from_value(alloc, &value)
+    }
+
+    fn from_value(alloc: Global, value: &Value) -> Result<Site, SiteFault>
+        ensures { StandsBy result (view value.now) }
+    {
+        if value.as_object().is_none() {
+            return Err(SiteFault::BadMember);
+        }
+        let patch = Patch::new(read_patched(alloc, value)?);
+        let mut table = read_pages(alloc, value)?;
+        read_watched(alloc, value, &mut table)?;
+        let quota = read_quota(value)?;
+        let workers = read_workers(value)?;
+        let decisions = read_decisions(alloc, value)?;
+        Ok(Site {
+            patch,
+            table,
+            quota,
+            workers,
+            decisions,
+        })
+    }
+
+    /// Which addresses were repaired.
+    pub fn patch(&self) -> &Patch
+        ensures { result.now ≡ site_patch self.now }
+    {
+        &self.patch
+    }
+
+    /// Its pages, and the paths that are watched.
+    pub fn table(&self) -> &Table
+        ensures { result.now ≡ site_table self.now }
+    {
+        &self.table
+    }
+
+    /// How much is kept of each client.
+    pub fn quota(&self) -> Quota
+        ensures { result ≡ site_quota self.now }
+    {
+        self.quota
+    }
+
+    /// How many workers replay the visits of a client.
+    pub fn workers(&self) -> u32
+        ensures workers { result ≡ site_workers self.now }
+        ensures few { AreWorkers result }
+    {
+        self.workers
+    }
+
+    /// What was decided so far, in that order.
+    pub fn decisions(&self) -> &[Decision]
+        ensures { result.now ≡ site_decisions self.now }
+    {
+        self.decisions.as_slice()
+    }
+}

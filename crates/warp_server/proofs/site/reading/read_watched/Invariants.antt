@@ -1,7 +1,0 @@
-use Rattle.std.proofs.Common.{drop}
-use Rattle.warp_server.specs.inside.SiteMembers.{paths_in}
-use Rattle.warp_server.proofs.SiteSteps.{PathsSoFar}
-use Rattle.warp_server.proofs.site.reading.read_watched.Given as goal
-
-abbrev pub invariant-loop-text : goal.invariant-loop-text
-invariant-loop-text l = PathsSoFar l.fn.table l.table (drop l.text-index l.text-items) (paths_in l.text-items)

@@ -1,0 +1,38 @@
+-- What the server promises of any number of uploads, in the words of the crates below:
+--
+-- However the threads run, the recorder has of each client a prefix of the messages in its stream, each once and in order, and all of them once the uploader's
+-- end is taken; each kept visit to a patched page has the outcome that replaying its kept events on the repaired page gives, whatever workers replay it; each
+-- client's conflicts leave its queue once, in visit order.
+use Rattle.std.specs.Prelude.{◌≡◌, ℕ, List, map, Bool, Option}
+use Rattle.std.specs.List.{AllZip}
+use Rattle.page_tree.specs.Tree.{Tree}
+use Rattle.upload_reader.specs.Upload.{UploadState}
+use Rattle.conflict_desk.specs.Book.{Book}
+use Rattle.conflict_desk.specs.Laws.{AllLeaveInOrder}
+use Rattle.conflict_desk.specs.declared.docket.Docket.{Docket}
+use Rattle.upload_lanes.specs.Lane.{IsTaken}
+use Rattle.upload_lanes.specs.Round.{new_log}
+use Rattle.upload_lanes.specs.declared.gathered.Gathered.{Gathered}
+use Rattle.upload_lanes.specs.declared.gathered.LaneResult.{LaneResult}
+use Rattle.warp_server.specs.Repair.{docket_for}
+use Rattle.warp_server.specs.declared.repaired.Repaired.{Repaired}
+
+-- the client's docket as it was opened, whatever was decided since
+abbrev pub docket_of : List ℕ × Book → Docket
+docket_of entry = record { client = entry.0; cases = entry.1.cases }
+
+module _ {R : Type 0} (quota : ℕ) where
+  -- The recorder has of the upload's client a prefix of the messages in its stream, each once and in order, and all of them where its end is taken.
+  pub record HasPrefix (upload : UploadState R) (entry : List ℕ × LaneResult R) : Type 0 where
+    pub client : entry.0 ≡ upload.client
+    pub is_taken : IsTaken (new_log quota upload.client) upload entry.1
+
+module _ {R : Type 0} (page_of : List ℕ → Option Tree) (signals : List ℕ → Tree → Tree → Bool) (patch : List (List ℕ)) (quota : ℕ) where
+  -- Of these uploads that was gathered, and on a site of that law it was so repaired and settled.
+  pub record Headline (uploads : List (UploadState R)) (gathered : Gathered R) (repaired : Repaired) : Type 0 where
+    -- however the threads run, the recorder has of each client a prefix of its stream, and all of it once the uploader's end is taken
+    pub has : AllZip (HasPrefix quota) uploads gathered.clients.entries
+    -- each visit that is kept has the outcome that replaying it gives, whatever workers replay it
+    pub replayed : map docket_of repaired.desk ≡ map (docket_for page_of signals patch) gathered.clients.entries
+    -- each client's conflicts leave its queue once, in visit order
+    pub leave : AllLeaveInOrder repaired.desk

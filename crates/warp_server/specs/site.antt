@@ -1,3 +1,0 @@
-pub mod Site
-pub mod Fault
-pub mod Reading

@@ -1,0 +1,156 @@
+//! What becomes of any number of uploads: they are taken, replayed, decided and reported.
+ghost use Rattle.std.specs.Prelude.{ℕ, Bool, false, ◌≡◌, ◌≤◌, ◌^◌, List, IfOk, IfErr};
+ghost use Rattle.std.specs.List.{AllByRecursion};
+ghost use Rattle.upload_reader.specs.Upload.{IsUntouched};
+ghost use Rattle.site_hooks.specs.Closures.{AtAddresses, AtPages, MakesBy, TellsBy};
+ghost use Rattle.site_hooks.specs.Table.{table_page, signals_in};
+ghost use Rattle.conflict_desk.specs.Desk.{Call, after_calls};
+ghost use Rattle.conflict_desk.specs.Laws.{AllLeaveInOrder};
+ghost use Rattle.upload_lanes.specs.Round.{IsNoRound};
+ghost use Rattle.upload_lanes.specs.Threads.{GathersFirst};
+ghost use Rattle.site_line.specs.Reading.{site_patch, site_table, site_quota};
+ghost use Rattle.warp_server.specs.Answer.{never, site_repaired, site_settled};
+ghost use Rattle.warp_server.specs.Headline.{Headline};
+ghost use Rattle.warp_server.specs.Repair.{repaired_of};
+ghost use Rattle.warp_server.specs.Report.{WritesReport, WritesNothing, report_text};
+
+use crate::repaired::Repaired;
+use crate::repairing::repair;
+use crate::reporting::{ReportFault, report};
+use crate::settling::settle;
+use byte_streams::{Sink, Source};
+use client_log::Quota;
+use lane_queue::Room;
+use page_tree::{NoMemory, Page};
+use site_hooks::{Closures, ConflictTeller, PageMaker, SiteHooks, Table};
+use site_line::Site;
+use std::alloc::AllocError;
+use std::sync::Wait;
+use std::thread::Threads;
+use upload_lanes::{GatherFault, Gathered, gather};
+use upload_reader::Upload;
+
+/// How many messages of a lane wait to be recorded, at the most.
+const ROOM: usize = 64;
+
+/// What became of uploads.
+#[derive(Drop)]
+pub struct Answered<R: Source> {
+    /// What was taken of them, with their readers.
+    pub gathered: Gathered<R>,
+    /// What replaying and the site's decisions made of that.
+    pub repaired: Repaired,
+    /// Whether the report of it was written.
+    pub report: Result<(), ReportFault>,
+}
+
+/// Takes 1 to 16 uploads to their ends, each of a client of its own; replays on the site what the logs keep of them, by the site's workers; puts the
+/// site's decisions to the desk; and writes the report. Where memory is refused before the report is composed, nothing is written.
+pub fn answer<R: Source + Drop + Send, W: Sink, T: AllocGlobal + Threads + Wait + Sync>(
+    rt: &T,
+    site: &Site,
+    uploads: Vec<Upload<R>>,
+    writer: &mut W,
+) -> Result<Answered<R>, GatherFault>
+    requires untouched { AllByRecursion IsUntouched uploads.items }
+
+    // What the server promises of each client, whatever the threads do.
+    ensures headline { IfOk result (λ answered. Headline (table_page (site_table site.now)) (λ _. signals_in (site_table site.now)) (site_patch site.now) (site_quota site.now) uploads.items answered.gathered answered.repaired) }
+
+    // The same to the letter: what each step made of what the one before gave.
+    ensures gathered { IfOk result (λ answered. GathersFirst never uploads.items (site_quota site.now) answered.gathered) }
+    ensures repaired { IfOk result (λ answered. answered.repaired ≡ site_settled site.now answered.gathered) }
+    ensures report { IfOk result (λ answered. WritesReport (W.puts writer.old) (W.puts writer.new) (W.contents writer.old) (W.contents writer.new) (report_text answered.repaired) answered.report) }
+
+    // Why not, and then nothing was written.
+    ensures refused { IfErr result (IsNoRound uploads.items) }
+    ensures nothing { IfErr result (λ _. WritesNothing (W.puts writer.old) (W.puts writer.new) (W.contents writer.old) (W.contents writer.new)) }
+{
+    let gathered = take_whole(rt, uploads, site.quota(), &|_items: u64| false)?;
+    let repaired = repair_and_settle(rt, site, &gathered)?;
+    let report = report(rt.alloc(), &repaired, writer);
+    Ok(Answered {
+        gathered,
+        repaired,
+        report,
+    })
+}
+
+// Takes the uploads to their ends: the question whether to stop is never answered by true.
+fn take_whole<
+    H: Fn(u64) -> bool + Sync,
+    R: Source + Drop + Send,
+    T: AllocGlobal + Threads + Wait + Sync,
+>(rt: &T, uploads: Vec<Upload<R>>, quota: Quota, halt: &H) -> Result<Gathered<R>, GatherFault>
+    requires untouched { AllByRecursion IsUntouched uploads.items }
+    requires callable { (n : ℕ) → n ≤ 2 ^ 61 → H.pre halt.now n }
+    requires never { (n : ℕ) (answer : Bool) → H.post halt.now n answer → answer ≡ false }
+    ensures ok { IfOk result (GathersFirst never uploads.items quota) }
+    ensures refused { IfErr result (IsNoRound uploads.items) }
+{
+    gather(rt, uploads, quota, room(), halt)
+}
+
+fn room() -> Room {
+    let Ok(room) = Room::new(ROOM) else {
+        unreachable!()
+    };
+    room
+}
+
+// What replaying on the site makes of what was gathered, with the site's decisions made.
+fn repair_and_settle<R: Source, T: AllocGlobal + Threads + Sync>(
+    rt: &T,
+    site: &Site,
+    gathered: &Gathered<R>,
+) -> Result<Repaired, NoMemory>
+    ensures repaired { IfOk result (λ repaired. repaired ≡ site_settled site.now gathered.now) }
+    ensures leave { IfOk result (λ repaired. AllLeaveInOrder repaired.desk) }
+{
+    let mut repaired = repair_site(rt, site, gathered)?;
+    settle(rt.alloc(), &mut repaired, site.decisions())?;
+    Ok(repaired)
+}
+
+// On a site of two closures over the site's table.
+fn repair_site<R: Source, T: AllocGlobal + Threads + Sync>(
+    rt: &T,
+    site: &Site,
+    gathered: &Gathered<R>,
+) -> Result<Repaired, NoMemory>
+    ensures repaired { IfOk result (λ repaired. repaired ≡ site_repaired site.now gathered.now) }
+    ensures leave { IfOk result (λ repaired. (calls : List Call) → AllLeaveInOrder (after_calls repaired.desk calls)) }
+{
+    let table = site.table();
+    let make = |address: &str| table.make(address);
+    let tell = |address: &str, old: &Page, new: &Page| table.signals(address, old, new);
+    repair_by(rt, site, table, make, tell, gathered)
+}
+
+// The same on a site of these closures, which keep the table's law.
+fn repair_by<
+    F: PageMaker + Sync + Drop,
+    C: ConflictTeller + Sync + Drop,
+    R: Source,
+    T: AllocGlobal + Threads + Sync,
+>(
+    rt: &T,
+    site: &Site,
+    table: &Table,
+    make: F,
+    tell: C,
+    gathered: &Gathered<R>,
+) -> Result<Repaired, NoMemory>
+    requires callable_maker { AtAddresses (F.can_make make) }
+    requires lawful_maker { MakesBy (table_page table.now) (F.may_make make) }
+    requires callable_teller { AtPages (C.can_tell tell) }
+    requires lawful_teller { TellsBy (λ _. signals_in table.now) (C.may_tell tell) }
+    ensures repaired { IfOk result (λ repaired. repaired ≡ repaired_of (table_page table.now) (λ _. signals_in table.now) (site_patch site.now) gathered.now) }
+    ensures leave { IfOk result (λ repaired. (calls : List Call) → AllLeaveInOrder (after_calls repaired.desk calls)) }
+{
+    let hooks = Closures::new(make, tell, table);
+    match repair(rt, site.workers(), &hooks, site.patch(), gathered) {
+        Ok(repaired) => Ok(repaired),
+        Err(_) => Err(AllocError),
+    }
+}
