@@ -65,7 +65,7 @@ none_of client (other ∷ clients) none =
     let both = or_none (bytes_eq client other) (list_any (bytes_eq client) clients) none in
     (both.0, none_of client clients both.1)
 
-distinct : (clients : List (List ℕ)) → has_twice clients ≡ false → IsDistinct bytes_eq clients
+pub distinct : (clients : List (List ℕ)) → has_twice clients ≡ false → IsDistinct bytes_eq clients
 unfolding IsDistinct
 distinct [] once = tt
 distinct (client ∷ clients) once =

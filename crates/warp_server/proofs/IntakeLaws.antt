@@ -12,7 +12,8 @@ use Rattle.upload_reader.specs.declared.hello_fault.HelloFault.{HelloFault}
 use Rattle.upload_reader.specs.declared.hello_fault.HelloFault.TheVariants as hello
 use Rattle.site_line.specs.Site.{Site as PlainSite, IsJsonOf, IsSiteOf}
 use Rattle.warp_server.specs.program.Run.{site_line, max_site_bytes, HasBadHello, Reads, ReadWhileUndecided}
-use Rattle.warp_server.specs.inside.Intake.{IsFresh, IsBehindSite, IsRefused, bad_site, no_hello}
+use Rattle.warp_server.specs.program.Connection.{IsFresh}
+use Rattle.warp_server.specs.inside.Intake.{IsBehindSite, IsRefused, bad_site, no_hello}
 use Rattle.warp_server.specs.inside.Answering.{IsUnread}
 use Rattle.warp_server.specs.declared.program.intake.Refused.{Refused}
 use Rattle.warp_server.specs.declared.program.intake.Refused.TheVariants as refused

@@ -6,3 +6,7 @@ pub mod RunLaws
 pub mod RepairLaws
 pub mod ReportLaws
 pub mod HeadlineLaws
+pub mod RoundsLaws
+pub mod RoundSteps
+pub mod ServeLaws
+pub mod CallLaws

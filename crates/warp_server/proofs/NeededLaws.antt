@@ -14,7 +14,8 @@ use Rattle.upload_reader.specs.declared.lane_fault.LaneEnd.{LaneEnd}
 use Rattle.site_line.specs.Site.{Site as PlainSite}
 use Rattle.warp_server.specs.program.Run.{site_line, max_site_bytes, HasSite, HasReport, HasBadSite, BeginsBy, behind, Opening, OpensBy, lane_behind, lane_place, IsUndecided, ReadWhileUndecided}
 use Rattle.upload_lanes.specs.Lane.{NotOver}
-use Rattle.warp_server.specs.inside.Intake.{IsFresh, IsBehindSite}
+use Rattle.warp_server.specs.program.Connection.{IsFresh}
+use Rattle.warp_server.specs.inside.Intake.{IsBehindSite}
 use Rattle.site_line.specs.declared.site.Site.{Site}
 use Rattle.warp_server.proofs.OpeningLaws.{greets, same_lines, same_said, greeting_once, end_once, site_stays, opens_stays}
 

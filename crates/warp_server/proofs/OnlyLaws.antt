@@ -23,7 +23,7 @@ module _ {R : Type 0} (allows : ℕ → Bool → Type 0) (false_only : (n : ℕ)
   stops_never : (lanes : List (List ℕ × LaneResult R)) (stop : Stop) → Stops allows lanes stop → Stops never lanes stop
   stops_never lanes stop so = record { lesser = λ n few. refl; asked = λ is. false_only _ _ (so.asked is); ended = so.ended; refused = so.refused }
 
-  taken_never : (known : List ℕ → Option (LaneResult R)) (quota : ℕ) (uploads : List (UploadState R)) (lanes : List (List ℕ × LaneResult R)) (stop : Stop)
+  pub taken_never : (known : List ℕ → Option (LaneResult R)) (quota : ℕ) (uploads : List (UploadState R)) (lanes : List (List ℕ × LaneResult R)) (stop : Stop)
       → AreTaken allows known quota uploads lanes stop → AreTaken never known quota uploads lanes stop
   taken_never known quota uploads lanes stop taken = record {
     lanes_are = taken.lanes_are;

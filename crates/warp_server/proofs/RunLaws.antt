@@ -39,7 +39,8 @@ use Rattle.warp_server.specs.declared.repaired.Repaired.{Repaired}
 use Rattle.warp_server.specs.declared.reporting.fault.ReportFault.{ReportFault}
 use Rattle.warp_server.specs.declared.reporting.fault.ReportFault.TheVariants as report_fault
 use Rattle.warp_server.specs.program.Run.{repaired_by, Opening, OpensBy, lane_behind, lane_place, AreAll, AreFirst, IsReportOf, HasReport, HasShortReport, IsShort, Reads, Writes, WritesPart, Meets}
-use Rattle.warp_server.specs.inside.Answering.{IsOpened, IsWhole, HasText, IsUnread, IsAnswered, gave_up, status_by, status_of, refused_status, written_status}
+use Rattle.warp_server.specs.program.Shortage.{gave_up, status_by, status_of}
+use Rattle.warp_server.specs.inside.Answering.{IsOpened, IsWhole, HasText, IsUnread, IsAnswered, refused_status, written_status}
 use Rattle.upload_lanes.specs.declared.gathered.Gathered.{Gathered}
 use Rattle.upload_lanes.specs.declared.gathered.LaneResult.{LaneResult}
 use Rattle.upload_lanes.specs.declared.gathered.Stop.{Stop}

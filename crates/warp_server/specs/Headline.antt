@@ -3,8 +3,9 @@
 -- However the threads run, the recorder has of each client a prefix of the messages in its stream, each once and in order, and all of them once the uploader's
 -- end is taken; each kept visit to a patched page has the outcome that replaying its kept events on the repaired page gives, whatever workers replay it; each
 -- client's conflicts leave its queue once, in visit order.
-use Rattle.std.specs.Prelude.{◌≡◌, ℕ, List, map, Bool, Option}
-use Rattle.std.specs.List.{AllZip}
+use Rattle.std.specs.Prelude.{◌≡◌, ℕ, List, map, Bool, Option, IsSome, bytes_eq}
+use Rattle.std.specs.List.{AllZip, AllByRecursion}
+use Rattle.indexmap.specs.IndexMap.{get}
 use Rattle.page_tree.specs.Tree.{Tree}
 use Rattle.upload_reader.specs.Upload.{UploadState}
 use Rattle.conflict_desk.specs.Book.{Book}
@@ -15,6 +16,7 @@ use Rattle.upload_lanes.specs.Round.{new_log}
 use Rattle.upload_lanes.specs.declared.gathered.Gathered.{Gathered}
 use Rattle.upload_lanes.specs.declared.gathered.LaneResult.{LaneResult}
 use Rattle.warp_server.specs.Repair.{docket_for}
+use Rattle.warp_server.specs.Rounds.{HasLog}
 use Rattle.warp_server.specs.declared.repaired.Repaired.{Repaired}
 
 -- the client's docket as it was opened, whatever was decided since
@@ -35,4 +37,12 @@ module _ {R : Type 0} (page_of : List ℕ → Option Tree) (signals : List ℕ �
     -- each visit that is kept has the outcome that replaying it gives, whatever workers replay it
     pub replayed : map docket_of repaired.desk ≡ map (docket_for page_of signals patch) gathered.clients.entries
     -- each client's conflicts leave its queue once, in visit order
+    pub leave : AllLeaveInOrder repaired.desk
+
+  -- The same of several rounds, the last of them first.
+  pub record HeadlineOfRounds (rounds : List (List (UploadState R))) (gathered : Gathered R) (repaired : Repaired) : Type 0 where
+    -- each client that uploaded is there, and of each is recorded what its uploads gave, one after another
+    pub clients : AllByRecursion (AllByRecursion (λ upload. IsSome (get bytes_eq gathered.clients upload.client))) rounds
+    pub has : AllByRecursion (HasLog quota rounds) gathered.clients.entries
+    pub replayed : map docket_of repaired.desk ≡ map (docket_for page_of signals patch) gathered.clients.entries
     pub leave : AllLeaveInOrder repaired.desk

@@ -1,3 +1,6 @@
 pub mod Run
 pub mod Status
+pub mod Shortage
+pub mod Connection
+pub mod Serve
 pub mod Call

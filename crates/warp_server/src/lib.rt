@@ -15,7 +15,10 @@ mod settling;
 
 pub use byte_streams::{Sink, Told};
 pub use listed::Listed;
-pub use program::{Answered, CallFault, Status, accept_call, answer, run};
+pub use program::{
+    Answered, Call, CallFault, Listening, MAX_ROUNDS, Status, accept_call, answer, listen, run,
+    serve,
+};
 pub use repaired::{ClientSummary, PutDecision, Repaired};
 pub use repairing::repair;
 pub use reporting::{ReportFault, report};

@@ -1,14 +1,18 @@
 //! One call of the program, and one run.
 mod answering;
 mod call;
+mod connections;
 mod ending;
 mod intake;
+mod rounds;
 mod running;
+mod serving;
 mod status;
 
 pub use answering::{Answered, answer};
-pub use call::{CallFault, accept_call};
+pub use call::{Call, CallFault, Listening, MAX_ROUNDS, accept_call};
 pub use running::run;
+pub use serving::{listen, serve};
 pub use status::Status;
 
 #[cfg(test)]
@@ -17,3 +21,7 @@ mod answer_tests;
 mod call_tests;
 #[cfg(test)]
 mod run_tests;
+#[cfg(test)]
+mod serve_tests;
+#[cfg(test)]
+mod socket_tests;

@@ -1,18 +1,22 @@
-//! The program of the replay server: standard input is a site line and an upload, standard output the report.
+//! The program of the replay server: a site and uploads come in, on standard input or over connections, and the report goes to standard output.
 #![tactic(auto)]
 
 use std::process::ExitCode;
 use std::{env, io};
 use upload_reader::Fed;
-use warp_server::{Told, accept_call, run};
+use warp_server::{Call, Told, accept_call, listen, run};
 
 fn main(rt: HostRuntime) -> ExitCode {
+    let mut writer = Told::new(io::writer(&rt));
     match accept_call(env::args(&rt)) {
         Err(fault) => ended(&rt, fault.code(), Some(fault.line())),
-        Ok(()) => {
+        Ok(Call::Run) => {
             let mut reader = Fed::new(rt.stdin());
-            let mut writer = Told::new(io::writer(&rt));
             let status = run(&rt, &mut reader, &mut writer);
+            ended(&rt, status.code(), status.line())
+        }
+        Ok(Call::Listen(listening)) => {
+            let status = listen(&rt, &listening, &mut writer);
             ended(&rt, status.code(), status.line())
         }
     }

@@ -1,20 +1,15 @@
 -- What a run makes of the upload that it reads.
-use Rattle.std.specs.Prelude.{◌≡◌, ℕ, List, [], ◌∷◌, Bool, true, false, if◌then◌else◌, Option, Some, None, IsSome, Result, Ok, Err, ◌⊎◌}
-use Rattle.std.specs.List.{list_any}
+use Rattle.std.specs.Prelude.{◌≡◌, ℕ, List, [], ◌∷◌, Option, Some, None, IsSome, Result, Ok, Err, ◌⊎◌}
 use Rattle.byte_streams.specs.Answers.{Answer}
 use Rattle.byte_streams.specs.Reading.{Reading}
 use Rattle.byte_streams.specs.declared.fault.LineFault.{LineFault}
-use Rattle.indexmap.specs.IndexMap.{values}
 use Rattle.upload_reader.specs.Upload.{UploadState, Begins}
-use Rattle.upload_reader.specs.declared.ending.Ending.{Ending}
-use Rattle.upload_reader.specs.declared.ending.Ending.TheVariants.{GaveUp}
 use Rattle.upload_lanes.specs.Lane.{IsTaken}
 use Rattle.upload_lanes.specs.Round.{new_log}
 use Rattle.warp_server.specs.program.Run.{HasReport, HasShortReport, ReadWhileUndecided, Reads}
 use Rattle.warp_server.specs.inside.Intake.{IsBehindSite, IsRefused}
 use Rattle.upload_lanes.specs.declared.gathered.Gathered.{Gathered}
 use Rattle.upload_lanes.specs.declared.gathered.LaneResult.{LaneResult}
-use Rattle.upload_lanes.specs.declared.gathered.Stop.{Stop}
 use Rattle.upload_lanes.specs.declared.gathered.Stop.TheVariants as stops
 use Rattle.warp_server.specs.declared.program.intake.Refused.{Refused}
 use Rattle.warp_server.specs.declared.program.intake.Refused.TheVariants.{ReadFailed, NoSite, NoHello, NoMemory}
@@ -24,26 +19,9 @@ use Rattle.site_line.specs.declared.site.Site.{Site}
 use Rattle.warp_server.specs.declared.reporting.fault.ReportFault.{ReportFault}
 use Rattle.warp_server.specs.declared.reporting.fault.ReportFault.TheVariants as report_fault
 
--- ---- how a run ends
-
-abbrev pub gave_up : Option Ending → Bool
-gave_up (Some GaveUp) = true
-gave_up other = false
+-- ---- one upload
 
 module _ {R : Type 0} where
-  abbrev pub status_of_lanes : List (LaneResult R) → Status
-  status_of_lanes lanes = if list_any (λ lane. gave_up lane.end) lanes then OutOfMemory else Done
-
-  -- where memory was wanted, the report is of less than the uploads
-  abbrev pub status_by : Stop → List (LaneResult R) → Status
-  status_by stops.Memory lanes = OutOfMemory
-  status_by other lanes = status_of_lanes lanes
-
-  abbrev pub status_of : Gathered R → Status
-  status_of gathered = status_by gathered.stop (values gathered.clients)
-
-  -- ---- one upload
-
   -- this lane alone was gathered
   pub record IsOnly (gathered : Gathered R) (client : List ℕ) (lane : LaneResult R) : Type 0 where
     pub entries_are : gathered.clients.entries ≡ (client, lane) ∷ []

@@ -1,5 +1,5 @@
 -- What reading the site line and the lane behind it gives.
-use Rattle.std.specs.Prelude.{◌≡◌, ℕ, ◌+◌, List, [], length, Option, None}
+use Rattle.std.specs.Prelude.{◌≡◌, ℕ, ◌+◌, List, length, Option, None}
 use Rattle.byte_streams.specs.Cutting.{ending_of}
 use Rattle.byte_streams.specs.Reading.{Reading, input}
 use Rattle.byte_streams.specs.declared.fault.LineFault.{LineFault}
@@ -14,12 +14,6 @@ use Rattle.site_line.specs.declared.fault.SiteFault.{SiteFault}
 use Rattle.site_line.specs.declared.fault.SiteFault.TheVariants as site_fault
 use Rattle.warp_server.specs.declared.program.intake.Refused.{Refused}
 use Rattle.warp_server.specs.declared.program.intake.Refused.TheVariants.{ReadFailed, NoSite, NoHello, NoMemory}
-
--- lines of which nothing was read yet
-pub record IsFresh {R : Type 0} (lines : Reading R) : Type 0 where
-  pub answers : lines.answers ≡ []
-  pub place : lines.place ≡ 0
-  pub fault : lines.fault ≡ None
 
 -- the last line is the site line, and this is the site that it says
 pub record IsBehindSite {R : Type 0} (lines : Reading R) (site : Site) : Type 0 where

@@ -1,20 +1,77 @@
 -- How the program may be called, and what is answered to another call: this project's own rule.
-use Rattle.std.specs.Prelude.{ℕ, List, if◌then◌else◌, nat_le, Result, Ok, Err, codes}
+use Rattle.std.specs.Prelude.{ℕ, List, [], ◌∷◌, length, ◌&&◌, if◌then◌else◌, nat_lt, nat_le, Bool, Option, Some, None, option_map, Result, Ok, Err, codes, bytes_eq}
+use Rattle.std.specs.Option.{option_and_then, ok_or}
+use Rattle.std.specs.List.{list_all}
+use Rattle.std.specs.Char.{is_ascii_digit}
+use Rattle.std.specs.Str.Parse.{digits_value}
 use Rattle.std.specs.declared.io.ErrorKind.{ErrorKind}
 use Rattle.std.specs.declared.io.ErrorKind.TheVariants as error
+use Rattle.lane_queue.specs.Limits.{max_lanes, AreLanes}
 use Rattle.warp_server.specs.program.Status.{exit_code}
+use Rattle.warp_server.specs.declared.program.call.Call.{Call}
+use Rattle.warp_server.specs.declared.program.call.Call.TheVariants.{Run, Listen}
+use Rattle.warp_server.specs.declared.program.call.Listening.{Listening}
 use Rattle.warp_server.specs.declared.program.call.CallFault.{CallFault}
 use Rattle.warp_server.specs.declared.program.call.CallFault.TheVariants.{Words, NoMemory}
 use Rattle.warp_server.specs.declared.program.status.Status.TheVariants.{OutOfMemory}
 
--- with so many words, its own name among them
-abbrev pub call_by : ℕ → Result (Unit {0}) CallFault
-call_by words = if nat_le words 1 then Ok tt else Err Words
+-- ---- numbers
+
+abbrev pub max_port : ℕ
+max_port = 65535
+
+abbrev pub max_rounds : ℕ
+max_rounds = 1000
+
+-- 1 to 5 digits
+abbrev pub is_number : List ℕ → Bool
+is_number word = nat_lt 0 (length word) && nat_le (length word) 5 && list_all is_ascii_digit word
+
+abbrev pub is_between : ℕ → ℕ → ℕ → Bool
+is_between low high n = nat_le low n && nat_le n high
+
+-- what the word writes, if it is a number within these limits
+abbrev pub number_in : ℕ → ℕ → List ℕ → Option ℕ
+number_in low high word = if is_number word && is_between low high (digits_value 10 word) then Some (digits_value 10 word) else None
+
+-- ---- words
+
+-- one round where no word says how many
+abbrev pub rounds_in : List (List ℕ) → Option ℕ
+rounds_in [] = Some 1
+rounds_in (word ∷ []) = number_in 1 max_rounds word
+rounds_in words = None
+
+-- the words behind `listen`
+abbrev pub listening : List (List ℕ) → Option Listening
+listening (port ∷ lanes ∷ site_file ∷ rounds) =
+    option_and_then (λ port.
+    option_and_then (λ lanes.
+    option_map (λ rounds. record { port = port; lanes = lanes; rounds = rounds; site_file = site_file })
+    (rounds_in rounds)) (number_in 1 max_lanes lanes)) (number_in 1 max_port port)
+listening words = None
+
+-- the words behind the program's own name
+abbrev pub named_call : List (List ℕ) → Result Call CallFault
+named_call [] = Ok Run
+named_call (word ∷ words) = if bytes_eq word (codes "listen") then ok_or (option_map Listen (listening words)) Words else Err Words
+
+-- all its words; its own name may be absent
+abbrev pub call_by : List (List ℕ) → Result Call CallFault
+call_by [] = Ok Run
+call_by (name ∷ words) = named_call words
+
+-- as many lanes as a round may have, where it listens
+abbrev pub MayListen : Call → Type 0
+MayListen Run = Unit {0}
+MayListen (Listen listening) = AreLanes listening.lanes
 
 -- where its words can't be read
 abbrev pub fault_of_kind : ErrorKind → CallFault
 fault_of_kind error.OutOfMemory = NoMemory
 fault_of_kind kind = Words
+
+-- ---- faults
 
 abbrev pub call_exit_code : CallFault → ℕ
 call_exit_code Words = 2
@@ -22,5 +79,5 @@ call_exit_code NoMemory = exit_code OutOfMemory
 
 -- the line on standard error
 abbrev pub call_error_line : CallFault → List ℕ
-call_error_line Words = codes "usage: warp_server [listen PORT LANES SITEFILE]"
+call_error_line Words = codes "usage: warp_server [listen PORT LANES SITEFILE [ROUNDS]]"
 call_error_line NoMemory = codes "no memory"

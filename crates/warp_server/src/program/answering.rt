@@ -1,5 +1,5 @@
 //! What becomes of any number of uploads: they are taken, replayed, decided and reported.
-ghost use Rattle.std.specs.Prelude.{ℕ, Bool, false, ◌≡◌, ◌≤◌, ◌^◌, List, IfOk, IfErr};
+ghost use Rattle.std.specs.Prelude.{ℕ, Bool, false, ◌≡◌, ◌≤◌, ◌^◌, List, map, IfOk, IfErr};
 ghost use Rattle.std.specs.List.{AllByRecursion};
 ghost use Rattle.upload_reader.specs.Upload.{IsUntouched};
 ghost use Rattle.site_hooks.specs.Closures.{AtAddresses, AtPages, MakesBy, TellsBy};
@@ -10,8 +10,8 @@ ghost use Rattle.upload_lanes.specs.Round.{IsNoRound};
 ghost use Rattle.upload_lanes.specs.Threads.{GathersFirst};
 ghost use Rattle.site_line.specs.Reading.{site_patch, site_table, site_quota};
 ghost use Rattle.warp_server.specs.Answer.{never, site_repaired, site_settled};
-ghost use Rattle.warp_server.specs.Headline.{Headline};
-ghost use Rattle.warp_server.specs.Repair.{repaired_of};
+ghost use Rattle.warp_server.specs.Headline.{Headline, docket_of};
+ghost use Rattle.warp_server.specs.Repair.{docket_for, repaired_of};
 ghost use Rattle.warp_server.specs.Report.{WritesReport, WritesNothing, report_text};
 
 use crate::repaired::Repaired;
@@ -67,13 +67,38 @@ pub fn answer<R: Source + Drop + Send, W: Sink, T: AllocGlobal + Threads + Wait 
     ensures nothing { IfErr result (λ _. WritesNothing (W.puts writer.old) (W.puts writer.new) (W.contents writer.old) (W.contents writer.new)) }
 {
     let gathered = take_whole(rt, uploads, site.quota(), &|_items: u64| false)?;
-    let repaired = repair_and_settle(rt, site, &gathered)?;
-    let report = report(rt.alloc(), &repaired, writer);
+    let Concluded { repaired, report } = conclude(rt, site, &gathered, writer)?;
     Ok(Answered {
         gathered,
         repaired,
         report,
     })
+}
+
+/// What became of what was gathered.
+#[derive(Drop)]
+pub(crate) struct Concluded {
+    pub(crate) repaired: Repaired,
+    pub(crate) report: Result<(), ReportFault>,
+}
+
+/// Replays what the logs keep on the site, puts the site's decisions, and writes the report. Where memory is refused before the report is composed, nothing
+/// is written.
+pub(crate) fn conclude<R: Source, W: Sink, T: AllocGlobal + Threads + Sync>(
+    rt: &T,
+    site: &Site,
+    gathered: &Gathered<R>,
+    writer: &mut W,
+) -> Result<Concluded, NoMemory>
+    ensures repaired { IfOk result (λ concluded. concluded.repaired ≡ site_settled site.now gathered.now) }
+    ensures replayed { IfOk result (λ concluded. map docket_of concluded.repaired.desk ≡ map (docket_for (table_page (site_table site.now)) (λ _. signals_in (site_table site.now)) (site_patch site.now)) gathered.now.clients.entries) }
+    ensures leave { IfOk result (λ concluded. AllLeaveInOrder concluded.repaired.desk) }
+    ensures report { IfOk result (λ concluded. WritesReport (W.puts writer.old) (W.puts writer.new) (W.contents writer.old) (W.contents writer.new) (report_text concluded.repaired) concluded.report) }
+    ensures nothing { IfErr result (λ _. WritesNothing (W.puts writer.old) (W.puts writer.new) (W.contents writer.old) (W.contents writer.new)) }
+{
+    let repaired = repair_and_settle(rt, site, gathered)?;
+    let report = report(rt.alloc(), &repaired, writer);
+    Ok(Concluded { repaired, report })
 }
 
 // Takes the uploads to their ends: the question whether to stop is never answered by true.
@@ -91,7 +116,8 @@ fn take_whole<
     gather(rt, uploads, quota, room(), halt)
 }
 
-fn room() -> Room {
+/// As much as a queue of lanes holds.
+pub(crate) fn room() -> Room {
     let Ok(room) = Room::new(ROOM) else {
         unreachable!()
     };

@@ -1,18 +1,52 @@
 //! How the program was called.
-ghost use Rattle.std.specs.Prelude.{◌≡◌, IfOk, IfErr, Err};
+ghost use Rattle.std.specs.Prelude.{◌≡◌, ◌≤◌, ◌∷◌, map, option_map, string_bytes, IfOk, IfErr, IfSome, Err};
+ghost use Rattle.std.specs.List.{list_all};
+ghost use Rattle.std.specs.Char.{is_ascii_digit};
 ghost use Rattle.std.specs.IoError.{error_kind};
-ghost use Rattle.std.specs.Vec.Iter.{into_iter_len};
-ghost use Rattle.warp_server.specs.program.Call.{call_by, fault_of_kind, call_exit_code, call_error_line};
+ghost use Rattle.std.specs.Vec.Iter.{into_iter_items};
+ghost use Rattle.lane_queue.specs.Limits.{AreLanes};
+ghost use Rattle.warp_server.specs.program.Call.{is_number, number_in, rounds_in, listening, named_call, call_by, MayListen, fault_of_kind, call_exit_code, call_error_line};
 
 use crate::program::status::Status;
+use lane_queue::MAX_LANES;
+use page_tree::Text;
 use std::env::Args;
 use std::io;
 use std::io::ErrorKind;
 
+/// How many rounds of uploads the program takes at the most.
+pub const MAX_ROUNDS: u32 = 1000;
+
+const MAX_PORT: u32 = 65_535;
+
+const MAX_DIGITS: usize = 5;
+
+/// What the program is called to do.
+#[derive(Drop)]
+pub enum Call {
+    /// Read the site and one upload from standard input.
+    Run,
+    /// Take uploads over sockets.
+    Listen(Listening),
+}
+
+/// How the program listens.
+#[derive(Drop)]
+pub struct Listening {
+    /// The port that clients connect to, not 0.
+    pub port: u16,
+    /// How many lanes a round has, 1 to `MAX_LANES`.
+    pub lanes: u32,
+    /// How many rounds there are, 1 to `MAX_ROUNDS`.
+    pub rounds: u32,
+    /// The path of the file that has the site.
+    pub site_file: Text,
+}
+
 /// Why the program doesn't run.
 #[derive(Clone, Copy, Debug, PartialEq, Eq)]
 pub enum CallFault {
-    /// It was called with words, or with one that is no UTF-8. It takes none, until `listen` has a meaning.
+    /// It was called with words that have no meaning, or with one that is no UTF-8.
     Words,
     /// An allocation was refused.
     NoMemory,
@@ -34,22 +68,103 @@ impl CallFault {
         ensures { result.now ≡ call_error_line self }
     {
         match self {
-            CallFault::Words => "usage: warp_server [listen PORT LANES SITEFILE]",
+            CallFault::Words => "usage: warp_server [listen PORT LANES SITEFILE [ROUNDS]]",
             CallFault::NoMemory => "no memory",
         }
     }
 }
 
-/// Whether the program runs, called with that: its own name, which may be absent, and the words behind it.
-pub fn accept_call(called: io::Result<Args>) -> Result<(), CallFault>
-    ensures words { IfOk called (λ words. result ≡ call_by (into_iter_len words)) }
+/// What the program does, called with these words: its own name, which may be absent, and those behind it.
+pub fn accept_call(called: io::Result<Args>) -> Result<Call, CallFault>
+    ensures words { IfOk called (λ words. result ≡ call_by (map string_bytes (into_iter_items words))) }
     ensures unread { IfErr called (λ error. result ≡ Err (fault_of_kind (error_kind error))) }
+    ensures lanes { IfOk result MayListen }
 {
     match called {
-        Ok(words) if words.len() <= 1 => Ok(()),
-        Ok(_) => Err(CallFault::Words),
+        Ok(words) => read_call(words),
         Err(error) => Err(fault_of(error.kind())),
     }
+}
+
+fn read_call(mut words: Args) -> Result<Call, CallFault>
+    ensures call { result ≡ call_by (map string_bytes (into_iter_items words)) }
+    ensures lanes { IfOk result MayListen }
+{
+    match words.next() {
+        None => Ok(Call::Run),
+        Some(_name) => read_named_call(words),
+    }
+}
+
+// The words behind the program's own name.
+fn read_named_call(mut words: Args) -> Result<Call, CallFault>
+    ensures call { result ≡ named_call (map string_bytes (into_iter_items words)) }
+    ensures lanes { IfOk result MayListen }
+{
+    let Some(word) = words.next() else {
+        return Ok(Call::Run);
+    };
+    if word.as_str() != "listen" {
+        return Err(CallFault::Words);
+    }
+    match read_listening(words) {
+        None => Err(CallFault::Words),
+        Some(listening) => Ok(Call::Listen(listening)),
+    }
+}
+
+// The words behind `listen`.
+fn read_listening(mut words: Args) -> Option<Listening>
+    ensures listening { result ≡ listening (map string_bytes (into_iter_items words)) }
+    ensures lanes { IfSome result (λ listening. AreLanes listening.lanes) }
+{
+    let port = words.next()?;
+    let lanes = words.next()?;
+    let site_file = words.next()?;
+    Some(Listening {
+        port: number_in(1, MAX_PORT, &port)? as u16,
+        lanes: number_in(1, MAX_LANES, &lanes)?,
+        rounds: read_rounds(words)?,
+        site_file: Text::from(site_file),
+    })
+}
+
+// One round where no word says how many.
+fn read_rounds(mut words: Args) -> Option<u32>
+    ensures { result ≡ rounds_in (map string_bytes (into_iter_items words)) }
+{
+    let Some(rounds) = words.next() else {
+        return Some(1);
+    };
+    match words.next() {
+        None => number_in(1, MAX_ROUNDS, &rounds),
+        Some(_) => None,
+    }
+}
+
+fn number_in(low: u32, high: u32, word: &str) -> Option<u32>
+    ensures value { result ≡ number_in low high word.now }
+    ensures least { IfSome result (λ n. low ≤ n) }
+    ensures most { IfSome result (λ n. n ≤ high) }
+{
+    if !is_number(word) {
+        return None;
+    }
+    let n = word.parse().ok()?;
+    if low <= n && n <= high { Some(n) } else { None }
+}
+
+// 1 to 5 digits.
+fn is_number(word: &str) -> bool
+    ensures { result ≡ is_number word.now }
+{
+    0 < word.len() && word.len() <= MAX_DIGITS && are_digits(word.as_bytes())
+}
+
+fn are_digits(bytes: &[u8]) -> bool
+    ensures { result ≡ list_all is_ascii_digit bytes.now }
+{
+    bytes.iter().all(|c| c.is_ascii_digit())
 }
 
 fn fault_of(kind: ErrorKind) -> CallFault

@@ -1,8 +1,10 @@
 //! How a run ends.
 ghost use Rattle.std.specs.Prelude.{◌≡◌};
 ghost use Rattle.indexmap.specs.IndexMap.{values};
-ghost use Rattle.warp_server.specs.inside.Answering.{status_of, status_of_lanes, gave_up, written_status};
+ghost use Rattle.warp_server.specs.program.Shortage.{status_of, status_of_lanes, gave_up};
+ghost use Rattle.warp_server.specs.inside.Answering.{refused_status, written_status};
 
+use crate::program::intake::Refused;
 use crate::program::status::Status;
 use crate::reporting::ReportFault;
 use byte_streams::Source;
@@ -48,5 +50,17 @@ pub(crate) fn written_status(status: Status, report: Result<(), ReportFault>) ->
         Ok(()) => status,
         Err(ReportFault::WriteFailed) => Status::InputOutput,
         Err(ReportFault::NoMemory) => Status::OutOfMemory,
+    }
+}
+
+/// How a run ends that has nothing to report.
+pub(crate) fn refused_status(refused: Refused) -> Status
+    ensures { result ≡ refused_status refused }
+{
+    match refused {
+        Refused::ReadFailed => Status::InputOutput,
+        Refused::NoSite => Status::BadSite,
+        Refused::NoHello => Status::BadHello,
+        Refused::NoMemory => Status::OutOfMemory,
     }
 }

@@ -5,7 +5,8 @@ ghost use Rattle.byte_streams.specs.Reading.{input, ReadsWhile, NoLineYet};
 ghost use Rattle.warp_server.specs.program.Run.{max_site_bytes, ReadWhileUndecided};
 ghost use Rattle.upload_reader.specs.Upload.{Begins};
 ghost use Rattle.warp_server.specs.inside.Answering.{IsOpened, IsUnread};
-ghost use Rattle.warp_server.specs.inside.Intake.{IsFresh, IsBehindSite, IsRefused, no_site, bad_site, no_hello};
+ghost use Rattle.warp_server.specs.program.Connection.{IsFresh};
+ghost use Rattle.warp_server.specs.inside.Intake.{IsBehindSite, IsRefused, no_site, bad_site, no_hello};
 
 use byte_streams::{LineFault, Lines, Source};
 use site_line::{Site, SiteFault};
@@ -81,7 +82,7 @@ fn read_hello<R: Source>(
 }
 
 /// The site that the first line says.
-fn read_site<R: Source>(alloc: Global, lines: &mut Lines<R>) -> Result<Site, Refused>
+pub(crate) fn read_site<R: Source>(alloc: Global, lines: &mut Lines<R>) -> Result<Site, Refused>
     requires fresh { IsFresh lines.old }
     ensures reads { ReadsWhile (NoLineYet max_site_bytes lines.old.place) lines.old lines.new }
     ensures site { MatchResult result (IsBehindSite lines.new) (λ refused. IsRefused refused (input lines.new) (ending_of lines.new.answers)) }
@@ -114,7 +115,8 @@ fn bad_site(fault: SiteFault) -> Refused
     }
 }
 
-fn no_hello(fault: HelloFault) -> Refused
+/// Why an upload doesn't begin.
+pub(crate) fn no_hello(fault: HelloFault) -> Refused
     ensures { result ≡ no_hello fault }
 {
     match fault {

@@ -11,12 +11,12 @@ use std::test::Fail;
 use std::thread::Threads;
 use stream_fakes::{Drip, Refusal, Sips};
 
-const SITE: &str =
+pub(crate) const SITE: &str =
     r#"{"patched":["/a"],"pages":{"/a":{"n":"html","c":[{"n":"body","c":[{"n":"a","a":{"href":"/b"},"c":["go"]}]}]}}}"#;
 
 const HELLO: &str = r#"{"t":"hello","client":"c1"}"#;
 
-const REPORT: &str =
+pub(crate) const REPORT: &str =
     "stop none\nclient c1 taken 3 end bye cost 187 lost 0\nvisit 1 done\nload 0 \"/a\"\nget 1 \"/b\"\n";
 
 // The lines, each with its line end.
@@ -501,6 +501,39 @@ fn has_codes_and_lines(rt: HostRuntime) {
         assert_eq!(rt; status.code(), code);
         assert!(rt; status.line() == line, "at {code}");
     }
+}
+
+// The load of a page of so many elements, each within the one before.
+fn deep_load(alloc: Global, depth: u32) -> Result<String, AllocError> {
+    let mut text = String::from_str(
+        alloc,
+        r#"{"t":"load","visit":1,"at":1,"path":"/a","page":{"n":"a""#,
+    )?;
+    for _ in 1..depth {
+        text.push_str(r#","c":[{"n":"a""#)?;
+    }
+    for _ in 1..depth {
+        text.push_str("}]")?;
+    }
+    text.push_str("}}")?;
+    Ok(text)
+}
+
+// A page that is too deep, and a line that is too deep for JSON: E7.P5 and E5.
+#[test]
+fn tells_how_deep_a_page_may_be(rt: HostRuntime) -> Result<(), Fail> {
+    for (depth, end) in [
+        (48, "1 end E3@3 cost"),
+        (49, "0 end E7.P5@2 cost"),
+        (63, "0 end E7.P5@2 cost"),
+        (64, "0 end E5@2 cost"),
+    ] {
+        let load = deep_load(rt.alloc(), depth)?;
+        let got = said(&rt, SITE, &[HELLO, load.as_str()], 8_192)?;
+        let want = format!(in rt.alloc(); "0 stop none\nclient c1 taken {end}")?;
+        assert!(rt; got.as_str().starts_with(want.as_str()), "at {depth}");
+    }
+    Ok(())
 }
 
 // ---- decisions

@@ -5,12 +5,12 @@ ghost use Rattle.byte_streams.specs.Reading.{Reading, WasRead};
 ghost use Rattle.upload_reader.specs.Upload.{IsUntouched};
 ghost use Rattle.warp_server.specs.Report.{WritesNothing};
 ghost use Rattle.warp_server.specs.program.Run.{Meets};
-ghost use Rattle.warp_server.specs.inside.Answering.{IsOpened, HasOnlyUpload, refused_status};
-ghost use Rattle.warp_server.specs.inside.Intake.{IsFresh};
+ghost use Rattle.warp_server.specs.inside.Answering.{IsOpened, HasOnlyUpload};
+ghost use Rattle.warp_server.specs.program.Connection.{IsFresh};
 
 use crate::program::answering::answer;
-use crate::program::ending::{status_of, written_status};
-use crate::program::intake::{Refused, read_input};
+use crate::program::ending::{refused_status, status_of, written_status};
+use crate::program::intake::read_input;
 use crate::program::status::Status;
 use byte_streams::{Lines, Sink, Source};
 use page_tree::NoMemory;
@@ -104,15 +104,4 @@ fn take_reader<R: Source + Drop>(gathered: Gathered<R>) -> R
     let LaneResult { upload, .. } = lane;
     let Some(upload) = upload else { unreachable!() };
     upload.into_reader()
-}
-
-fn refused_status(refused: Refused) -> Status
-    ensures { result ≡ refused_status refused }
-{
-    match refused {
-        Refused::ReadFailed => Status::InputOutput,
-        Refused::NoSite => Status::BadSite,
-        Refused::NoHello => Status::BadHello,
-        Refused::NoMemory => Status::OutOfMemory,
-    }
 }

@@ -1,5 +1,5 @@
 use Rattle.std.proofs.Common.{◌≡◌}
-use Rattle.warp_server.specs.inside.Answering.{status_of_lanes}
+use Rattle.warp_server.specs.program.Shortage.{status_of_lanes}
 use Rattle.warp_server.proofs.program.ending.status_of_lanes.Given as goal
 
 abbrev pub invariant-loop-lane : goal.invariant-loop-lane

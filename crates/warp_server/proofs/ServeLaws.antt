@@ -1,0 +1,132 @@
+-- What serving writes is what the server promises of rounds.
+use Rattle.std.proofs.Common.{◌≡◌, ◌≢◌, ℕ, List, [], ◌∷◌, map, Bool, true, false, if◌then◌else◌, Option, Result, Ok, Err, ◌⊎◌, inl, inr, refl, sym, subst}
+use Rattle.std.specs.List.{AllByRecursion, list_any}
+use Rattle.indexmap.specs.IndexMap.{values}
+use Rattle.byte_streams.specs.Answers.{Answer}
+use Rattle.byte_streams.specs.Writing.{Takes}
+use Rattle.site_hooks.specs.Table.{table_page, signals_in}
+use Rattle.site_line.specs.Reading.{site_patch, site_table, site_quota}
+use Rattle.site_line.specs.declared.site.Site.{Site}
+use Rattle.conflict_desk.specs.Laws.{AllLeaveInOrder}
+use Rattle.upload_lanes.specs.declared.gathered.Gathered.{Gathered}
+use Rattle.upload_lanes.specs.declared.gathered.LaneResult.{LaneResult}
+use Rattle.upload_lanes.specs.declared.gathered.Stop.{Stop}
+use Rattle.upload_lanes.specs.declared.gathered.Stop.TheVariants as stops
+use Rattle.warp_server.specs.Answer.{site_settled}
+use Rattle.warp_server.specs.Headline.{docket_of}
+use Rattle.warp_server.specs.Repair.{docket_for}
+use Rattle.warp_server.specs.Report.{report_text, WritesReport}
+use Rattle.warp_server.specs.program.Shortage.{gave_up, status_by, status_of}
+use Rattle.warp_server.specs.declared.repaired.Repaired.{Repaired}
+use Rattle.warp_server.specs.declared.reporting.fault.ReportFault.{ReportFault}
+use Rattle.warp_server.specs.declared.reporting.fault.ReportFault.TheVariants as report_fault
+use Rattle.byte_streams.specs.Reading.{Reading}
+use Rattle.upload_reader.specs.Upload.{UploadState, Refuses}
+use Rattle.upload_reader.specs.declared.hello_fault.HelloFault.{HelloFault}
+use Rattle.upload_reader.specs.declared.hello_fault.HelloFault.TheVariants as hello
+use Rattle.upload_lanes.specs.Round.{has_twice, clients_of}
+use Rattle.warp_server.specs.program.Connection.{IsFresh, IsGreeted, AreGreeted, BeginsBadly}
+use Rattle.warp_server.specs.program.Serve.{IsServed, HasServed, Unserved, Serves, Listens}
+use Rattle.warp_server.specs.inside.Answering.{refused_status, written_status}
+use Rattle.warp_server.specs.inside.Intake.{no_hello}
+use Rattle.warp_server.specs.inside.Serving.{IsUnaccepted, IsUngreeted, IsUngathered}
+use Rattle.warp_server.specs.declared.program.status.Status.{Status}
+use Rattle.warp_server.specs.declared.program.status.Status.TheVariants.{Done, BadSite, BadHello, OutOfMemory, InputOutput}
+use Rattle.warp_server.proofs.RoundSteps.{new_sessions}
+use Rattle.warp_server.proofs.RoundsLaws.{rounds_have, uploads_known}
+
+-- ---- why a hello, a connection or a round is refused
+
+module _ {R : Type 0} (connection read : Reading R) (fresh : IsFresh connection) where
+  bad_begin : (fault : HelloFault) → Refuses connection read fault → fault ≢ hello.NoMemory → BeginsBadly R
+  bad_begin fault why known = record { connection = connection; fresh = fresh; read = read; fault = fault; refuses = why; not_memory = known }
+
+  pub hello_ungreeted : (fault : HelloFault) → Refuses connection read fault → IsUngreeted R (refused_status (no_hello fault))
+  hello_ungreeted hello.BadClient why = bad_begin hello.BadClient why (λ e. cc)
+  hello_ungreeted hello.NoHello why = bad_begin hello.NoHello why (λ e. cc)
+  hello_ungreeted (hello.Line number kind) why = bad_begin (hello.Line number kind) why (λ e. cc)
+  hello_ungreeted hello.NoMemory why = tt
+
+module _ (R : Type 0) (lanes : ℕ) where
+  pub unaccepted : (status : Status) → IsUnaccepted status → Unserved R lanes status
+  unaccepted Done why = why
+  unaccepted BadSite why = why
+  unaccepted BadHello why = absurd why
+  unaccepted OutOfMemory why = tt
+  unaccepted InputOutput why = tt
+
+  pub ungreeted : (status : Status) → IsUngreeted R status → Unserved R lanes status
+  ungreeted Done why = why
+  ungreeted BadSite why = why
+  ungreeted BadHello why = inl why
+  ungreeted OutOfMemory why = tt
+  ungreeted InputOutput why = absurd why
+
+module _ {R : Type 0} (lanes : ℕ) where
+  pub all_new : (made : List (List (UploadState R))) → AllByRecursion (AreGreeted lanes) made → AllByRecursion (AllByRecursion (λ upload. upload.lane.earlier ≡ [])) made
+  all_new [] greeted = tt
+  all_new (uploads ∷ made) greeted = (new_sessions uploads greeted.0.each, all_new made greeted.1)
+
+  pub unserved : (uploads : List (UploadState R)) → AreGreeted lanes uploads → (status : Status) → IsUngathered uploads status → Unserved R lanes status
+  unserved uploads greeted Done why = why
+  unserved uploads greeted BadSite why = why
+  unserved uploads greeted BadHello why = inr (record { uploads = uploads; greeted = greeted; twice = why })
+  unserved uploads greeted OutOfMemory why = tt
+  unserved uploads greeted InputOutput why = absurd why
+
+-- ---- what is written
+
+done_or_short : (short : Bool) → ((if short then OutOfMemory else Done) ≡ Done) ⊎ ((if short then OutOfMemory else Done) ≡ OutOfMemory)
+done_or_short true = inr refl
+done_or_short false = inl refl
+
+module _ {R : Type 0} where
+  status_cases : (stop : Stop) (lanes : List (LaneResult R)) → (status_by stop lanes ≡ Done) ⊎ (status_by stop lanes ≡ OutOfMemory)
+  status_cases stops.Memory lanes = inr refl
+  status_cases stops.None lanes = done_or_short (list_any (λ lane. gave_up lane.end) lanes)
+  status_cases stops.Asked lanes = done_or_short (list_any (λ lane. gave_up lane.end) lanes)
+
+module _ {R : Type 0} (site : Site) (lanes rounds : ℕ) (puts puts' : List Answer) (contents contents' : Option (List ℕ))
+    (made : List (List (UploadState R))) (gathered : Gathered R) (served : IsServed site lanes rounds made gathered)
+    (repaired : Repaired) (repaired_is : repaired ≡ site_settled site gathered)
+    (replayed : map docket_of repaired.desk ≡ map (docket_for (table_page (site_table site)) (λ address. signals_in (site_table site)) (site_patch site)) gathered.clients.entries)
+    (leave : AllLeaveInOrder repaired.desk) where
+  abbrev SoServes : Status → Type 0
+  SoServes = Serves R site lanes rounds puts puts' contents contents'
+
+  has_served : (status : Status) → status_of gathered ≡ status → HasServed R site lanes rounds status (report_text repaired)
+  has_served status is = record {
+    made = made;
+    gathered = gathered;
+    served = served;
+    status_is = is;
+    repaired = repaired;
+    repaired_is = repaired_is;
+    headline = record {
+      clients = uploads_known (site_quota site) made gathered served.gathers;
+      has = rounds_have (site_quota site) made gathered (all_new lanes made served.greeted) served.gathers;
+      replayed = replayed;
+      leave = leave;
+    };
+    text_is = refl;
+  }
+
+  serves_whole : (status_of gathered ≡ Done) ⊎ (status_of gathered ≡ OutOfMemory) → Takes puts puts' contents contents' (report_text repaired) 0 → SoServes (status_of gathered)
+  serves_whole (inl is) takes = subst SoServes (sym is) (report_text repaired, has_served Done is, takes)
+  serves_whole (inr is) takes = subst SoServes (sym is) (inr (report_text repaired, has_served OutOfMemory is, takes))
+
+  pub serves : (report : Result (Unit {0}) ReportFault) → WritesReport puts puts' contents contents' (report_text repaired) report
+      → SoServes (written_status (status_of gathered) report)
+  serves (Ok done) takes = serves_whole (status_cases gathered.stop (values gathered.clients)) takes
+  serves (Err report_fault.WriteFailed) takes = inr (status_of gathered, report_text repaired, has_served (status_of gathered) refl, takes)
+  serves (Err report_fault.NoMemory) nothing = inl nothing
+
+-- ---- behind a site that was read
+
+module _ (R : Type 0) (lanes rounds : ℕ) (puts puts' : List Answer) (contents contents' : Option (List ℕ)) (site : Site) where
+  pub listens : (status : Status) → Serves R site lanes rounds puts puts' contents contents' status → Listens R lanes rounds puts puts' contents contents' status
+  listens Done so = (site, so)
+  listens BadSite so = absurd so
+  listens BadHello so = (site, so)
+  listens OutOfMemory so = inr (site, so)
+  listens InputOutput so = inr (site, so)

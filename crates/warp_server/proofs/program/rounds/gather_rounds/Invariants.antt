@@ -1,0 +1,6 @@
+use Rattle.site_line.specs.Reading.{site_quota}
+use Rattle.warp_server.specs.inside.Serving.{AreMade}
+use Rattle.warp_server.proofs.program.rounds.gather_rounds.Given as goal
+
+abbrev pub invariant-loop : goal.invariant-loop
+invariant-loop g l = AreMade (site_quota l.site) l.lanes l.counter l.gathered

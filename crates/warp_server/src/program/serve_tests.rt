@@ -1,0 +1,186 @@
+use crate::fixtures::{BYE, CLICK, END, LOAD};
+use crate::program::run_tests::SITE;
+use crate::{Site, Status, Told, serve};
+use std::alloc::Global;
+use std::cell::Cell;
+use std::io;
+use std::io::ErrorKind;
+use std::net::{OpenListener, SocketAddr};
+use std::process::Abort;
+use std::sync::Wait;
+use std::test::Fail;
+use std::thread::Threads;
+use stream_fakes::{Drip, Refusal, Sips};
+
+// What is called: a client with the lines behind its hello; or, without a client, lines that have no hello.
+type Callers = &'static [(Option<&'static str>, &'static [&'static str])];
+
+/// Answers each accept by the next caller's upload, in pieces of seven bytes. Behind the last it fails.
+#[derive(Drop)]
+struct Called {
+    alloc: Global,
+    callers: Callers,
+    next: Cell<usize>,
+}
+
+impl Called {
+    fn text(&self, at: usize) -> io::Result<String> {
+        let Some(&(client, lines)) = self.callers.get(at) else {
+            return Err(io::Error::from(ErrorKind::ConnectionAborted));
+        };
+        let mut text = String::new(self.alloc);
+        if let Some(client) = client {
+            text.push_str("{\"t\":\"hello\",\"client\":\"")?;
+            text.push_str(client)?;
+            text.push_str("\"}\n")?;
+        }
+        for line in lines {
+            text.push_str(line)?;
+            text.push_str("\n")?;
+        }
+        Ok(text)
+    }
+}
+
+impl OpenListener for Called {
+    type Stream = Drip;
+
+    fn accept(&self) -> io::Result<(Drip, SocketAddr)> {
+        let at = self.next.get();
+        self.next.set(at.saturating_add(1));
+        let text = self.text(at)?;
+        let upload = Drip::new(self.alloc, text.as_bytes(), 7)?;
+        Ok((upload, SocketAddr::from(([127, 0, 0, 1], 0))))
+    }
+}
+
+// How serving these callers ends, in rounds of so many lanes. Where there can be no round, the test has a mistake.
+fn served(
+    rt: &(impl AllocGlobal + Threads + Wait + Sync),
+    callers: Callers,
+    lanes: u32,
+    rounds: u32,
+    sips: &mut Sips,
+) -> Result<Status, Fail> {
+    let site = Site::read(rt.alloc(), SITE.as_bytes())?;
+    let called = Called {
+        alloc: rt.alloc(),
+        callers,
+        next: Cell::new(0),
+    };
+    if lanes == 0 || lanes > 16 {
+        return Err(Fail::from("no round"));
+    }
+    Ok(serve(rt, &called, lanes, rounds, &site, &mut Told::new(sips)))
+}
+
+// ---- one round and several
+
+const ONE_CLICK: &[&str] = &[LOAD, CLICK, END, BYE];
+
+const PLAIN_CLICK: &str = r#"{"t":"click","visit":1,"at":2,"target":"/html/body/a"}"#;
+
+// Breaks off behind two clicks.
+const TWO_CLICKS: &[&str] = &[LOAD, PLAIN_CLICK, PLAIN_CLICK];
+
+const GOES_ON: &[&str] = &[PLAIN_CLICK, END, BYE];
+
+// The callers, lanes and rounds, and the status with the report.
+const SERVED: [(Callers, u32, u32, &str); 10] = [
+    (
+        &[(Some("c1"), ONE_CLICK), (Some("c2"), ONE_CLICK)],
+        2,
+        1,
+        "0 stop none\nclient c1 taken 3 end bye cost 187 lost 0\nvisit 1 done\nload 0 \"/a\"\nget 1 \"/b\"\nclient c2 taken 3 end bye cost 187 lost 0\nvisit 1 done\nload 0 \"/a\"\nget 1 \"/b\"\n",
+    ),
+    (
+        &[(Some("c1"), ONE_CLICK), (Some("c2"), &[])],
+        2,
+        1,
+        "0 stop none\nclient c1 taken 3 end bye cost 187 lost 0\nvisit 1 done\nload 0 \"/a\"\nget 1 \"/b\"\nclient c2 taken 0 end E3@2 cost 0 lost 0\n",
+    ),
+    // a later round goes on behind the one before
+    (
+        &[(Some("c1"), TWO_CLICKS), (Some("c1"), GOES_ON)],
+        1,
+        2,
+        "0 stop none\nclient c1 taken 2 end bye cost 287 lost 0\nvisit 1 done\nload 0 \"/a\"\n",
+    ),
+    (
+        &[(Some("c1"), TWO_CLICKS), (Some("c1"), TWO_CLICKS)],
+        1,
+        2,
+        "0 stop none\nclient c1 taken 0 end E9.S1@2 cost 233 lost 0\nvisit 1 done\nload 0 \"/a\"\n",
+    ),
+    (
+        &[(Some("c1"), TWO_CLICKS), (Some("c2"), TWO_CLICKS)],
+        1,
+        2,
+        "0 stop none\nclient c1 taken 0 end none cost 233 lost 0\nvisit 1 done\nload 0 \"/a\"\nclient c2 taken 3 end E3@5 cost 233 lost 0\nvisit 1 done\nload 0 \"/a\"\n",
+    ),
+    (
+        &[
+            (Some("c1"), TWO_CLICKS),
+            (Some("c2"), ONE_CLICK),
+            (Some("c3"), ONE_CLICK),
+            (Some("c1"), GOES_ON),
+        ],
+        2,
+        2,
+        "0 stop none\nclient c1 taken 2 end bye cost 287 lost 0\nvisit 1 done\nload 0 \"/a\"\nclient c2 taken 0 end none cost 187 lost 0\nvisit 1 done\nload 0 \"/a\"\nget 1 \"/b\"\nclient c3 taken 3 end bye cost 187 lost 0\nvisit 1 done\nload 0 \"/a\"\nget 1 \"/b\"\n",
+    ),
+    // two of one client
+    (
+        &[
+            (Some("c1"), ONE_CLICK),
+            (Some("c2"), ONE_CLICK),
+            (Some("c2"), ONE_CLICK),
+        ],
+        3,
+        1,
+        "4 ",
+    ),
+    // no hello, in a first round and in a later one
+    (&[(Some("c1"), ONE_CLICK), (None, ONE_CLICK)], 2, 1, "4 "),
+    (
+        &[(Some("c1"), ONE_CLICK), (Some("c 2"), ONE_CLICK)],
+        1,
+        2,
+        "4 ",
+    ),
+    // no more callers
+    (&[(Some("c1"), ONE_CLICK)], 2, 1, "6 "),
+];
+
+#[test]
+fn serves_rounds_of_callers(rt: HostRuntime) -> Result<(), Fail> {
+    let alloc = rt.alloc();
+    for (callers, lanes, rounds, want) in SERVED {
+        let mut sips = Sips::new(alloc, 50, None);
+        let status = served(&rt, callers, lanes, rounds, &mut sips)?;
+        let text = String::from_utf8(sips.taken)?;
+        let got = format!(in alloc; "{} {}", status.code(), text.as_str())?;
+        assert_eq!(rt; got.as_str(), want);
+    }
+    Ok(())
+}
+
+const ONE_CALLER: Callers = &[(Some("c1"), ONE_CLICK)];
+
+// A write that fails, or takes nothing, leaves what was written before it.
+#[test]
+fn tells_writes_that_fail(rt: HostRuntime) -> Result<(), Fail> {
+    let report =
+        "stop none\nclient c1 taken 3 end bye cost 187 lost 0\nvisit 1 done\nload 0 \"/a\"\nget 1 \"/b\"\n";
+    for (at, refusal) in [
+        (0, Refusal::Fails),
+        (20, Refusal::TakesNothing),
+        (87, Refusal::Fails),
+    ] {
+        let mut sips = Sips::new(rt.alloc(), 1, Some((at, refusal)));
+        let status = served(&rt, ONE_CALLER, 1, 1, &mut sips)?;
+        assert_eq!(rt; status, Status::InputOutput);
+        assert!(rt; report.as_bytes().get(..at as usize) == Some(sips.taken.as_slice()));
+    }
+    Ok(())
+}

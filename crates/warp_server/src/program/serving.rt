@@ -1,0 +1,122 @@
+//! Uploads over connections: rounds of them are taken, and one report is written.
+ghost use Rattle.std.specs.Prelude.{◌≡◌, IfErr};
+ghost use Rattle.byte_streams.specs.declared.source.Fed.{Fed};
+ghost use Rattle.lane_queue.specs.Limits.{AreLanes};
+ghost use Rattle.warp_server.specs.program.Serve.{Serves, Listens};
+ghost use Rattle.warp_server.specs.inside.Serving.{IsUnopened, unopened_status};
+
+use crate::program::answering::conclude;
+use crate::program::call::Listening;
+use crate::program::ending::{status_of, written_status};
+use crate::program::intake::{Refused, read_site};
+use crate::program::rounds::gather_rounds;
+use crate::program::status::Status;
+use byte_streams::{Fed, Lines, Sink};
+use site_line::Site;
+use std::alloc::Global;
+use std::fs::File;
+use std::io::{ErrorKind, Read};
+use std::net::{Net, OpenListener, SocketAddr, TcpListener, TcpStream};
+use std::rt::Files;
+use std::sync::Wait;
+use std::thread::Threads;
+use std::{fs, io};
+
+/// Takes rounds of uploads from connections to this listener, replays what the logs keep of all rounds on the site, puts the site's decisions, and writes one
+/// report. Each round accepts so many connections, then reads the hello of each in that order, and then takes all uploads to their ends at once. A client
+/// that uploaded in an earlier round goes on behind it. The connections of a round are closed when it is over, and nothing is written to them.
+///
+/// Nothing is written where a connection can't be accepted, where one doesn't begin with a hello, and where two of a round are of one client. A fault of a
+/// later line ends that upload alone, and stands in the report. A round in which memory is refused is the last.
+pub fn serve<
+    S: Read + Send + Drop,
+    L: OpenListener<Stream = S>,
+    W: Sink,
+    T: AllocGlobal + Threads + Wait + Sync,
+>(rt: &T, listener: &L, lanes: u32, rounds: u32, site: &Site, writer: &mut W) -> Status
+    requires lanes { AreLanes lanes }
+    ensures { Serves (Fed S) site.now lanes rounds (W.puts writer.old) (W.puts writer.new) (W.contents writer.old) (W.contents writer.new) result }
+{
+    let gathered = match gather_rounds(rt, listener, lanes, rounds, site) {
+        Ok(gathered) => gathered,
+        Err(status) => return status,
+    };
+    match conclude(rt, site, &gathered, writer) {
+        Err(_) => Status::OutOfMemory,
+        Ok(concluded) => written_status(status_of(&gathered), concluded.report),
+    }
+}
+
+/// Reads the site from the first line of its file, listens on that port of 127.0.0.1, and serves.
+pub fn listen<
+    W: Sink,
+    T: AllocGlobal
+        + Files<File = File>
+        + Net<Listener = TcpListener, Stream = TcpStream>
+        + Threads
+        + Wait
+        + Sync,
+>(rt: &T, listening: &Listening, writer: &mut W) -> Status
+    requires lanes { AreLanes listening.now.lanes }
+    ensures { Listens (Fed TcpStream) listening.now.lanes listening.now.rounds (W.puts writer.old) (W.puts writer.new) (W.contents writer.old) (W.contents writer.new) result }
+{
+    let site = match site_of_file(rt.alloc(), fs::open(rt, listening.site_file.as_str())) {
+        Ok(site) => site,
+        Err(status) => return status,
+    };
+    let local = SocketAddr::from(([127, 0, 0, 1], listening.port));
+    match TcpListener::bind(rt, local) {
+        Ok(listener) => serve(
+            rt,
+            &listener,
+            listening.lanes,
+            listening.rounds,
+            &site,
+            writer,
+        ),
+        Err(error) => unopened_status(error.kind()),
+    }
+}
+
+// The site that the first line of the file says.
+fn site_of_file<F: Read + Send + Drop>(alloc: Global, file: io::Result<F>) -> Result<Site, Status>
+    ensures { IfErr result IsUnopened }
+{
+    match file {
+        Ok(file) => read_site_alone(alloc, file),
+        Err(error) => Err(unopened_status(error.kind())),
+    }
+}
+
+fn read_site_alone<F: Read + Send + Drop>(alloc: Global, file: F) -> Result<Site, Status>
+    ensures { IfErr result IsUnopened }
+{
+    let Ok(mut lines) = Lines::over(alloc, Fed::new(file)) else {
+        return Err(Status::OutOfMemory);
+    };
+    match read_site(alloc, &mut lines) {
+        Ok(site) => Ok(site),
+        Err(refused) => Err(no_site_status(refused)),
+    }
+}
+
+// No hello is asked for there.
+fn no_site_status(refused: Refused) -> Status
+    ensures { IsUnopened result }
+{
+    match refused {
+        Refused::NoMemory => Status::OutOfMemory,
+        Refused::ReadFailed => Status::InputOutput,
+        Refused::NoSite | Refused::NoHello => Status::BadSite,
+    }
+}
+
+// How it ends where a file can't be opened, or no listener made.
+fn unopened_status(kind: ErrorKind) -> Status
+    ensures { result ≡ unopened_status kind }
+{
+    match kind {
+        ErrorKind::OutOfMemory => Status::OutOfMemory,
+        _ => Status::InputOutput,
+    }
+}
