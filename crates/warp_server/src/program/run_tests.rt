@@ -20,7 +20,7 @@ pub(crate) const REPORT: &str =
     "stop none\nclient c1 taken 3 end bye cost 187 lost 0\nvisit 1 done\nload 0 \"/a\"\nget 1 \"/b\"\n";
 
 // The lines, each with its line end.
-fn joined(alloc: Global, lines: &[&str]) -> Result<String, AllocError> {
+pub(crate) fn joined(alloc: Global, lines: &[&str]) -> Result<String, AllocError> {
     let mut text = String::new(alloc);
     for line in lines {
         text.push_str(line)?;

@@ -1,7 +1,7 @@
 use crate::fixtures::{BYE, CLICK, END, LOAD};
-use crate::program::run_tests::SITE;
+use crate::program::run_tests::{SITE, joined};
 use crate::{Site, Status, Told, serve};
-use std::alloc::Global;
+use std::alloc::{AllocError, Global};
 use std::cell::Cell;
 use std::io;
 use std::io::ErrorKind;
@@ -28,18 +28,18 @@ impl Called {
         let Some(&(client, lines)) = self.callers.get(at) else {
             return Err(io::Error::from(ErrorKind::ConnectionAborted));
         };
-        let mut text = String::new(self.alloc);
-        if let Some(client) = client {
-            text.push_str("{\"t\":\"hello\",\"client\":\"")?;
-            text.push_str(client)?;
-            text.push_str("\"}\n")?;
-        }
-        for line in lines {
-            text.push_str(line)?;
-            text.push_str("\n")?;
-        }
-        Ok(text)
+        Ok(upload_text(self.alloc, client, lines)?)
     }
+}
+
+fn upload_text(alloc: Global, client: Option<&str>, lines: &[&str]) -> Result<String, AllocError> {
+    let rest = joined(alloc, lines)?;
+    let Some(client) = client else {
+        return Ok(rest);
+    };
+    let mut text = format!(in alloc; "{{\"t\":\"hello\",\"client\":\"{client}\"}}\n")?;
+    text.push_str(rest.as_str())?;
+    Ok(text)
 }
 
 impl OpenListener for Called {

@@ -7,7 +7,7 @@ use std::io::{ErrorKind, Read, Write};
 use std::net::{Net, Shutdown, SocketAddr, TcpListener, TcpStream};
 use std::process::Abort;
 use std::sync::Wait;
-use std::sync::atomic::{AtomicU32, Ordering};
+use std::sync::atomic::{AtomicU64, Ordering};
 use std::test::Fail;
 use std::thread::Threads;
 use std::{io, thread};
@@ -25,7 +25,7 @@ struct Caller {
 
 impl Caller {
     // Sends all, and waits until its connection is closed.
-    fn call(self, closed: &AtomicU32) -> bool {
+    fn call(self, closed: &AtomicU64) -> bool {
         let mut stream = self.stream;
         let sent = send(&mut stream, self.text.as_bytes(), self.piece);
         let _ = stream.shutdown(Shutdown::Write);
@@ -48,8 +48,8 @@ fn send(stream: &mut TcpStream, text: &[u8], piece: usize) -> bool {
 /// Writes once so many connections are closed. Where they aren't, each write fails.
 #[derive(Drop)]
 struct AfterAll<'a> {
-    closed: &'a AtomicU32,
-    count: u32,
+    closed: &'a AtomicU64,
+    count: u64,
     sips: Sips,
 }
 
@@ -94,6 +94,21 @@ fn called(
     Ok(callers)
 }
 
+// How serving ends, where there can be such rounds.
+fn serve_on(
+    rt: &(impl AllocGlobal + Threads + Wait + Sync),
+    listener: &TcpListener,
+    lanes: u32,
+    rounds: u32,
+    site: &Site,
+    writer: &mut AfterAll<'_>,
+) -> Option<Status> {
+    if lanes == 0 || lanes > 16 {
+        return None;
+    }
+    Some(serve(rt, listener, lanes, rounds, site, &mut Told::new(writer)))
+}
+
 // What is written of these uploads in so many rounds, each text that of a connection. It is written once all connections are closed.
 fn reported(
     rt: &(impl AllocGlobal
@@ -106,14 +121,11 @@ fn reported(
     rounds: u32,
     piece: usize,
 ) -> Result<String, Fail> {
-    if lanes == 0 || lanes > 16 {
-        return Err(Fail::from("no round"));
-    }
-    let count = texts.len() as u32;
+    let count = texts.len() as u64;
     let site = Site::read(rt.alloc(), SITE.as_bytes())?;
     let listener = TcpListener::bind(rt, local(0))?;
     let callers = called(rt, &listener, texts, piece)?;
-    let closed = AtomicU32::new(0);
+    let closed = AtomicU64::new(0);
     let mut writer = AfterAll {
         closed: &closed,
         count,
@@ -122,18 +134,14 @@ fn reported(
     let (sent, status) = thread::join(
         rt,
         || thread::map_vec(rt, callers, &|caller: Caller| caller.call(&closed)),
-        || serve(
-            rt,
-            &listener,
-            lanes,
-            rounds,
-            &site,
-            &mut Told::new(&mut writer),
-        ),
+        || serve_on(rt, &listener, lanes, rounds, &site, &mut writer),
     );
     if !sent?.as_slice().iter().all(|sent| *sent) {
         return Err(Fail::from("a client couldn't send"));
     }
+    let Some(status) = status else {
+        return Err(Fail::from("no round"));
+    };
     let text = String::from_utf8(writer.sips.taken)?;
     Ok(format!(in rt.alloc(); "{} {}", status.code(), text.as_str())?)
 }
