@@ -24,8 +24,7 @@ use Rattle.byte_streams.specs.Reading.{Reading}
 use Rattle.upload_reader.specs.Upload.{UploadState, Refuses}
 use Rattle.upload_reader.specs.declared.hello_fault.HelloFault.{HelloFault}
 use Rattle.upload_reader.specs.declared.hello_fault.HelloFault.TheVariants as hello
-use Rattle.upload_lanes.specs.Round.{has_twice, clients_of}
-use Rattle.warp_server.specs.program.Connection.{IsFresh, IsGreeted, AreGreeted, BeginsBadly}
+use Rattle.warp_server.specs.program.Connection.{IsFresh, AreGreeted, BeginsBadly}
 use Rattle.warp_server.specs.program.Serve.{IsServed, HasServed, Unserved, Serves, Listens}
 use Rattle.warp_server.specs.inside.Answering.{refused_status, written_status}
 use Rattle.warp_server.specs.inside.Intake.{no_hello}

@@ -1,8 +1,9 @@
-//! The replay server: a site line and an upload come in, a report goes out.
+//! The replay server: a site line and uploads come in, a report goes out.
 //!
 //! Uploads are taken (`upload_lanes`), `repair` replays what is kept of them, `settle` puts the administrator's decisions to the desk, and `report` writes
 //! what became of it all. `answer` is all of these for any number of uploads, and carries what the server promises (`specs/Headline.antt`). `run` is the
-//! program: its contract says which report was written, or which fault the input has, by what its reads gave.
+//! program on one upload: its contract says which report was written, or which fault the input has, by what its reads gave. `serve` takes uploads from
+//! connections, in rounds, and carries the same promise of all rounds; `listen` is the program that serves.
 #![tactic(auto)]
 
 // Data goes through `repairing`, `settling` and `reporting`, by `program`.

@@ -31,15 +31,15 @@ abbrev pub is_between : ℕ → ℕ → ℕ → Bool
 is_between low high n = nat_le low n && nat_le n high
 
 -- what the word writes, if it is a number within these limits
-abbrev pub number_in : ℕ → ℕ → List ℕ → Option ℕ
-number_in low high word = if is_number word && is_between low high (digits_value 10 word) then Some (digits_value 10 word) else None
+abbrev pub number_of_word : ℕ → ℕ → List ℕ → Option ℕ
+number_of_word low high word = if is_number word && is_between low high (digits_value 10 word) then Some (digits_value 10 word) else None
 
 -- ---- words
 
 -- one round where no word says how many
 abbrev pub rounds_in : List (List ℕ) → Option ℕ
 rounds_in [] = Some 1
-rounds_in (word ∷ []) = number_in 1 max_rounds word
+rounds_in (word ∷ []) = number_of_word 1 max_rounds word
 rounds_in words = None
 
 -- the words behind `listen`
@@ -48,7 +48,7 @@ listening (port ∷ lanes ∷ site_file ∷ rounds) =
     option_and_then (λ port.
     option_and_then (λ lanes.
     option_map (λ rounds. record { port = port; lanes = lanes; rounds = rounds; site_file = site_file })
-    (rounds_in rounds)) (number_in 1 max_lanes lanes)) (number_in 1 max_port port)
+    (rounds_in rounds)) (number_of_word 1 max_lanes lanes)) (number_of_word 1 max_port port)
 listening words = None
 
 -- the words behind the program's own name

@@ -5,7 +5,7 @@ ghost use Rattle.std.specs.Char.{is_ascii_digit};
 ghost use Rattle.std.specs.IoError.{error_kind};
 ghost use Rattle.std.specs.Vec.Iter.{into_iter_items};
 ghost use Rattle.lane_queue.specs.Limits.{AreLanes};
-ghost use Rattle.warp_server.specs.program.Call.{is_number, number_in, rounds_in, listening, named_call, call_by, MayListen, fault_of_kind, call_exit_code, call_error_line};
+ghost use Rattle.warp_server.specs.program.Call.{is_number, number_of_word, rounds_in, listening, named_call, call_by, MayListen, fault_of_kind, call_exit_code, call_error_line};
 
 use crate::program::status::Status;
 use lane_queue::MAX_LANES;
@@ -122,8 +122,8 @@ fn read_listening(mut words: Args) -> Option<Listening>
     let lanes = words.next()?;
     let site_file = words.next()?;
     Some(Listening {
-        port: number_in(1, MAX_PORT, &port)? as u16,
-        lanes: number_in(1, MAX_LANES, &lanes)?,
+        port: number_of_word(1, MAX_PORT, &port)? as u16,
+        lanes: number_of_word(1, MAX_LANES, &lanes)?,
         rounds: read_rounds(words)?,
         site_file: Text::from(site_file),
     })
@@ -137,13 +137,13 @@ fn read_rounds(mut words: Args) -> Option<u32>
         return Some(1);
     };
     match words.next() {
-        None => number_in(1, MAX_ROUNDS, &rounds),
+        None => number_of_word(1, MAX_ROUNDS, &rounds),
         Some(_) => None,
     }
 }
 
-fn number_in(low: u32, high: u32, word: &str) -> Option<u32>
-    ensures value { result ≡ number_in low high word.now }
+fn number_of_word(low: u32, high: u32, word: &str) -> Option<u32>
+    ensures value { result ≡ number_of_word low high word.now }
     ensures least { IfSome result (λ n. low ≤ n) }
     ensures most { IfSome result (λ n. n ≤ high) }
 {
