@@ -348,7 +348,7 @@ module _ {R : Type 0} where
 
   rounds_know : (quota : ℕ) (rounds : List (Uploads R)) (gathered : Gathered R) → GathersRounds quota rounds gathered → Knows rounds gathered
   unfolding IsDistinct
-  rounds_know quota [] gathered empty = record { apart = subst (λ es. IsDistinct bytes_eq (keys_of es)) (sym empty) tt; lacks = λ client lacks. tt }
+  rounds_know quota [] gathered empty = record { apart = subst (λ es. IsDistinct bytes_eq (keys_of es)) (sym empty.0) tt; lacks = λ client lacks. tt }
   rounds_know quota (uploads ∷ before) gathered (earlier, gathers, g) =
       round_knows quota before earlier uploads gathered (rounds_know quota before earlier gathers) g
 
@@ -356,7 +356,7 @@ module _ {R : Type 0} where
   pub rounds_have : (quota : ℕ) (rounds : List (List (UploadState R))) (gathered : Gathered R)
       → AllByRecursion (AllByRecursion (λ upload. upload.lane.earlier ≡ [])) rounds
       → GathersRounds quota rounds gathered → AllByRecursion (HasLog quota rounds) gathered.clients.entries
-  rounds_have quota [] gathered fresh empty = subst (AllByRecursion (HasLog quota [])) (sym empty) tt
+  rounds_have quota [] gathered fresh empty = subst (AllByRecursion (HasLog quota [])) (sym empty.0) tt
   rounds_have quota (uploads ∷ before) gathered fresh (earlier, gathers, g) =
       let knows = rounds_know quota before earlier gathers in
       let had = rounds_have quota before earlier fresh.1 gathers in

@@ -102,6 +102,7 @@ module _ {R : Type 0} (site : Site) (lanes rounds : ℕ) (puts puts' : List Answ
     repaired = repaired;
     repaired_is = repaired_is;
     headline = record {
+      gathers = served.gathers;
       clients = uploads_known (site_quota site) made gathered served.gathers;
       has = rounds_have (site_quota site) made gathered (all_new lanes made served.greeted) served.gathers;
       replayed = replayed;

@@ -16,7 +16,7 @@ use Rattle.upload_lanes.specs.Round.{new_log}
 use Rattle.upload_lanes.specs.declared.gathered.Gathered.{Gathered}
 use Rattle.upload_lanes.specs.declared.gathered.LaneResult.{LaneResult}
 use Rattle.warp_server.specs.Repair.{docket_for}
-use Rattle.warp_server.specs.Rounds.{HasLog}
+use Rattle.warp_server.specs.Rounds.{GathersRounds, HasLog}
 use Rattle.warp_server.specs.declared.repaired.Repaired.{Repaired}
 
 -- the client's docket as it was opened, whatever was decided since
@@ -41,7 +41,9 @@ module _ {R : Type 0} (page_of : List ℕ → Option Tree) (signals : List ℕ �
 
   -- The same of several rounds, the last of them first.
   pub record HeadlineOfRounds (rounds : List (List (UploadState R))) (gathered : Gathered R) (repaired : Repaired) : Type 0 where
-    -- each client that uploaded is there, and of each is recorded what its uploads gave, one after another
+    -- however the threads run, each round takes of each of its uploads a prefix of its stream, behind the rounds before, and all of it where its end is taken
+    pub gathers : GathersRounds quota rounds gathered
+    -- so each client that uploaded is there, and of each is recorded what its uploads gave, one after another
     pub clients : AllByRecursion (AllByRecursion (λ upload. IsSome (get bytes_eq gathered.clients upload.client))) rounds
     pub has : AllByRecursion (HasLog quota rounds) gathered.clients.entries
     pub replayed : map docket_of repaired.desk ≡ map (docket_for page_of signals patch) gathered.clients.entries

@@ -10,6 +10,7 @@ use Rattle.upload_lanes.specs.Round.{new_log}
 use Rattle.upload_lanes.specs.Threads.{Gathers}
 use Rattle.upload_lanes.specs.declared.gathered.Gathered.{Gathered}
 use Rattle.upload_lanes.specs.declared.gathered.LaneResult.{LaneResult}
+use Rattle.upload_lanes.specs.declared.gathered.Stop.TheVariants as stops
 use Rattle.warp_server.specs.Answer.{never}
 use Rattle.warp_server.specs.program.Shortage.{status_of}
 use Rattle.warp_server.specs.declared.program.status.Status.TheVariants.{Done}
@@ -29,9 +30,9 @@ module _ {R : Type 0} where
     pub clients_are : gathered.clients.entries ≡ map (λ entry. (entry.0, let_go entry.1)) round.clients.entries
     pub stop_is : gathered.stop ≡ round.stop
 
-  -- these rounds, the last of them first; before the first there was no client
+  -- these rounds, the last of them first; before the first there was no client, and nothing had been stopped
   abbrev pub GathersRounds : ℕ → List (List (UploadState R)) → Gathered R → Type 0
-  GathersRounds quota [] gathered = gathered.clients.entries ≡ []
+  GathersRounds quota [] gathered = (gathered.clients.entries ≡ []) × (gathered.stop ≡ stops.None)
   GathersRounds quota (uploads ∷ before) gathered =
       (earlier : Gathered R) × GathersRounds quota before earlier × GathersRound quota earlier uploads gathered
 
@@ -42,7 +43,7 @@ module _ {R : Type 0} where
   behind_log log upload = record upload { lane = record upload.lane { earlier = log.session } }
 
   -- The client's log after these uploads of its, the last of them first, and the messages that were recorded: of each upload the first ones of its
-  -- stream, behind the log that those before it left, each once and in order, and all of them where its end was taken.
+  -- stream, behind the log that those before it left, each once and in order. How many of them, and which end was taken, is said round by round.
   abbrev pub IsLogAfter : ℕ → List ℕ → List (UploadState R) → List Costed → OfClient → Type 0
   IsLogAfter quota client [] messages log = (messages ≡ []) × (log ≡ new_log quota client)
   IsLogAfter quota client (upload ∷ before) messages log =
