@@ -3,8 +3,8 @@ ghost use Rattle.std.specs.Prelude.{◌≡◌, ◌+◌, ◌≤◌, ◌<◌, leng
 ghost use Rattle.std.specs.List.{AllByRecursion};
 ghost use Rattle.indexmap.specs.IndexMap.{get, spare, insert_entry, insert_all, IsUnchanged};
 ghost use Rattle.upload_reader.specs.Upload.{IsUntouched};
-ghost use Rattle.upload_lanes.specs.Round.{IsRound, IsNoRound, rested};
-ghost use Rattle.upload_lanes.specs.inside.Lanes.{begun_lane, rested_at};
+ghost use Rattle.upload_lanes.specs.Round.{IsRound, IsNoRound, resumed, rested};
+ghost use Rattle.upload_lanes.specs.inside.Lanes.{new_lane, begun_lane, rested_at};
 
 use crate::checks::check_round;
 use crate::fault::GatherFault;
@@ -60,20 +60,36 @@ fn begin_lane<R: Source + Drop>(
     ensures { IfOk result (λ lane. lane ≡ begun_lane (get bytes_eq clients.now) quota upload) }
 {
     let client = upload.client().copy()?;
-    let (log, upload) = match clients.get(&client) {
-        Some(known) => (
-            known.log.copy()?,
-            upload.resume(known.log.session().copy()?),
-        ),
-        None => (ClientLog::new(alloc, client.copy()?, quota), upload),
+    let lane = match clients.get(&client) {
+        Some(known) => begin_behind(known, upload)?,
+        None => new_lane(ClientLog::new(alloc, client.copy()?, quota), upload),
     };
-    let lane = LaneResult {
+    Ok((client, lane))
+}
+
+// Behind what an earlier round took of the client.
+fn begin_behind<R: Source + Drop>(
+    known: &LaneResult<R>,
+    upload: Upload<R>,
+) -> Result<LaneResult<R>, NoMemory>
+    requires untouched { IsUntouched upload }
+    ensures { IfOk result (λ lane. lane ≡ new_lane known.now.log (resumed upload (Some known.now))) }
+{
+    let log = known.log.copy()?;
+    let session = known.log.session().copy()?;
+    Ok(new_lane(log, upload.resume(session)))
+}
+
+// A lane of which nothing was taken.
+fn new_lane<R: Source + Drop>(log: ClientLog, upload: Upload<R>) -> LaneResult<R>
+    ensures { result ≡ new_lane log upload }
+{
+    LaneResult {
         log,
         taken: 0,
         end: None,
         upload: Some(upload),
-    };
-    Ok((client, lane))
+    }
 }
 
 /// What a later round leaves of the lanes of the earlier ones.

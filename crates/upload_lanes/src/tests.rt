@@ -311,12 +311,18 @@ fn a_client_without_a_lane_keeps_its_log(rt: HostRuntime) -> Result<(), Fail> {
     )
 }
 
+// A round behind three clients' in which one that is new comes before one that is known.
+fn new_before_known(alloc: Global) -> Result<Gathered<Reader>, Fail> {
+    let new = upload(alloc, "c0", &[BYE])?;
+    let known = upload(alloc, "c1", &[END, BYE])?;
+    let both = pair(alloc, new, known)?;
+    later_round(alloc, after_three(alloc)?, both, &[1])
+}
+
 #[test]
 fn known_clients_stand_before_new_ones(rt: HostRuntime) -> Result<(), Fail> {
     let alloc = rt.alloc();
-    let new = upload(alloc, "c0", &[BYE])?;
-    let known = upload(alloc, "c1", &[END, BYE])?;
-    let gathered = later_round(alloc, after_three(alloc)?, pair(alloc, new, known)?, &[1])?;
+    let gathered = new_before_known(alloc)?;
     tells(
         &rt,
         alloc,

@@ -1,6 +1,7 @@
 use crate::fixtures::{
     BYE, CHILD, CLICK, END, GRANDCHILD, LOAD, MOVED_SITE, Reader, reported, uploads,
 };
+use crate::repaired::Repaired;
 use crate::repairing::repair;
 use client_log::Quota;
 use replay_workers::PoolFault;
@@ -75,25 +76,43 @@ const TAKEN: [(&[u32], &str, Option<u64>); 2] = [
     (&[], NOTHING_TAKEN, None),
 ];
 
-// However many workers, on a desk on which nothing is decided.
-#[test]
-fn repairs_each_client_in_its_order(rt: HostRuntime) -> Result<(), Fail> {
+// That visit waits first of all of the client.
+fn assert_front(
+    rt: &(impl Abort + AllocGlobal),
+    repaired: &Repaired,
+    client: &str,
+    front: Option<u64>,
+) -> Result<(), Fail> {
+    let client = Client::read(rt.alloc(), client)?;
+    assert_eq!(rt; repaired.desk.front(&client), Ok(front));
+    Ok(())
+}
+
+// So many workers repair what is gathered by that schedule, on a desk on which nothing is decided.
+fn repairs(
+    rt: &(impl Abort + AllocGlobal + Threads + Sync),
+    workers: u32,
+    schedule: &[u32],
+    want: &str,
+    front: Option<u64>,
+) -> Result<(), Fail> {
     let alloc = rt.alloc();
     let site = Site::read(alloc, MOVED_SITE.as_bytes())?;
-    let first = Client::read(alloc, "c1")?;
-    let second = Client::read(alloc, "c2")?;
+    let gathered = gathered(alloc, schedule)?;
+    let repaired = repair(rt, workers, site.table(), site.patch(), &gathered)?;
+    let report = reported(alloc, &repaired, 4096)?;
+    assert_eq!(rt; report.as_str(), want, "{workers} workers");
+    assert!(rt; repaired.decided.as_slice().is_empty());
+    assert_front(rt, &repaired, "c1", front)?;
+    assert_front(rt, &repaired, "c2", None)
+}
+
+// However many workers.
+#[test]
+fn repairs_each_client_in_its_order(rt: HostRuntime) -> Result<(), Fail> {
     for (schedule, want, front) in TAKEN {
         for workers in [1, 3, 32] {
-            let gathered = gathered(alloc, schedule)?;
-            let repaired = repair(&rt, workers, site.table(), site.patch(), &gathered)?;
-            assert_eq!(rt;
-                reported(alloc, &repaired, 4096)?.as_str(),
-                want,
-                "{workers} workers"
-            );
-            assert_eq!(rt; repaired.desk.front(&first), Ok(front));
-            assert_eq!(rt; repaired.desk.front(&second), Ok(None));
-            assert!(rt; repaired.decided.as_slice().is_empty());
+            repairs(&rt, workers, schedule, want, front)?;
         }
     }
     Ok(())

@@ -1,13 +1,18 @@
 -- Steps of a round of lanes.
 use Rattle.std.specs.Prelude.{◌≡◌, ℕ, ◌+◌, ◌≤◌, List, [], ◌∷◌, zero, suc, length, ◌==◌, if◌then◌else◌, slice_get, Option, Some, None}
 use Rattle.upload_reader.specs.Upload.{UploadState}
+use Rattle.client_log.specs.Client.{OfClient}
 use Rattle.upload_lanes.specs.Round.{log_before, resumed, rested}
 use Rattle.upload_lanes.specs.declared.gathered.LaneResult.{LaneResult}
 
 module _ {R : Type 0} where
-  -- a lane of which nothing was taken, of a client of which this is known
+  -- a lane of which nothing was taken
+  abbrev pub new_lane : OfClient → UploadState R → LaneResult R
+  new_lane log upload = record { log = log; taken = 0; end = None; upload = Some upload }
+
+  -- of a client of which this is known
   abbrev pub begun_behind : ℕ → UploadState R → Option (LaneResult R) → LaneResult R
-  begun_behind quota upload known = record { log = log_before quota upload known; taken = 0; end = None; upload = Some (resumed upload known) }
+  begun_behind quota upload known = new_lane (log_before quota upload known) (resumed upload known)
 
   abbrev pub begun_lane : (List ℕ → Option (LaneResult R)) → ℕ → UploadState R → List ℕ × LaneResult R
   begun_lane known quota upload = (upload.client, begun_behind quota upload (known upload.client))

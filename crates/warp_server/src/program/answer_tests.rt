@@ -4,6 +4,7 @@ use crate::fixtures::{
 use crate::program::answering::{Answered, answer};
 use crate::reporting::ReportFault;
 use byte_streams::Told;
+use client_log::Visit;
 use conflict_desk::Standing;
 use site_line::Site;
 use std::alloc::Global;
@@ -12,7 +13,7 @@ use std::sync::Wait;
 use std::test::Fail;
 use std::thread::Threads;
 use stream_fakes::{Refusal, Sips};
-use upload_lanes::{GatherFault, Stop};
+use upload_lanes::{GatherFault, LaneResult, Stop};
 use upload_reader::{Client, Ending, LaneEnd};
 
 type Lanes = &'static [(&'static str, &'static [&'static str])];
@@ -44,25 +45,32 @@ fn answered(
 
 // Each client's three messages were taken and its visit kept, and its upload is handed back.
 fn assert_gathered(rt: &impl Abort, answered: &Answered<Reader>) {
+    let clients = &answered.gathered.clients;
     assert_eq!(rt; answered.gathered.stop, Stop::None);
-    let mut clients = answered.gathered.clients.iter();
-    for name in ["c1", "c2"] {
-        let Some((client, lane)) = clients.next() else {
-            assert!(rt; false, "no {name}");
-            return;
-        };
-        assert_eq!(rt; client.text(), name);
-        assert_eq!(rt; lane.taken, 3);
-        assert!(rt; lane.end == Some(Ending::Over(LaneEnd::Bye)));
-        assert!(rt; lane.upload.is_some());
-        for visit in lane.log.visits() {
-            assert_eq!(rt; visit.number, 1);
-            assert_eq!(rt; visit.events.as_slice().len(), 1);
-            assert!(rt; visit.ended);
-        }
-        assert_eq!(rt; lane.log.visits().len(), 1);
+    assert_eq!(rt; clients.len(), 2);
+    assert_taken(rt, clients.get_index(0), "c1");
+    assert_taken(rt, clients.get_index(1), "c2");
+}
+
+fn assert_taken(rt: &impl Abort, entry: Option<(&Client, &LaneResult<Reader>)>, name: &str) {
+    let Some((client, lane)) = entry else {
+        assert!(rt; false, "no {name}");
+        return;
+    };
+    assert_eq!(rt; client.text(), name);
+    assert_eq!(rt; lane.taken, 3);
+    assert!(rt; lane.end == Some(Ending::Over(LaneEnd::Bye)));
+    assert!(rt; lane.upload.is_some());
+    assert_one_event(rt, lane.log.visits());
+}
+
+fn assert_one_event(rt: &impl Abort, visits: &[Visit]) {
+    assert_eq!(rt; visits.len(), 1);
+    for visit in visits {
+        assert_eq!(rt; visit.number, 1);
+        assert_eq!(rt; visit.events.as_slice().len(), 1);
+        assert!(rt; visit.ended);
     }
-    assert!(rt; clients.next().is_none());
 }
 
 #[test]
