@@ -8,6 +8,7 @@
 #include <pthread.h>
 #include <stdlib.h>
 #include <string.h>
+#include <sys/syscall.h>
 #include <unistd.h>
 
 typedef int Create(pthread_t *, const pthread_attr_t *, void *(*)(void *), void *);
@@ -46,4 +47,10 @@ int pthread_detach(pthread_t thread) {
 
 __attribute__((destructor)) static void wait_for_all(void) {
     for (int turns = 0; turns < 2000 && __atomic_load_n(&held, __ATOMIC_SEQ_CST) > 0; turns++) usleep(1000);
+}
+
+void _exit(int status) {
+    wait_for_all();
+    syscall(SYS_exit_group, status);
+    __builtin_unreachable();
 }
