@@ -4,3 +4,4 @@ pub mod Shortage
 pub mod Connection
 pub mod Serve
 pub mod Call
+pub mod Callers

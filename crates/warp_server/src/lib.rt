@@ -2,8 +2,9 @@
 //!
 //! Uploads are taken (`upload_lanes`), `repair` replays what is kept of them, `settle` puts the administrator's decisions to the desk, and `report` writes
 //! what became of it all. `answer` is all of these for any number of uploads, and carries what the server promises (`specs/Headline.antt`). `run` is the
-//! program on one upload: its contract says which report was written, or which fault the input has, by what its reads gave. `serve` takes uploads from
-//! connections, in rounds, and carries the same promise of all rounds; `listen` is the program that serves.
+//! program on one upload: its contract says which report was written, or which fault the input has, by what its reads gave. `serve_callers` takes
+//! uploads in rounds from whoever brings them, and carries the same promise of all rounds; `serve` is its case of a listener's connections, and `listen` the
+//! program that serves.
 #![tactic(auto)]
 
 // Data goes through `repairing`, `settling` and `reporting`, by `program`.
@@ -17,8 +18,8 @@ mod settling;
 pub use byte_streams::{Sink, Told};
 pub use listed::Listed;
 pub use program::{
-    Answered, Call, CallFault, Listening, MAX_ROUNDS, Status, accept_call, answer, listen, run,
-    serve,
+    Answered, Call, CallFault, Callers, Listening, MAX_ROUNDS, Status, accept_call, answer, listen,
+    run, serve, serve_callers,
 };
 pub use repaired::{ClientSummary, PutDecision, Repaired};
 pub use repairing::repair;

@@ -1,51 +1,48 @@
 //! Rounds of uploads, one after another.
-ghost use Rattle.std.specs.Prelude.{ℕ, Bool, false, ◌≡◌, ◌≢◌, ◌≤◌, ◌^◌, List, length, map, true, IfOk, IfErr};
+ghost use Rattle.std.specs.Prelude.{ℕ, Bool, false, ◌≡◌, ◌≢◌, ◌≤◌, ◌^◌, List, length, map, take, drop, true, IfOk, IfErr};
 ghost use Rattle.std.specs.List.{AllByRecursion};
-ghost use Rattle.byte_streams.specs.declared.source.Fed.{Fed};
 ghost use Rattle.lane_queue.specs.Limits.{AreLanes};
 ghost use Rattle.upload_reader.specs.Upload.{UploadState, IsUntouched};
 ghost use Rattle.site_line.specs.Reading.{site_quota};
-ghost use Rattle.upload_lanes.specs.Round.{has_twice, clients_of};
 ghost use Rattle.upload_lanes.specs.Threads.{Gathers};
 ghost use Rattle.warp_server.specs.Answer.{never};
-ghost use Rattle.warp_server.specs.Rounds.{GathersRound, let_go};
-ghost use Rattle.warp_server.specs.program.Connection.{AreGreeted};
-ghost use Rattle.warp_server.specs.program.Serve.{IsServed, Unserved};
+ghost use Rattle.warp_server.specs.Rounds.{let_go};
+ghost use Rattle.warp_server.specs.program.Callers.{OneByOne, held, gives_back, MakesRound, MakesRounds, RoundFails, IsUnserved};
+ghost use Rattle.warp_server.specs.program.Serve.{IsServed};
 ghost use Rattle.warp_server.specs.program.Shortage.{status_of};
-ghost use Rattle.warp_server.specs.declared.program.status.Status.TheVariants.{Done};
+ghost use Rattle.warp_server.specs.declared.program.status.Status.TheVariants.{Done, BadHello, InputOutput};
 ghost use Rattle.warp_server.specs.inside.Serving.{let_go_at, IsUngathered};
 
 use crate::program::answering::room;
-use crate::program::connections::accept_uploads;
+use crate::program::callers::Callers;
 use crate::program::ending::status_of;
+use crate::program::greeting::accept_uploads;
 use crate::program::status::Status;
-use byte_streams::{Fed, Source};
+use byte_streams::Source;
 use client_log::Quota;
 use indexmap::IndexMap;
 use site_line::Site;
-use std::io::Read;
-use std::net::OpenListener;
 use std::sync::Wait;
 use std::thread::Threads;
 use upload_lanes::{GatherFault, Gathered, LaneResult, gather_again};
 use upload_reader::{Client, Upload};
 
-/// What so many rounds gather, each of so many connections. A round in which memory is refused is the last.
+/// What so many rounds of these callers gather, each of so many uploads. A round in which memory is refused is the last.
 pub(crate) fn gather_rounds<
-    S: Read + Send + Drop,
-    L: OpenListener<Stream = S>,
+    R: Source + Drop + Send,
+    C: Callers<Reader = R>,
     T: AllocGlobal + Threads + Wait + Sync,
->(rt: &T, listener: &L, lanes: u32, rounds: u32, site: &Site) -> Result<Gathered<Fed<S>>, Status>
+>(rt: &T, callers: &mut C, lanes: u32, rounds: u32, site: &Site) -> Result<Gathered<R>, Status>
     requires lanes { AreLanes lanes }
-    ensures ok { IfOk result (λ gathered. (made : List (List (UploadState (Fed S)))) × IsServed site.now lanes rounds made gathered) }
-    ensures refused { IfErr result (Unserved (Fed S) lanes) }
+    ensures ok { IfOk result (λ gathered. (made : List (List (UploadState R))) × IsServed site.now lanes rounds made gathered × MakesRounds R.answers R.remaining C.brings C.keeps (site_quota site.now) lanes callers.old made gathered callers.new) }
+    ensures refused { IfErr result (IsUnserved R.answers R.remaining C.brings C.ends C.keeps site.now lanes rounds callers.old callers.new) }
 {
     let mut gathered = Gathered::new(rt.alloc());
     for _ in 0..rounds {
         if is_short(&gathered) {
             return Ok(gathered);
         }
-        gathered = gather_round(rt, listener, lanes, site, gathered)?;
+        gathered = gather_round(rt, callers, lanes, site, gathered)?;
     }
     Ok(gathered)
 }
@@ -61,26 +58,26 @@ fn is_short<R: Source + Drop>(gathered: &Gathered<R>) -> bool
     }
 }
 
-// One round more. Its connections are closed when it is over.
+// One round more. Its sources are given back when it is over.
 fn gather_round<
-    S: Read + Send + Drop,
-    L: OpenListener<Stream = S>,
+    R: Source + Drop + Send,
+    C: Callers<Reader = R>,
     T: AllocGlobal + Threads + Wait + Sync,
 >(
     rt: &T,
-    listener: &L,
+    callers: &mut C,
     lanes: u32,
     site: &Site,
-    earlier: Gathered<Fed<S>>,
-) -> Result<Gathered<Fed<S>>, Status>
+    earlier: Gathered<R>,
+) -> Result<Gathered<R>, Status>
     requires lanes { AreLanes lanes }
     requires whole { status_of earlier ≡ Done }
-    ensures ok { IfOk result (λ gathered. (uploads : List (UploadState (Fed S))) × AreGreeted lanes uploads × GathersRound (site_quota site.now) earlier uploads gathered) }
-    ensures refused { IfErr result (Unserved (Fed S) lanes) }
+    ensures ok { IfOk result (λ gathered. (uploads : List (UploadState R)) × MakesRound R.answers R.remaining C.brings C.keeps (site_quota site.now) lanes callers.old earlier uploads gathered callers.new) }
+    ensures refused { IfErr result (RoundFails C.brings C.ends lanes callers.old callers.new) }
 {
-    let uploads = accept_uploads(rt.alloc(), listener, lanes)?;
+    let uploads = accept_uploads(rt.alloc(), callers, lanes)?;
     match take_behind(rt, earlier, uploads, site.quota(), &|_items: u64| false) {
-        Ok(round) => Ok(let_go_all(round)),
+        Ok(round) => Ok(give_back_all(callers, round)),
         Err(status) => Err(status),
     }
 }
@@ -114,22 +111,33 @@ fn take_behind<
     }
 }
 
-// Lets the uploads of the round go, and with them their connections.
-fn let_go_all<R: Source + Drop>(round: Gathered<R>) -> Gathered<R>
+// Gives the sources of the round's uploads back, one after another.
+fn give_back_all<R: Source + Drop + Send, C: Callers<Reader = R>>(
+    callers: &mut C,
+    round: Gathered<R>,
+) -> Gathered<R>
     ensures clients { result.clients.entries ≡ map (λ entry. (entry.0, let_go entry.1)) round.clients.entries }
     ensures stop { result.stop ≡ round.stop }
+    ensures back { OneByOne (gives_back R.answers R.remaining C.keeps) callers.old (held round.clients.entries) callers.new }
 {
     let mut round = round;
     for k in 0..round.clients.len() {
-        let_go_at(&mut round.clients, k);
+        give_back_at(callers, &mut round.clients, k);
     }
     round
 }
 
-fn let_go_at<R: Source + Drop>(clients: &mut IndexMap<Client, LaneResult<R>>, k: usize)
-    ensures { clients.new.entries ≡ let_go_at k clients.old.entries }
+fn give_back_at<R: Source + Drop + Send, C: Callers<Reader = R>>(
+    callers: &mut C,
+    clients: &mut IndexMap<Client, LaneResult<R>>,
+    k: usize,
+)
+    ensures clients { clients.new.entries ≡ let_go_at k clients.old.entries }
+    ensures back { OneByOne (gives_back R.answers R.remaining C.keeps) callers.old (held (take 1 (drop k clients.old.entries))) callers.new }
 {
     if let Some(lane) = clients.get_index_mut(k) {
-        lane.upload = None;
+        if let Some(upload) = lane.upload.take() {
+            callers.take_back(upload.into_reader());
+        }
     }
 }

@@ -1,6 +1,9 @@
+ghost use Rattle.std.specs.Prelude.{⊤, IfSome, IfNone};
+
 use crate::fixtures::{BYE, CLICK, END, LOAD};
 use crate::program::run_tests::{SITE, joined};
-use crate::{Site, Status, Told, serve};
+use crate::{Callers, Site, Status, Told, serve, serve_callers};
+use byte_streams::Fed;
 use std::alloc::{AllocError, Global};
 use std::cell::Cell;
 use std::io;
@@ -12,14 +15,14 @@ use std::test::Fail;
 use std::thread::Threads;
 use stream_fakes::{Drip, Refusal, Sips};
 
-// What is called: a client with the lines behind its hello; or, without a client, lines that have no hello.
-type Callers = &'static [(Option<&'static str>, &'static [&'static str])];
+// Who comes: a client with the lines behind its hello; or, without a client, lines that have no hello.
+type Coming = &'static [(Option<&'static str>, &'static [&'static str])];
 
 /// Answers each accept by the next caller's upload, in pieces of seven bytes. Behind the last it fails.
 #[derive(Drop)]
 struct Called {
     alloc: Global,
-    callers: Callers,
+    callers: Coming,
     next: Cell<usize>,
 }
 
@@ -57,7 +60,7 @@ impl OpenListener for Called {
 // How serving these callers ends, in rounds of so many lanes. Where there can be no round, the test has a mistake.
 fn served(
     rt: &(impl AllocGlobal + Threads + Wait + Sync),
-    callers: Callers,
+    callers: Coming,
     lanes: u32,
     rounds: u32,
     sips: &mut Sips,
@@ -86,7 +89,7 @@ const TWO_CLICKS: &[&str] = &[LOAD, PLAIN_CLICK, PLAIN_CLICK];
 const GOES_ON: &[&str] = &[PLAIN_CLICK, END, BYE];
 
 // The callers, lanes and rounds, and the status with the report.
-const SERVED: [(Callers, u32, u32, &str); 10] = [
+const SERVED: [(Coming, u32, u32, &str); 10] = [
     (
         &[(Some("c1"), ONE_CLICK), (Some("c2"), ONE_CLICK)],
         2,
@@ -165,7 +168,7 @@ fn serves_rounds_of_callers(rt: HostRuntime) -> Result<(), Fail> {
     Ok(())
 }
 
-const ONE_CALLER: Callers = &[(Some("c1"), ONE_CLICK)];
+const ONE_CALLER: Coming = &[(Some("c1"), ONE_CLICK)];
 
 // A write that fails, or takes nothing, leaves what was written before it.
 #[test]
@@ -181,6 +184,123 @@ fn tells_writes_that_fail(rt: HostRuntime) -> Result<(), Fail> {
         let status = served(&rt, ONE_CALLER, 1, 1, &mut sips)?;
         assert_eq!(rt; status, Status::InputOutput);
         assert!(rt; report.as_bytes().get(..at as usize) == Some(sips.taken.as_slice()));
+    }
+    Ok(())
+}
+
+// ---- callers of another kind
+
+/// Comes one after another, and counts who came and what was given back.
+#[derive(Drop)]
+struct Queue {
+    alloc: Global,
+    callers: Coming,
+    came: usize,
+    back: usize,
+}
+
+impl Callers for Queue {
+    type Reader = Fed<Drip>;
+
+    ghost brings = { λ _ _ _. ⊤ };
+
+    ghost ends = { λ _ _. ⊤ };
+
+    ghost keeps = { λ _ _ _. ⊤ };
+
+    fn accept(&mut self) -> Option<Fed<Drip>>
+        ensures brought { IfSome result (λ _. ⊤) }
+        ensures none { IfNone result ⊤ }
+    {
+        let &(client, lines) = self.callers.get(self.came)?;
+        let text = upload_text(self.alloc, client, lines).ok()?;
+        let upload = Drip::new(self.alloc, text.as_bytes(), 7).ok()?;
+        self.came = self.came.saturating_add(1);
+        Some(Fed::new(upload))
+    }
+
+    fn take_back(&mut self, _reader: Fed<Drip>)
+        ensures { ⊤ }
+    {
+        self.back = self.back.saturating_add(1);
+    }
+}
+
+// The callers, lanes and rounds; then the status, how many came and how many sources were given back.
+const QUEUES: [(Coming, u32, u32, &str); 5] = [
+    (
+        &[
+            (Some("c1"), TWO_CLICKS),
+            (Some("c2"), ONE_CLICK),
+            (Some("c3"), ONE_CLICK),
+            (Some("c1"), GOES_ON),
+        ],
+        2,
+        2,
+        "0 came 4 back 4",
+    ),
+    // one more is there than is asked for
+    (
+        &[(Some("c1"), ONE_CLICK), (Some("c2"), ONE_CLICK)],
+        1,
+        1,
+        "0 came 1 back 1",
+    ),
+    // too few in the second round, a client twice, and no hello
+    (
+        &[
+            (Some("c1"), ONE_CLICK),
+            (Some("c2"), ONE_CLICK),
+            (Some("c3"), ONE_CLICK),
+        ],
+        2,
+        2,
+        "6 came 3 back 2",
+    ),
+    (
+        &[(Some("c1"), ONE_CLICK), (Some("c1"), ONE_CLICK)],
+        2,
+        1,
+        "4 came 2 back 0",
+    ),
+    (
+        &[(Some("c1"), ONE_CLICK), (None, ONE_CLICK)],
+        1,
+        2,
+        "4 came 2 back 1",
+    ),
+];
+
+// How serving these ends, in rounds of so many lanes.
+fn queued(
+    rt: &(impl AllocGlobal + Threads + Wait + Sync),
+    queue: &mut Queue,
+    lanes: u32,
+    rounds: u32,
+) -> Result<Status, Fail> {
+    let alloc = rt.alloc();
+    let site = Site::read(alloc, SITE.as_bytes())?;
+    if lanes == 0 || lanes > 16 {
+        return Err(Fail::from("no round"));
+    }
+    let mut sips = Sips::new(alloc, 50, None);
+    let mut writer = Told::new(&mut sips);
+    Ok(serve_callers(rt, queue, lanes, rounds, &site, &mut writer))
+}
+
+#[test]
+fn gives_each_source_back_when_its_round_is_over(rt: HostRuntime) -> Result<(), Fail> {
+    let alloc = rt.alloc();
+    for (callers, lanes, rounds, want) in QUEUES {
+        let mut queue = Queue {
+            alloc,
+            callers,
+            came: 0,
+            back: 0,
+        };
+        let status = queued(&rt, &mut queue, lanes, rounds)?;
+        let got = format!(in alloc; "{} came {} back {}", status.code(), queue.came, queue.back)?;
+        assert_eq!(rt; got.as_str(), want);
     }
     Ok(())
 }

@@ -1,17 +1,20 @@
-//! Uploads over connections: rounds of them are taken, and one report is written.
+//! Rounds of uploads are taken, from callers or over connections, and one report is written.
 ghost use Rattle.std.specs.Prelude.{◌≡◌, IfErr};
 ghost use Rattle.byte_streams.specs.declared.source.Fed.{Fed};
 ghost use Rattle.lane_queue.specs.Limits.{AreLanes};
+ghost use Rattle.warp_server.specs.program.Callers.{ServesThem};
 ghost use Rattle.warp_server.specs.program.Serve.{Serves, Listens};
 ghost use Rattle.warp_server.specs.inside.Serving.{IsUnopened, unopened_status};
 
 use crate::program::answering::conclude;
 use crate::program::call::Listening;
+use crate::program::callers::Callers;
+use crate::program::connections::Connections;
 use crate::program::ending::{status_of, written_status};
 use crate::program::intake::{Refused, read_site};
 use crate::program::rounds::gather_rounds;
 use crate::program::status::Status;
-use byte_streams::{Fed, Lines, Sink};
+use byte_streams::{Fed, Lines, Sink, Source};
 use site_line::Site;
 use std::alloc::Global;
 use std::fs::File;
@@ -22,12 +25,33 @@ use std::sync::Wait;
 use std::thread::Threads;
 use std::{fs, io};
 
-/// Takes rounds of uploads from connections to this listener, replays what the logs keep of all rounds on the site, puts the site's decisions, and writes one
-/// report. Each round accepts so many connections, then reads the hello of each in that order, and then takes all uploads to their ends at once. A client
-/// that uploaded in an earlier round goes on behind it. The connections of a round are closed when it is over, and nothing is written to them.
+/// Takes rounds of uploads from these callers, replays what the logs keep of all rounds on the site, puts the site's decisions, and writes one report. Each
+/// round waits for so many callers, then reads the hello of each in that order, and then takes all uploads to their ends at once. A client that uploaded in an
+/// earlier round goes on behind it. The uploads of a round are given back when it is over.
 ///
-/// Nothing is written where a connection can't be accepted, where one doesn't begin with a hello, and where two of a round are of one client. A fault of a
-/// later line ends that upload alone, and stands in the report. A round in which memory is refused is the last.
+/// Nothing is written where too few callers come, where one of them doesn't begin with a hello, and where two of a round are of one client. A fault of a later
+/// line ends that upload alone, and stands in the report. A round in which memory is refused is the last.
+pub fn serve_callers<
+    R: Source + Drop + Send,
+    C: Callers<Reader = R>,
+    W: Sink,
+    T: AllocGlobal + Threads + Wait + Sync,
+>(rt: &T, callers: &mut C, lanes: u32, rounds: u32, site: &Site, writer: &mut W) -> Status
+    requires lanes { AreLanes lanes }
+    ensures { ServesThem R.answers R.remaining C.brings C.ends C.keeps site.now lanes rounds callers.old callers.new (W.puts writer.old) (W.puts writer.new) (W.contents writer.old) (W.contents writer.new) result }
+{
+    let gathered = match gather_rounds(rt, callers, lanes, rounds, site) {
+        Ok(gathered) => gathered,
+        Err(status) => return status,
+    };
+    match conclude(rt, site, &gathered, writer) {
+        Err(_) => Status::OutOfMemory,
+        Ok(concluded) => written_status(status_of(&gathered), concluded.report),
+    }
+}
+
+/// Serves the connections that this listener accepts: `serve_callers` on them. The connections of a round are closed when it is over, and nothing is written to
+/// them. Where a connection can't be accepted, too few callers came.
 pub fn serve<
     S: Read + Send + Drop,
     L: OpenListener<Stream = S>,
@@ -37,14 +61,8 @@ pub fn serve<
     requires lanes { AreLanes lanes }
     ensures { Serves (Fed S) site.now lanes rounds (W.puts writer.old) (W.puts writer.new) (W.contents writer.old) (W.contents writer.new) result }
 {
-    let gathered = match gather_rounds(rt, listener, lanes, rounds, site) {
-        Ok(gathered) => gathered,
-        Err(status) => return status,
-    };
-    match conclude(rt, site, &gathered, writer) {
-        Err(_) => Status::OutOfMemory,
-        Ok(concluded) => written_status(status_of(&gathered), concluded.report),
-    }
+    let mut connections = Connections { listener };
+    serve_callers(rt, &mut connections, lanes, rounds, site, writer)
 }
 
 /// Reads the site from the first line of its file, listens on that port of 127.0.0.1, and serves.

@@ -1,8 +1,5 @@
-use Rattle.warp_server.proofs.ServeLaws.{serves}
+use Rattle.warp_server.proofs.ServeLaws.{over_listener}
 use Rattle.warp_server.proofs.program.serving.serve.Goals as goal
 
 pub returns : goal.returns
-returns g c =
-    let gathered = c.in-Ok.gathered in let concluded = c.in-Ok-conclude.concluded in let done = c.in-Ok-conclude.ensures in
-    rw (c.written_status.ensures, c.status_of.ensures)
-    (serves c.args.site.now c.args.lanes c.args.rounds _ _ _ _ c.in-Ok.ensures.ok.0 gathered c.in-Ok.ensures.ok.1 concluded.repaired done.repaired done.replayed done.leave concluded.report done.report)
+returns g c = over_listener _ _ _ _ _ c.args.site.now c.args.lanes c.args.rounds _ _ _ _ _ _ c.serve_callers.result c.serve_callers.ensures

@@ -1,0 +1,20 @@
+use Rattle.std.proofs.Common.{ap, ◌∙◌}
+use Rattle.warp_server.specs.program.Connection.{IsFresh}
+use Rattle.warp_server.proofs.ServeLaws.{hello_ungreeted}
+use Rattle.warp_server.proofs.program.greeting.greet.Goals as goal
+
+pub returns-in-Ok-hello-clause-ok : goal.returns-in-Ok-hello-clause-ok
+returns-in-Ok-hello-clause-ok g c = (
+  record {
+    connection = c.in-Ok.lines;
+    fresh = record { answers = ap (λ l. l.answers) c.in-Ok.ensures; place = ap (λ l. l.place) c.in-Ok.ensures; fault = ap (λ l. l.fault) c.in-Ok.ensures };
+    begins = c.in-Ok-hello.ensures.begins;
+  },
+  c.in-Ok-hello.ensures.begins.reads.first ∙ ap (λ l. l.first) c.in-Ok.ensures,
+)
+
+pub returns-in-Err-clause-refused : goal.returns-in-Err-clause-refused
+returns-in-Err-clause-refused g c =
+    let fresh : IsFresh c.in-Ok.lines = record { answers = ap (λ l. l.answers) c.in-Ok.ensures; place = ap (λ l. l.place) c.in-Ok.ensures; fault = ap (λ l. l.fault) c.in-Ok.ensures } in
+    rw (c.refused_status.ensures, c.no_hello.ensures)
+    (hello_ungreeted c.in-Ok.lines c.in-Err.refused.lines fresh c.args.reader (ap (λ l. l.first) c.in-Ok.ensures) c.in-Err.refused.fault c.in-Err.ensures.refused)
