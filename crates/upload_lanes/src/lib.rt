@@ -27,6 +27,7 @@ mod starter;
 mod threads;
 mod uploader;
 
+pub use checks::has_twice;
 pub use fault::{Again, GatherFault};
 pub use gathered::{Gathered, LaneResult, Stop};
 pub use in_turn::{gather_again_in_order, gather_in_order};

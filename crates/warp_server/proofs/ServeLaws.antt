@@ -20,17 +20,18 @@ use Rattle.warp_server.specs.program.Shortage.{gave_up, status_by, status_of}
 use Rattle.warp_server.specs.declared.repaired.Repaired.{Repaired}
 use Rattle.warp_server.specs.declared.reporting.fault.ReportFault.{ReportFault}
 use Rattle.warp_server.specs.declared.reporting.fault.ReportFault.TheVariants as report_fault
-use Rattle.byte_streams.specs.Reading.{Reading}
+use Rattle.byte_streams.specs.Cutting.{StopsAtEnd}
+use Rattle.byte_streams.specs.Reading.{Reading, WasRead}
 use Rattle.upload_reader.specs.Upload.{UploadState, Refuses}
 use Rattle.upload_reader.specs.declared.hello_fault.HelloFault.{HelloFault}
 use Rattle.upload_reader.specs.declared.hello_fault.HelloFault.TheVariants as hello
 use Rattle.warp_server.specs.Rounds.{GathersRounds}
-use Rattle.warp_server.specs.program.Callers.{AreBrought, MakesRounds, RoundFails, HasServedThem, ServesThem}
-use Rattle.warp_server.specs.program.Connection.{IsFresh, AreGreeted, BeginsBadly}
+use Rattle.warp_server.specs.program.Callers.{MakesRounds, RoundFails, HasServedCallers, ServesCallers}
+use Rattle.warp_server.specs.program.Connection.{IsFresh, AreGreeted}
 use Rattle.warp_server.specs.program.Serve.{IsServed, HasServed, Unserved, Serves, Listens}
 use Rattle.warp_server.specs.inside.Answering.{refused_status, written_status}
 use Rattle.warp_server.specs.inside.Intake.{no_hello}
-use Rattle.warp_server.specs.inside.Serving.{IsUngreeted, AreUngreeted, IsUngathered}
+use Rattle.warp_server.specs.inside.Serving.{IsUngreeted, AreUngreeted}
 use Rattle.warp_server.specs.declared.program.status.Status.{Status}
 use Rattle.warp_server.specs.declared.program.status.Status.TheVariants.{Done, BadSite, BadHello, OutOfMemory, InputOutput}
 use Rattle.warp_server.proofs.RoundSteps.{new_sessions}
@@ -38,32 +39,32 @@ use Rattle.warp_server.proofs.RoundsLaws.{rounds_have, uploads_known}
 
 -- ---- why a hello, a caller or a round is refused
 
-module _ {R : Type 0} (connection read : Reading R) (fresh : IsFresh connection) (reader : R) (from : connection.first ≡ reader) where
-  bad_begin : (fault : HelloFault) → Refuses connection read fault → fault ≢ hello.NoMemory → (bad : BeginsBadly R) × (bad.connection.first ≡ reader)
-  bad_begin fault why known = (record { connection = connection; fresh = fresh; read = read; fault = fault; refuses = why; not_memory = known }, from)
+module _ {R : Type 0} (answers : R → List Answer) (remaining : R → Option (List ℕ)) (connection read : Reading R) (fresh : IsFresh connection) (reader : R)
+    (from : connection.first ≡ reader) (now : R) (first : read.first ≡ connection.first) (was_read : WasRead answers remaining read.first now read.answers)
+    (ends : StopsAtEnd read.answers) where
+  bad_begin : (fault : HelloFault) → Refuses connection read fault → fault ≢ hello.NoMemory → IsUngreeted answers remaining reader BadHello
+  bad_begin fault why known = (
+    record { connection = connection; fresh = fresh; read = read; fault = fault; refuses = why; not_memory = known },
+    from,
+    now,
+    record { was_read = subst (λ r. WasRead answers remaining r now read.answers) first was_read; ends = ends },
+  )
 
-  pub hello_ungreeted : (fault : HelloFault) → Refuses connection read fault → IsUngreeted reader (refused_status (no_hello fault))
+  pub hello_ungreeted : (fault : HelloFault) → Refuses connection read fault → IsUngreeted answers remaining reader (refused_status (no_hello fault))
   hello_ungreeted hello.BadClient why = bad_begin hello.BadClient why (λ e. cc)
   hello_ungreeted hello.NoHello why = bad_begin hello.NoHello why (λ e. cc)
   hello_ungreeted (hello.Line number kind) why = bad_begin (hello.Line number kind) why (λ e. cc)
   hello_ungreeted hello.NoMemory why = tt
 
-module _ {R : Type 0} (readers before : List R) (reader : R) (behind : List R) (are : readers ≡ before ++ reader ∷ behind) where
-  pub one_ungreeted : (status : Status) → IsUngreeted reader status → AreUngreeted readers status
+module _ {R : Type 0} (answers : R → List Answer) (remaining : R → Option (List ℕ)) (readers before : List R) (reader : R) (behind : List R)
+    (are : readers ≡ before ++ reader ∷ behind) where
+  pub one_ungreeted : (status : Status) → IsUngreeted answers remaining reader status → AreUngreeted answers remaining readers status
   one_ungreeted Done why = why
   one_ungreeted BadSite why = why
-  one_ungreeted BadHello (bad, from) = record { before = before; bad = bad; behind = behind; readers_are = are ∙ ap (λ r. before ++ r ∷ behind) (sym from) }
+  one_ungreeted BadHello (bad, from, now, is_read) =
+      record { before = before; bad = bad; behind = behind; readers_are = are ∙ ap (λ r. before ++ r ∷ behind) (sym from); now = now; is_read = is_read }
   one_ungreeted OutOfMemory why = tt
   one_ungreeted InputOutput why = why
-
-module _ {C R : Type 0} (brings : C → R → C → Type 0) (ends : C → C → Type 0) (lanes : ℕ) (callers now : C) where
-  pub ungathered : (uploads : List (UploadState R)) → AreBrought brings lanes callers uploads now → (status : Status) → IsUngathered uploads status
-      → RoundFails brings ends lanes callers now status
-  ungathered uploads brought Done why = why
-  ungathered uploads brought BadSite why = why
-  ungathered uploads brought BadHello why = inr (uploads, brought, why)
-  ungathered uploads brought OutOfMemory why = why
-  ungathered uploads brought InputOutput why = absurd why
 
 module _ {R : Type 0} (lanes : ℕ) where
   pub all_new : (made : List (List (UploadState R))) → AllByRecursion (AreGreeted lanes) made → AllByRecursion (AllByRecursion (λ upload. upload.lane.earlier ≡ [])) made
@@ -72,14 +73,14 @@ module _ {R : Type 0} (lanes : ℕ) where
 
 -- ---- rounds of callers as rounds
 
-module _ {C R : Type 0} (answers : R → List Answer) (remaining : R → Option (List ℕ)) (brings : C → R → C → Type 0) (keeps : C → R → C → Type 0)
+module _ {C R : Type 0} (answers : R → List Answer) (remaining : R → Option (List ℕ)) (brings : C → R → C → Type 0) (takes : C → R → C → Type 0)
     (quota lanes : ℕ) (callers : C) where
-  pub made_greeted : (made : List (List (UploadState R))) (gathered : Gathered R) (now : C) → MakesRounds answers remaining brings keeps quota lanes callers made gathered now
+  pub made_greeted : (made : List (List (UploadState R))) (gathered : Gathered R) (now : C) → MakesRounds answers remaining brings takes quota lanes callers made gathered now
       → AllByRecursion (AreGreeted lanes) made
   made_greeted [] gathered now makes = tt
-  made_greeted (uploads ∷ before) gathered now (earlier, between, rest, round) = (round.brought.greeted, made_greeted before earlier between rest)
+  made_greeted (uploads ∷ before) gathered now (earlier, between, rest, round) = (round.came.greeted, made_greeted before earlier between rest)
 
-  pub made_gathers : (made : List (List (UploadState R))) (gathered : Gathered R) (now : C) → MakesRounds answers remaining brings keeps quota lanes callers made gathered now
+  pub made_gathers : (made : List (List (UploadState R))) (gathered : Gathered R) (now : C) → MakesRounds answers remaining brings takes quota lanes callers made gathered now
       → GathersRounds quota made gathered
   made_gathers [] gathered now (none, stop, same) = (none, stop)
   made_gathers (uploads ∷ before) gathered now (earlier, between, rest, round) = (earlier, made_gathers before earlier between rest, round.gathers)
@@ -96,16 +97,16 @@ module _ {R : Type 0} where
   status_cases stops.None lanes = done_or_short (list_any (λ lane. gave_up lane.end) lanes)
   status_cases stops.Asked lanes = done_or_short (list_any (λ lane. gave_up lane.end) lanes)
 
-module _ {C R : Type 0} (answers : R → List Answer) (remaining : R → Option (List ℕ)) (brings : C → R → C → Type 0) (ends : C → C → Type 0)
-    (keeps : C → R → C → Type 0)
+module _ {C R : Type 0} (answers : R → List Answer) (remaining : R → Option (List ℕ)) (brings : C → R → C → Type 0) (nobody : C → C → Type 0)
+    (takes : C → R → C → Type 0)
     (site : Site) (lanes rounds : ℕ) (callers now : C) (puts puts' : List Answer) (contents contents' : Option (List ℕ))
     (made : List (List (UploadState R))) (gathered : Gathered R) (served : IsServed site lanes rounds made gathered)
-    (makes : MakesRounds answers remaining brings keeps (site_quota site) lanes callers made gathered now)
+    (makes : MakesRounds answers remaining brings takes (site_quota site) lanes callers made gathered now)
     (repaired : Repaired) (repaired_is : repaired ≡ site_settled site gathered)
     (replayed : map docket_of repaired.desk ≡ map (docket_for (table_page (site_table site)) (λ address. signals_in (site_table site)) (site_patch site)) gathered.clients.entries)
     (leave : AllLeaveInOrder repaired.desk) where
   abbrev SoServes : Status → Type 0
-  SoServes = ServesThem answers remaining brings ends keeps site lanes rounds callers now puts puts' contents contents'
+  SoServes = ServesCallers answers remaining brings nobody takes site lanes rounds callers now puts puts' contents contents'
 
   has_served : (status : Status) → status_of gathered ≡ status → HasServed R site lanes rounds status (report_text repaired)
   has_served status is = record {
@@ -125,29 +126,29 @@ module _ {C R : Type 0} (answers : R → List Answer) (remaining : R → Option 
     text_is = refl;
   }
 
-  has_served_them : (status : Status) → status_of gathered ≡ status → HasServedThem answers remaining brings ends keeps site lanes rounds callers now status (report_text repaired)
+  has_served_callers : (status : Status) → status_of gathered ≡ status → HasServedCallers answers remaining brings nobody takes site lanes rounds callers now status (report_text repaired)
   unfolding has_served
-  has_served_them status is = record { served = has_served status is; makes = makes }
+  has_served_callers status is = record { served = has_served status is; makes = makes }
 
   serves_whole : (status_of gathered ≡ Done) ⊎ (status_of gathered ≡ OutOfMemory) → Takes puts puts' contents contents' (report_text repaired) 0 → SoServes (status_of gathered)
-  serves_whole (inl is) takes = subst SoServes (sym is) (report_text repaired, has_served_them Done is, takes)
-  serves_whole (inr is) takes = subst SoServes (sym is) (inr (report_text repaired, has_served_them OutOfMemory is, takes))
+  serves_whole (inl is) takes = subst SoServes (sym is) (report_text repaired, has_served_callers Done is, takes)
+  serves_whole (inr is) takes = subst SoServes (sym is) (inr (report_text repaired, has_served_callers OutOfMemory is, takes))
 
   pub serves : (report : Result (Unit {0}) ReportFault) → WritesReport puts puts' contents contents' (report_text repaired) report
       → SoServes (written_status (status_of gathered) report)
   serves (Ok done) takes = serves_whole (status_cases gathered.stop (values gathered.clients)) takes
-  serves (Err report_fault.WriteFailed) takes = inr (status_of gathered, report_text repaired, has_served_them (status_of gathered) refl, takes)
+  serves (Err report_fault.WriteFailed) takes = inr (status_of gathered, report_text repaired, has_served_callers (status_of gathered) refl, takes)
   serves (Err report_fault.NoMemory) nothing = inl nothing
 
 -- ---- over a listener
 
-module _ {C R : Type 0} (answers : R → List Answer) (remaining : R → Option (List ℕ)) (brings : C → R → C → Type 0) (ends : C → C → Type 0)
-    (keeps : C → R → C → Type 0) (site : Site) (lanes rounds : ℕ) (callers now : C) (puts puts' : List Answer) (contents contents' : Option (List ℕ)) where
-  bad_hello : (between : C) → RoundFails brings ends lanes between now BadHello → Unserved R lanes BadHello
+module _ {C R : Type 0} (answers : R → List Answer) (remaining : R → Option (List ℕ)) (brings : C → R → C → Type 0) (nobody : C → C → Type 0)
+    (takes : C → R → C → Type 0) (site : Site) (lanes rounds : ℕ) (callers now : C) (puts puts' : List Answer) (contents contents' : Option (List ℕ)) where
+  bad_hello : (between : C) → RoundFails answers remaining brings nobody takes lanes between now BadHello → Unserved R lanes BadHello
   bad_hello between (inl (readers, count, begins, brought)) = inl begins.bad
-  bad_hello between (inr (uploads, brought, twice)) = inr (record { uploads = uploads; greeted = brought.greeted; twice = twice })
+  bad_hello between (inr (uploads, twice, begun, came, back)) = inr (record { uploads = uploads; greeted = came.greeted; twice = twice })
 
-  pub over_listener : (status : Status) → ServesThem answers remaining brings ends keeps site lanes rounds callers now puts puts' contents contents' status
+  pub over_listener : (status : Status) → ServesCallers answers remaining brings nobody takes site lanes rounds callers now puts puts' contents contents' status
       → Serves R site lanes rounds puts puts' contents contents' status
   over_listener Done (text, has, takes) = (text, has.served, takes)
   over_listener BadSite so = so

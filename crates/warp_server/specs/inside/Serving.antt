@@ -1,33 +1,33 @@
 -- Steps of serving.
-use Rattle.std.specs.Prelude.{◌≡◌, ℕ, zero, suc, List, [], ◌∷◌, length, true, Option}
+use Rattle.std.specs.Prelude.{◌≡◌, ℕ, zero, suc, List, [], ◌∷◌, length, Option}
 use Rattle.std.specs.declared.io.ErrorKind.{ErrorKind}
 use Rattle.std.specs.declared.io.ErrorKind.TheVariants as error
 use Rattle.byte_streams.specs.Answers.{Answer}
 use Rattle.upload_reader.specs.Upload.{UploadState}
-use Rattle.upload_lanes.specs.Round.{has_twice, clients_of}
 use Rattle.upload_lanes.specs.declared.gathered.Gathered.{Gathered}
 use Rattle.upload_lanes.specs.declared.gathered.LaneResult.{LaneResult}
 use Rattle.warp_server.specs.Rounds.{let_go}
-use Rattle.warp_server.specs.program.Callers.{AreUnbrought, MakesRounds}
-use Rattle.warp_server.specs.program.Connection.{BeginsBadly, BeginBadly}
+use Rattle.warp_server.specs.program.Callers.{IsReadOf, OneBeginsBadly, NoUploads, MakesRounds}
+use Rattle.warp_server.specs.program.Connection.{BeginsBadly}
 use Rattle.warp_server.specs.declared.program.status.Status.{Status}
 use Rattle.warp_server.specs.declared.program.status.Status.TheVariants.{BadSite, BadHello, OutOfMemory, InputOutput}
 
--- too few came, or memory was refused
-abbrev pub IsUnaccepted : {C R : Type 0} → (C → R → C → Type 0) → (C → C → Type 0) → ℕ → C → C → Status → Type 0
-IsUnaccepted brings ends lanes callers now BadHello = ⊥
-IsUnaccepted brings ends lanes callers now status = AreUnbrought brings lanes callers ends now status
+module _ {C R : Type 0} (answers : R → List Answer) (remaining : R → Option (List ℕ)) (brings : C → R → C → Type 0) (nobody : C → C → Type 0) where
+  -- too few came, or memory was refused
+  abbrev pub IsUnaccepted : ℕ → C → C → Status → Type 0
+  IsUnaccepted lanes callers now BadHello = ⊥
+  IsUnaccepted lanes callers now status = NoUploads answers remaining brings nobody lanes callers now status
 
-module _ {R : Type 0} where
+module _ {R : Type 0} (answers : R → List Answer) (remaining : R → Option (List ℕ)) where
   -- the source doesn't begin with a hello, or memory was refused
   abbrev pub IsUngreeted : R → Status → Type 0
-  IsUngreeted reader BadHello = (bad : BeginsBadly R) × (bad.connection.first ≡ reader)
+  IsUngreeted reader BadHello = (bad : BeginsBadly R) × (bad.connection.first ≡ reader) × (now : R) × IsReadOf answers remaining bad.connection.first now bad.read.answers
   IsUngreeted reader OutOfMemory = Unit {0}
   IsUngreeted reader other = ⊥
 
   -- likewise one of these
   abbrev pub AreUngreeted : List R → Status → Type 0
-  AreUngreeted readers BadHello = BeginBadly readers
+  AreUngreeted readers BadHello = OneBeginsBadly answers remaining readers
   AreUngreeted readers OutOfMemory = Unit {0}
   AreUngreeted readers other = ⊥
 
@@ -38,18 +38,12 @@ module _ {R : Type 0} where
   let_go_at zero (entry ∷ entries) = (entry.0, let_go entry.1) ∷ entries
   let_go_at (suc k) (entry ∷ entries) = entry ∷ let_go_at k entries
 
-  -- two uploads are of one client, or memory was refused
-  abbrev pub IsUngathered : List (UploadState R) → Status → Type 0
-  IsUngathered uploads BadHello = has_twice (clients_of uploads) ≡ true
-  IsUngathered uploads OutOfMemory = Unit {0}
-  IsUngathered uploads other = ⊥
-
-module _ {C R : Type 0} (answers : R → List Answer) (remaining : R → Option (List ℕ)) (brings : C → R → C → Type 0) (keeps : C → R → C → Type 0) where
+module _ {C R : Type 0} (answers : R → List Answer) (remaining : R → Option (List ℕ)) (brings : C → R → C → Type 0) (takes : C → R → C → Type 0) where
   -- so many rounds were made
   pub record AreMade (quota lanes count : ℕ) (callers : C) (gathered : Gathered R) (now : C) : Type 0 where
     pub made : List (List (UploadState R))
     pub count_is : length made ≡ count
-    pub makes : MakesRounds answers remaining brings keeps quota lanes callers made gathered now
+    pub makes : MakesRounds answers remaining brings takes quota lanes callers made gathered now
 
 -- what it may end by where there is no site or no listener
 abbrev pub IsUnopened : Status → Type 0

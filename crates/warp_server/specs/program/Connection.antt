@@ -1,5 +1,5 @@
--- Uploads that begin with new sources: this project's own rule.
-use Rattle.std.specs.Prelude.{◌≡◌, ◌≢◌, ℕ, List, [], ◌∷◌, ◌++◌, length, None}
+-- Uploads that begin with lines of which nothing was read: this project's own rule.
+use Rattle.std.specs.Prelude.{◌≡◌, ◌≢◌, ℕ, List, [], length, None}
 use Rattle.std.specs.List.{AllByRecursion}
 use Rattle.byte_streams.specs.Reading.{Reading}
 use Rattle.upload_reader.specs.Upload.{UploadState, Begins, Refuses}
@@ -31,10 +31,3 @@ pub record BeginsBadly (R : Type 0) : Type 0 where
   pub fault : HelloFault
   pub refuses : Refuses connection read fault
   pub not_memory : fault ≢ NoMemory
-
--- one of these sources doesn't
-pub record BeginBadly {R : Type 0} (readers : List R) : Type 0 where
-  pub before : List R
-  pub bad : BeginsBadly R
-  pub behind : List R
-  pub readers_are : readers ≡ before ++ bad.connection.first ∷ behind

@@ -10,16 +10,16 @@ pub trait Callers {
     // Someone came with that source.
     ghost brings: { Self → Self.Reader → Self → Type 0 };
     // Nobody came.
-    ghost ends: { Self → Self → Type 0 };
+    ghost brings_none: { Self → Self → Type 0 };
     // That source was given back, as it was left.
-    ghost keeps: { Self → Self.Reader → Self → Type 0 };
+    ghost takes_back: { Self → Self.Reader → Self → Type 0 };
 
-    /// The source of the next upload. None says that nobody comes any more.
+    /// The source of the next upload. None says that nobody comes, now or later; it isn't asked again.
     fn accept(&mut self) -> Option<Self::Reader>
         ensures brought { IfSome result (λ reader. brings self.old reader self.new) }
-        ensures none { IfNone result (ends self.old self.new) };
+        ensures none { IfNone result (brings_none self.old self.new) };
 
     /// Takes back a source of which the round is over.
     fn take_back(&mut self, reader: Self::Reader)
-        ensures { keeps self.old reader self.new };
+        ensures { takes_back self.old reader self.new };
 }

@@ -18,9 +18,9 @@ impl<S: Read + Send + Drop, L: OpenListener<Stream = S>> Callers for Connections
 
     ghost brings = { λ _ _ _. ⊤ };
 
-    ghost ends = { λ _ _. ⊤ };
+    ghost brings_none = { λ _ _. ⊤ };
 
-    ghost keeps = { λ _ _ _. ⊤ };
+    ghost takes_back = { λ _ _ _. ⊤ };
 
     fn accept(&mut self) -> Option<Fed<S>>
         ensures brought { IfSome result (λ _. ⊤) }

@@ -1,7 +1,7 @@
 //! The uploads of a round: so many callers come, and then the hello of each is read, in that order.
 ghost use Rattle.std.specs.Prelude.{◌≡◌, List, length, map, IfOk, IfErr};
 ghost use Rattle.warp_server.specs.program.Connection.{IsGreeted, AreGreeted};
-ghost use Rattle.warp_server.specs.program.Callers.{OneByOne, AreBrought, AreUnbrought};
+ghost use Rattle.warp_server.specs.program.Callers.{OneByOne, CameWith, NoUploads};
 ghost use Rattle.warp_server.specs.inside.Serving.{IsUnaccepted, IsUngreeted, AreUngreeted};
 
 use crate::program::callers::Callers;
@@ -18,8 +18,8 @@ pub(crate) fn accept_uploads<R: Source + Drop + Send, C: Callers<Reader = R>>(
     callers: &mut C,
     lanes: u32,
 ) -> Result<Vec<Upload<R>>, Status>
-    ensures ok { IfOk result (λ uploads. AreBrought C.brings lanes callers.old uploads.items callers.new) }
-    ensures refused { IfErr result (AreUnbrought C.brings lanes callers.old C.ends callers.new) }
+    ensures ok { IfOk result (λ uploads. CameWith C.brings lanes callers.old uploads.items callers.new) }
+    ensures refused { IfErr result (NoUploads R.answers R.remaining C.brings C.brings_none lanes callers.old callers.new) }
 {
     let readers = accept_all(alloc, callers, lanes)?;
     greet_all(alloc, readers)
@@ -31,7 +31,7 @@ fn accept_all<R: Source + Drop + Send, C: Callers<Reader = R>>(
     lanes: u32,
 ) -> Result<Vec<R>, Status>
     ensures ok { IfOk result (λ readers. (length readers.items ≡ lanes) × OneByOne C.brings callers.old readers.items callers.new) }
-    ensures refused { IfErr result (IsUnaccepted C.brings C.ends lanes callers.old callers.new) }
+    ensures refused { IfErr result (IsUnaccepted R.answers R.remaining C.brings C.brings_none lanes callers.old callers.new) }
 {
     let Ok(mut readers) = Vec::with_capacity(alloc, lanes as usize) else {
         return Err(Status::OutOfMemory);
@@ -47,7 +47,7 @@ fn accept_all<R: Source + Drop + Send, C: Callers<Reader = R>>(
 
 fn greet_all<R: Source + Drop>(alloc: Global, readers: Vec<R>) -> Result<Vec<Upload<R>>, Status>
     ensures ok { IfOk result (λ uploads. AreGreeted (length readers.items) uploads.items × (map (λ upload. upload.lines.first) uploads.items ≡ readers.items)) }
-    ensures refused { IfErr result (AreUngreeted readers.items) }
+    ensures refused { IfErr result (AreUngreeted R.answers R.remaining readers.items) }
 {
     let Ok(mut uploads) = Vec::with_capacity(alloc, readers.len()) else {
         return Err(Status::OutOfMemory);
@@ -64,13 +64,16 @@ fn greet_all<R: Source + Drop>(alloc: Global, readers: Vec<R>) -> Result<Vec<Upl
 // The upload behind the hello that the source begins with.
 fn greet<R: Source + Drop>(alloc: Global, reader: R) -> Result<Upload<R>, Status>
     ensures ok { IfOk result (λ upload. IsGreeted upload × (upload.lines.first ≡ reader)) }
-    ensures refused { IfErr result (IsUngreeted reader) }
+    ensures refused { IfErr result (IsUngreeted R.answers R.remaining reader) }
 {
     let Ok(lines) = Lines::over(alloc, reader) else {
         return Err(Status::OutOfMemory);
     };
     match Upload::hello(alloc, lines) {
         Ok(upload) => Ok(upload),
-        Err(refused) => Err(refused_status(no_hello(refused.fault))),
+        Err(refused) => {
+            let _reader = refused.lines.into_reader();
+            Err(refused_status(no_hello(refused.fault)))
+        }
     }
 }

@@ -4,14 +4,15 @@ ghost use Rattle.std.specs.List.{AllByRecursion};
 ghost use Rattle.lane_queue.specs.Limits.{AreLanes};
 ghost use Rattle.upload_reader.specs.Upload.{UploadState, IsUntouched};
 ghost use Rattle.site_line.specs.Reading.{site_quota};
+ghost use Rattle.upload_lanes.specs.Round.{has_twice, clients_of};
 ghost use Rattle.upload_lanes.specs.Threads.{Gathers};
 ghost use Rattle.warp_server.specs.Answer.{never};
 ghost use Rattle.warp_server.specs.Rounds.{let_go};
-ghost use Rattle.warp_server.specs.program.Callers.{OneByOne, held, gives_back, MakesRound, MakesRounds, RoundFails, IsUnserved};
+ghost use Rattle.warp_server.specs.program.Callers.{OneByOne, held, gives_back, MakesRound, MakesRounds, RoundFails, NoFurtherRound};
 ghost use Rattle.warp_server.specs.program.Serve.{IsServed};
 ghost use Rattle.warp_server.specs.program.Shortage.{status_of};
-ghost use Rattle.warp_server.specs.declared.program.status.Status.TheVariants.{Done, BadHello, InputOutput};
-ghost use Rattle.warp_server.specs.inside.Serving.{let_go_at, IsUngathered};
+ghost use Rattle.warp_server.specs.declared.program.status.Status.TheVariants.{Done, OutOfMemory};
+ghost use Rattle.warp_server.specs.inside.Serving.{let_go_at};
 
 use crate::program::answering::room;
 use crate::program::callers::Callers;
@@ -24,7 +25,7 @@ use indexmap::IndexMap;
 use site_line::Site;
 use std::sync::Wait;
 use std::thread::Threads;
-use upload_lanes::{GatherFault, Gathered, LaneResult, gather_again};
+use upload_lanes::{GatherFault, Gathered, LaneResult, gather_again, has_twice};
 use upload_reader::{Client, Upload};
 
 /// What so many rounds of these callers gather, each of so many uploads. A round in which memory is refused is the last.
@@ -34,8 +35,8 @@ pub(crate) fn gather_rounds<
     T: AllocGlobal + Threads + Wait + Sync,
 >(rt: &T, callers: &mut C, lanes: u32, rounds: u32, site: &Site) -> Result<Gathered<R>, Status>
     requires lanes { AreLanes lanes }
-    ensures ok { IfOk result (λ gathered. (made : List (List (UploadState R))) × IsServed site.now lanes rounds made gathered × MakesRounds R.answers R.remaining C.brings C.keeps (site_quota site.now) lanes callers.old made gathered callers.new) }
-    ensures refused { IfErr result (IsUnserved R.answers R.remaining C.brings C.ends C.keeps site.now lanes rounds callers.old callers.new) }
+    ensures ok { IfOk result (λ gathered. (made : List (List (UploadState R))) × IsServed site.now lanes rounds made gathered × MakesRounds R.answers R.remaining C.brings C.takes_back (site_quota site.now) lanes callers.old made gathered callers.new) }
+    ensures refused { IfErr result (NoFurtherRound R.answers R.remaining C.brings C.brings_none C.takes_back site.now lanes rounds callers.old callers.new) }
 {
     let mut gathered = Gathered::new(rt.alloc());
     for _ in 0..rounds {
@@ -72,10 +73,14 @@ fn gather_round<
 ) -> Result<Gathered<R>, Status>
     requires lanes { AreLanes lanes }
     requires whole { status_of earlier ≡ Done }
-    ensures ok { IfOk result (λ gathered. (uploads : List (UploadState R)) × MakesRound R.answers R.remaining C.brings C.keeps (site_quota site.now) lanes callers.old earlier uploads gathered callers.new) }
-    ensures refused { IfErr result (RoundFails C.brings C.ends lanes callers.old callers.new) }
+    ensures ok { IfOk result (λ gathered. (uploads : List (UploadState R)) × MakesRound R.answers R.remaining C.brings C.takes_back (site_quota site.now) lanes callers.old earlier uploads gathered callers.new) }
+    ensures refused { IfErr result (RoundFails R.answers R.remaining C.brings C.brings_none C.takes_back lanes callers.old callers.new) }
 {
     let uploads = accept_uploads(rt.alloc(), callers, lanes)?;
+    if has_twice(uploads.as_slice()) {
+        give_back(callers, uploads);
+        return Err(Status::BadHello);
+    }
     match take_behind(rt, earlier, uploads, site.quota(), &|_items: u64| false) {
         Ok(round) => Ok(give_back_all(callers, round)),
         Err(status) => Err(status),
@@ -96,29 +101,42 @@ fn take_behind<
 ) -> Result<Gathered<R>, Status>
     requires untouched { AllByRecursion IsUntouched uploads.items }
     requires lanes { AreLanes (length uploads.items) }
+    requires apart { has_twice (clients_of uploads.items) ≡ false }
     requires callable { (n : ℕ) → n ≤ 2 ^ 61 → H.pre halt.now n }
     requires never { (n : ℕ) (answer : Bool) → H.post halt.now n answer → answer ≡ false }
     ensures ok { IfOk result (Gathers never earlier uploads.items quota) }
-    ensures refused { IfErr result (IsUngathered uploads.items) }
+    ensures refused { IfErr result (λ status. status ≡ OutOfMemory) }
 {
     match gather_again(rt, earlier, uploads, quota, room(), halt) {
         Ok(gathered) => Ok(gathered),
         Err(again) => match again.fault {
             GatherFault::BadLanes => unreachable!(),
-            GatherFault::DuplicateClient => Err(Status::BadHello),
+            GatherFault::DuplicateClient => unreachable!(),
             GatherFault::NoMemory => Err(Status::OutOfMemory),
         },
     }
 }
 
-// Gives the sources of the round's uploads back, one after another.
+// Gives the sources of these uploads back, one after another.
+fn give_back<R: Source + Drop + Send, C: Callers<Reader = R>>(
+    callers: &mut C,
+    uploads: Vec<Upload<R>>,
+)
+    ensures { OneByOne (gives_back R.answers R.remaining C.takes_back) callers.old uploads.items callers.new }
+{
+    for upload in uploads {
+        callers.take_back(upload.into_reader());
+    }
+}
+
+// The same of all that the lanes of the round hold.
 fn give_back_all<R: Source + Drop + Send, C: Callers<Reader = R>>(
     callers: &mut C,
     round: Gathered<R>,
 ) -> Gathered<R>
     ensures clients { result.clients.entries ≡ map (λ entry. (entry.0, let_go entry.1)) round.clients.entries }
     ensures stop { result.stop ≡ round.stop }
-    ensures back { OneByOne (gives_back R.answers R.remaining C.keeps) callers.old (held round.clients.entries) callers.new }
+    ensures back { OneByOne (gives_back R.answers R.remaining C.takes_back) callers.old (held round.clients.entries) callers.new }
 {
     let mut round = round;
     for k in 0..round.clients.len() {
@@ -133,7 +151,7 @@ fn give_back_at<R: Source + Drop + Send, C: Callers<Reader = R>>(
     k: usize,
 )
     ensures clients { clients.new.entries ≡ let_go_at k clients.old.entries }
-    ensures back { OneByOne (gives_back R.answers R.remaining C.keeps) callers.old (held (take 1 (drop k clients.old.entries))) callers.new }
+    ensures back { OneByOne (gives_back R.answers R.remaining C.takes_back) callers.old (held (take 1 (drop k clients.old.entries))) callers.new }
 {
     if let Some(lane) = clients.get_index_mut(k) {
         if let Some(upload) = lane.upload.take() {

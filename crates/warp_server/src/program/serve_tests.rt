@@ -1,4 +1,5 @@
-ghost use Rattle.std.specs.Prelude.{⊤, IfSome, IfNone};
+ghost use Rattle.std.specs.Prelude.{◌≡◌, [], ◌∷◌, ◌++◌, IfSome, IfNone};
+ghost use Rattle.std.specs.Vec.{vec_len};
 
 use crate::fixtures::{BYE, CLICK, END, LOAD};
 use crate::program::run_tests::{SITE, joined};
@@ -190,43 +191,46 @@ fn tells_writes_that_fail(rt: HostRuntime) -> Result<(), Fail> {
 
 // ---- callers of another kind
 
-/// Comes one after another, and counts who came and what was given back.
+/// Those who wait, the next one last, and how many sources were given back. It says of itself just who came.
 #[derive(Drop)]
 struct Queue {
-    alloc: Global,
-    callers: Coming,
-    came: usize,
+    waiting: Vec<Fed<Drip>>,
     back: usize,
 }
 
 impl Callers for Queue {
     type Reader = Fed<Drip>;
 
-    ghost brings = { λ _ _ _. ⊤ };
+    ghost brings = { λ old reader new. old.waiting.items ≡ new.waiting.items ++ reader ∷ [] };
 
-    ghost ends = { λ _ _. ⊤ };
+    ghost brings_none = { λ old _. vec_len old.waiting ≡ 0 };
 
-    ghost keeps = { λ _ _ _. ⊤ };
+    ghost takes_back = { λ old _ new. new.waiting.items ≡ old.waiting.items };
 
     fn accept(&mut self) -> Option<Fed<Drip>>
-        ensures brought { IfSome result (λ _. ⊤) }
-        ensures none { IfNone result ⊤ }
+        ensures brought { IfSome result (λ reader. self.old.waiting.items ≡ self.new.waiting.items ++ reader ∷ []) }
+        ensures none { IfNone result (vec_len self.old.waiting ≡ 0) }
     {
-        let &(client, lines) = self.callers.get(self.came)?;
-        let text = upload_text(self.alloc, client, lines).ok()?;
-        let upload = Drip::new(self.alloc, text.as_bytes(), 7).ok()?;
-        self.came = self.came.saturating_add(1);
-        Some(Fed::new(upload))
+        self.waiting.pop()
     }
 
     fn take_back(&mut self, _reader: Fed<Drip>)
-        ensures { ⊤ }
+        ensures { self.new.waiting.items ≡ self.old.waiting.items }
     {
         self.back = self.back.saturating_add(1);
     }
 }
 
-// The callers, lanes and rounds; then the status, how many came and how many sources were given back.
+fn queue_of(alloc: Global, callers: Coming) -> Result<Queue, Fail> {
+    let mut waiting = Vec::new(alloc);
+    for &(client, lines) in callers.iter().rev() {
+        let text = upload_text(alloc, client, lines)?;
+        waiting.push(Fed::new(Drip::new(alloc, text.as_bytes(), 7)?))?;
+    }
+    Ok(Queue { waiting, back: 0 })
+}
+
+// The callers, lanes and rounds; then the status, how many still wait, and how many sources were given back.
 const QUEUES: [(Coming, u32, u32, &str); 5] = [
     (
         &[
@@ -237,14 +241,14 @@ const QUEUES: [(Coming, u32, u32, &str); 5] = [
         ],
         2,
         2,
-        "0 came 4 back 4",
+        "0 wait 0 back 4",
     ),
     // one more is there than is asked for
     (
         &[(Some("c1"), ONE_CLICK), (Some("c2"), ONE_CLICK)],
         1,
         1,
-        "0 came 1 back 1",
+        "0 wait 1 back 1",
     ),
     // too few in the second round, a client twice, and no hello
     (
@@ -255,19 +259,19 @@ const QUEUES: [(Coming, u32, u32, &str); 5] = [
         ],
         2,
         2,
-        "6 came 3 back 2",
+        "6 wait 0 back 2",
     ),
     (
         &[(Some("c1"), ONE_CLICK), (Some("c1"), ONE_CLICK)],
         2,
         1,
-        "4 came 2 back 0",
+        "4 wait 0 back 2",
     ),
     (
         &[(Some("c1"), ONE_CLICK), (None, ONE_CLICK)],
         1,
         2,
-        "4 came 2 back 1",
+        "4 wait 0 back 1",
     ),
 ];
 
@@ -292,14 +296,14 @@ fn queued(
 fn gives_each_source_back_when_its_round_is_over(rt: HostRuntime) -> Result<(), Fail> {
     let alloc = rt.alloc();
     for (callers, lanes, rounds, want) in QUEUES {
-        let mut queue = Queue {
-            alloc,
-            callers,
-            came: 0,
-            back: 0,
-        };
+        let mut queue = queue_of(alloc, callers)?;
         let status = queued(&rt, &mut queue, lanes, rounds)?;
-        let got = format!(in alloc; "{} came {} back {}", status.code(), queue.came, queue.back)?;
+        let got = format!(in alloc;
+            "{} wait {} back {}",
+            status.code(),
+            queue.waiting.len(),
+            queue.back
+        )?;
         assert_eq!(rt; got.as_str(), want);
     }
     Ok(())

@@ -2,7 +2,7 @@
 ghost use Rattle.std.specs.Prelude.{◌≡◌, IfErr};
 ghost use Rattle.byte_streams.specs.declared.source.Fed.{Fed};
 ghost use Rattle.lane_queue.specs.Limits.{AreLanes};
-ghost use Rattle.warp_server.specs.program.Callers.{ServesThem};
+ghost use Rattle.warp_server.specs.program.Callers.{ServesCallers};
 ghost use Rattle.warp_server.specs.program.Serve.{Serves, Listens};
 ghost use Rattle.warp_server.specs.inside.Serving.{IsUnopened, unopened_status};
 
@@ -27,10 +27,11 @@ use std::{fs, io};
 
 /// Takes rounds of uploads from these callers, replays what the logs keep of all rounds on the site, puts the site's decisions, and writes one report. Each
 /// round waits for so many callers, then reads the hello of each in that order, and then takes all uploads to their ends at once. A client that uploaded in an
-/// earlier round goes on behind it. The uploads of a round are given back when it is over.
+/// earlier round goes on behind it. When the round is over each source is given back.
 ///
-/// Nothing is written where too few callers come, where one of them doesn't begin with a hello, and where two of a round are of one client. A fault of a later
-/// line ends that upload alone, and stands in the report. A round in which memory is refused is the last.
+/// Nothing is written where too few callers come, where one of them doesn't begin with a hello, and where two of a round are of one client; in the last case
+/// the round's sources are given back, else they are dropped. A fault of a later line ends that upload alone, and stands in the report. Where memory is refused
+/// while messages are taken, the round is the last, and its report is written; elsewhere nothing is written then.
 pub fn serve_callers<
     R: Source + Drop + Send,
     C: Callers<Reader = R>,
@@ -38,7 +39,7 @@ pub fn serve_callers<
     T: AllocGlobal + Threads + Wait + Sync,
 >(rt: &T, callers: &mut C, lanes: u32, rounds: u32, site: &Site, writer: &mut W) -> Status
     requires lanes { AreLanes lanes }
-    ensures { ServesThem R.answers R.remaining C.brings C.ends C.keeps site.now lanes rounds callers.old callers.new (W.puts writer.old) (W.puts writer.new) (W.contents writer.old) (W.contents writer.new) result }
+    ensures { ServesCallers R.answers R.remaining C.brings C.brings_none C.takes_back site.now lanes rounds callers.old callers.new (W.puts writer.old) (W.puts writer.new) (W.contents writer.old) (W.contents writer.new) result }
 {
     let gathered = match gather_rounds(rt, callers, lanes, rounds, site) {
         Ok(gathered) => gathered,

@@ -8,11 +8,11 @@ pub enum Status {
     Done,
     /// The first line is no site.
     BadSite,
-    /// What follows does not begin with a hello.
+    /// What follows does not begin with a hello, or two uploads of a round are of one client.
     BadHello,
     /// An allocation was refused.
     OutOfMemory,
-    /// A read of the site line failed, or a write of the report failed or took nothing.
+    /// A read of the site line failed, a file or a port could not be opened, or too few callers came; or a write of the report failed or took nothing.
     InputOutput,
 }
 

@@ -1,8 +1,8 @@
-use Rattle.std.proofs.Common.{subst}
+use Rattle.std.proofs.Common.{inr, ap, sym, subst, ◌∙◌}
+use Rattle.upload_lanes.specs.Round.{has_twice, clients_of}
 use Rattle.upload_lanes.specs.Threads.{Gathers}
 use Rattle.warp_server.specs.Answer.{never}
 use Rattle.warp_server.proofs.RoundSteps.{all_untouched}
-use Rattle.warp_server.proofs.ServeLaws.{ungathered}
 use Rattle.warp_server.proofs.program.rounds.gather_round.Goals as goal
 
 pub take_behind-requires-clause-untouched : goal.take_behind-requires-clause-untouched
@@ -13,7 +13,7 @@ returns-in-Ok-clause-ok g c = (
   c.in_ok-uploads.uploads.items,
   record {
     begun = c.accept_uploads.new.callers;
-    brought = c.in_ok-uploads.ensures.ok;
+    came = c.in_ok-uploads.ensures.ok;
     gathers = record {
       whole = c.requires.whole;
       round = c.in-Ok.round;
@@ -25,6 +25,9 @@ returns-in-Ok-clause-ok g c = (
   },
 )
 
+pub returns-then-has_twice-clause-refused : goal.returns-then-has_twice-clause-refused
+returns-then-has_twice-clause-refused g c =
+    inr (c.in_ok-uploads.uploads.items, ap (λ uploads. has_twice (clients_of uploads)) (sym c.as_slice.ensures.value) ∙ sym c.has_twice.ensures ∙ c.if-has_twice.true, c.accept_uploads.new.callers, c.in_ok-uploads.ensures.ok, c.give_back.ensures)
+
 pub returns-in-Err-clause-refused : goal.returns-in-Err-clause-refused
-returns-in-Err-clause-refused g c =
-    ungathered g.C.Callers.brings g.C.Callers.ends c.args.lanes c.args.callers.now c.accept_uploads.new.callers c.in_ok-uploads.uploads.items c.in_ok-uploads.ensures.ok c.in-Err.status c.in-Err.ensures.refused
+returns-in-Err-clause-refused g c = rw c.in-Err.ensures.refused tt

@@ -8,7 +8,7 @@ returns-in-Some-take-clause-clients g c = rw c.in-Some-take.ensures.after (let_g
 pub returns-in-Some-take-clause-back : goal.returns-in-Some-take-clause-back
 returns-in-Some-take-clause-back g c =
     one_back _ _ c.args.clients.now.entries c.args.k c.in-Some.lane.now (sym c.in-Some.ensures.value) c.in-Some-take.upload (sym c.in-Some-take.ensures.value) _
-    (c.into_reader.result, c.into_reader.ensures.read, c.take_back.ensures)
+    (c.into_reader.result, record { was_read = c.into_reader.ensures.read; ends = c.into_reader.ensures.ends }, c.take_back.ensures)
 
 pub returns-in_default-take-clause-clients : goal.returns-in_default-take-clause-clients
 returns-in_default-take-clause-clients g c = rw c.in_default-take.ensures.after (let_go_set c.args.clients.now.entries c.args.k c.in-Some.lane.now (sym c.in-Some.ensures.value))
