@@ -1,9 +1,9 @@
 -- The first fault of a text: what each step of the reading adds.
-use Rattle.std.proofs.Common.{◌≡◌, ℕ, suc, ◌+◌, ◌<◌, ◌≤◌, Bool, true, false, cond, nat_lt, eqb, List, [], ◌∷◌, ◌++◌, map, length, take, drop, get_or, Ok, Err, Option, Some, None, refl, sym, ◌∙◌, ap, arith, add-one, lt-ltb, le-ltb}
+use Rattle.std.proofs.Common.{◌≡◌, ℕ, suc, ◌+◌, ◌<◌, ◌≤◌, Bool, true, false, cond, nat_lt, eqb, List, [], ◌∷◌, ◌++◌, length, drop, get_or, Ok, Err, Option, Some, None, refl, sym, ◌∙◌, ap, arith, add-one, lt-ltb, le-ltb}
 use Rattle.std.proofs.lemmas.Bool.{eqb-false}
 use Rattle.std.specs.Option.{option_map_or}
 use Rattle.std.specs.List.{slice_split, onto_first}
-use Rattle.std.proofs.lemmas.List.{at_drop_more, take_more, map-append}
+use Rattle.std.proofs.lemmas.List.{at_drop_more}
 use Rattle.std.proofs.lemmas.List.Splits.{length-slice_split}
 use Rattle.xpath_child.specs.Path.{max_steps}
 use Rattle.std.specs.Option.{option_or}
@@ -29,16 +29,16 @@ else_none false y h = refl
 abbrev chain : ℕ → ℕ → Bool → Bool → Bool → Option PathFault
 chain start bracket a b c = unless a (fault_at start EmptyStep) (unless b (fault_at start BadName) (unless c (fault_at bracket BadIndex) None))
 
-pub index_fault : (start : ℕ) (text rest : List ℕ) → eqb (length text) 0 ≡ false → is_test (test_part text) ≡ true → index_part text ≡ Some rest → is_closed_index rest ≡ false
-    → ok_unless (text_fault start text) (step_in text) ≡ Err (record { at = start + length (test_part text); kind = BadIndex })
-index_fault start text rest some test part broken =
+pub index_fault : {A : Type 0} (start : ℕ) (text rest : List ℕ) (step : A) → eqb (length text) 0 ≡ false → is_test (test_part text) ≡ true → index_part text ≡ Some rest → is_closed_index rest ≡ false
+    → ok_unless (text_fault start text) step ≡ Err (record { at = start + length (test_part text); kind = BadIndex })
+index_fault start text rest step some test part broken =
     let at = start + length (test_part text) in
     let a : nat_lt 0 (length text) ≡ true = let ne = eqb-false _ _ some in lt-ltb 0 (length text) (omega arith) in
     let c : option_map_or is_closed_index (index_part text) true ≡ false = ap (λ o. option_map_or is_closed_index o true) part ∙ broken in
     let all : text_fault start text ≡ chain start at true true false =
     ap (λ x. chain start at x (is_test (test_part text)) (option_map_or is_closed_index (index_part text) true)) a
     ∙ ap (λ x. chain start at true x (option_map_or is_closed_index (index_part text) true)) test ∙ ap (chain start at true true) c in
-    ap (λ f. ok_unless f (step_in text)) all
+    ap (λ f. ok_unless f step) all
 
 -- ---- from one answer to another
 
@@ -86,9 +86,6 @@ module _ (texts : List (List ℕ)) (k : ℕ) (text : List ℕ) (inside : k < len
 
   pub bytes_next : bytes_of (drop k texts) ≡ length text + 1 + bytes_of (drop (k + 1) texts)
   bytes_next = ap bytes_of drop_next
-
-  pub steps_next : map step_in (take (k + 1) texts) ≡ map step_in (take k texts) ++ step_in text ∷ []
-  steps_next = ap (map step_in) (take_more texts k text inside ∙ ap (λ t. take k texts ++ t ∷ []) (sym is)) ∙ map-append step_in (take k texts) (text ∷ [])
 
   -- one step too many
   pub too_many : (start : ℕ) → max_steps ≤ k → first_step_fault k start (drop k texts) ≡ Some (record { at = start; kind = TooManySteps })

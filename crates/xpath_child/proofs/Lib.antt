@@ -7,4 +7,5 @@ pub mod Faults
 pub mod Sound
 pub mod Complete
 pub mod Answered
+pub mod Placed
 pub mod RealFaults

@@ -31,9 +31,9 @@ cond_is true x y h = cc
 cond_is false x y h = cc
 
 -- a step has no `[`, or it is cut there
-record IsCut (text : List ℕ) (rest : Option (List ℕ)) : Type 0 where
-  part : index_part text ≡ rest
-  whole : text ≡ test_part text ++ option_map_or (λ r. 91 ∷ r) rest []
+pub record IsCut (text : List ℕ) (rest : Option (List ℕ)) : Type 0 where
+  pub part : index_part text ≡ rest
+  pub whole : text ≡ test_part text ++ option_map_or (λ r. 91 ∷ r) rest []
 
 cut_by : (text : List ℕ) (o : Option ℕ) → position is_bracket text ≡ o → IsCut text (option_map (λ i. drop (i + 1) text) o)
 cut_by text None e =
@@ -52,7 +52,7 @@ cut_by text (Some i) e =
           ∙ ap (λ k. take k text ++ 91 ∷ drop (i + 1) text) (sym (cond_is _ _ _ e));
     }
 
-cut_is : (text : List ℕ) → IsCut text (index_part text)
+pub cut_is : (text : List ℕ) → IsCut text (index_part text)
 cut_is text = cut_by text _ refl
 
 -- ---- a step without a fault

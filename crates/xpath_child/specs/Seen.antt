@@ -1,16 +1,21 @@
--- The plain steps that the code's steps stand for.
-use Rattle.std.specs.Prelude.{List, map}
+-- The plain steps that the code's steps stand for: each has its name in the text of its path.
+use Rattle.std.specs.Prelude.{ℕ, ◌+◌, ◌≤◌, List, map, length, take, drop}
+use Rattle.std.specs.List.{AllByRecursion}
 use Rattle.xpath_child.specs.Path as plain
-use Rattle.xpath_child.specs.declared.step.Test.{Test}
-use Rattle.xpath_child.specs.declared.step.Test.TheVariants.{Any, Named}
+use Rattle.xpath_child.specs.Fault.{test_in}
 use Rattle.xpath_child.specs.declared.step.Step.{Step}
 
-abbrev pub test_seen : Test → plain.Test
-test_seen Any = plain.any
-test_seen (Named name) = plain.named name
+abbrev pub test_seen : List ℕ → Step → plain.Test
+test_seen text step = test_in (take step.len (drop step.start text))
 
-abbrev pub step_seen : Step → plain.Step
-step_seen step = record { test = test_seen step.test; index = step.index }
+abbrev pub step_seen : List ℕ → Step → plain.Step
+step_seen text step = record { test = test_seen text step; index = step.index }
 
-abbrev pub steps_seen : List Step → List plain.Step
-steps_seen steps = map step_seen steps
+abbrev pub steps_seen : List ℕ → List Step → List plain.Step
+steps_seen text steps = map (step_seen text) steps
+
+abbrev pub IsWithin : List ℕ → Step → Type 0
+IsWithin text step = step.start + step.len ≤ length text
+
+abbrev pub AreWithin : List ℕ → List Step → Type 0
+AreWithin text steps = AllByRecursion (IsWithin text) steps

@@ -4,9 +4,9 @@ ghost use Rattle.page_tree.specs.Tree.{Tree};
 ghost use Rattle.page_tree.specs.Limits.{nodes};
 ghost use Rattle.page_tree.specs.Look.{name_at};
 ghost use Rattle.page_tree.specs.Number.{place_numbered};
-ghost use Rattle.xpath_child.specs.Path.{Step, IsPath, path_text};
+ghost use Rattle.xpath_child.specs.Path.{Step as Plain, IsPath, path_text};
 ghost use Rattle.xpath_child.specs.Fault.{path_fault, path_in, GivesPath};
-ghost use Rattle.xpath_child.specs.Seen.{test_seen, steps_seen};
+ghost use Rattle.xpath_child.specs.Seen.{IsWithin, AreWithin, test_seen, steps_seen};
 ghost use Rattle.xpath_child.specs.Reaches.{IsTarget, matches};
 ghost use Rattle.xpath_child.specs.Targets.{target_in, only_place, is_nth, places_below};
 ghost use Rattle.xpath_child.specs.Found.{place_found};
@@ -14,28 +14,38 @@ ghost use Rattle.xpath_child.specs.declared.fault.PathFaultKind.TheVariants.{NoM
 ghost use Rattle.xpath_child.specs.inside.Search.{note};
 
 use crate::fault::{PathFault, PathFaultKind};
-use crate::step;
+use crate::step::{Step, read_steps};
 use page_tree::{NoMemory, Page, Place, Text};
 use std::alloc::Global;
 use std::marker::Model;
 
 /// A path: 1 to 48 steps, each `/`, then `*` or a name of 1 to 64 bytes, then at most one index `[n]` of 1 to 9 digits, the first not 0. It is
 /// this project's own part of the location paths of XPath 1.0 (sections 2 to 2.5). Contracts see it as the list of its steps.
+///
+/// It is kept in three blocks of memory, however many steps it has, and is as small as a reference where it is moved.
 #[derive(Debug, Drop)]
 pub struct Path {
-    steps: Vec<step::Step>,
+    written: Box<Written>,
+}
+
+// A text, and where each of its steps stands there.
+#[derive(Debug, Drop)]
+struct Written {
+    text: Text,
+    steps: Vec<Step>,
 }
 
 impl Model for Path {
     ghost use Rattle.std.specs.Prelude.{List};
-    ghost use Rattle.xpath_child.specs.Path.{Step, IsPath};
+    ghost use Rattle.xpath_child.specs.Path.{Step};
     ghost use Rattle.xpath_child.specs.Seen.{steps_seen};
+    ghost use Rattle.xpath_child.specs.inside.Placed.{IsWritten};
 
     ghost Value = { List Step };
 
-    ghost view = { λ p. steps_seen p.steps.items };
+    ghost view = { λ p. steps_seen p.written.value.text p.written.value.steps.items };
 
-    ghost invariant = { λ p. IsPath (steps_seen p.steps.items) };
+    ghost invariant = { λ p. IsWritten p.written.value.text p.written.value.steps.items };
 }
 
 impl Path {
@@ -43,10 +53,10 @@ impl Path {
     pub fn read(alloc: Global, text: &str) -> Result<Path, PathFault>
         // Where a path of the grammar has the text, want of memory aside: that path, and no other has the text.
         ensures ok { IfOk result (λ path. IsPath path × (path_text path ≡ text.now)) }
-        ensures only { IfOk result (λ path. (other : List Step) → IsPath other → path_text other ≡ text.now → other ≡ path) }
+        ensures only { IfOk result (λ path. (other : List Plain) → IsPath other → path_text other ≡ text.now → other ≡ path) }
 
         // Where none has, and only there: the first fault.
-        ensures refused { IfErr result (λ e. e.kind ≢ NoMemory → (path : List Step) → IsPath path → path_text path ≢ text.now) }
+        ensures refused { IfErr result (λ e. e.kind ≢ NoMemory → (path : List Plain) → IsPath path → path_text path ≢ text.now) }
         ensures fault { MatchResult result (λ _. path_fault text.now ≡ None) (λ e. e.kind ≢ NoMemory → path_fault text.now ≡ Some e) }
         ensures memory { IfErr result (λ e. e.kind ≡ NoMemory → e.at ≡ 0) }
 
@@ -56,8 +66,10 @@ impl Path {
         let Some(rest) = text.strip_prefix('/') else {
             return Err(PathFaultKind::NotAbsolute.at(0));
         };
+        let steps = read_steps(alloc, rest)?;
+        let text = Text::from_str(alloc, text)?;
         Ok(Path {
-            steps: step::read_steps(alloc, rest)?,
+            written: Box::new(alloc, Written { text, steps })?,
         })
     }
 
@@ -65,12 +77,7 @@ impl Path {
     pub fn write(&self) -> Result<Text, NoMemory>
         ensures { IfOk result (λ text. text ≡ path_text self.now) }
     {
-        let mut text = String::new(*self.steps.allocator());
-        for step in &self.steps {
-            text.push('/')?;
-            step.write(&mut text)?;
-        }
-        Ok(Text::from(text))
+        Text::from_str(*self.written.steps.allocator(), self.written.text.as_str())
     }
 
     /// What the path selects on a page, as `select`, by its number. The first step selects from the document, whose only child is the root.
@@ -82,11 +89,12 @@ impl Path {
         ensures exact { place_found page.now result ≡ target_in self.now page.now }
         ensures there { (number : ℕ) → result ≡ Found.One number → number < nodes page.now }
     {
-        let Some((step, rest)) = self.steps.as_slice().split_first() else {
+        let Some((step, rest)) = self.written.steps.as_slice().split_first() else {
             return Found::Missing;
         };
         let mut found = Found::Missing;
-        visit_child(page, step, rest, 0, 0, &mut found);
+        let text = self.written.text.as_str().as_bytes();
+        visit_child(page, text, step, rest, 0, 0, &mut found);
         found
     }
 
@@ -106,11 +114,11 @@ impl Path {
     pub fn copy(&self) -> Result<Path, NoMemory>
         ensures { IfOk result (λ copy. copy ≡ self.now) }
     {
-        let mut steps = Vec::new(*self.steps.allocator());
-        for step in &self.steps {
-            steps.push(step.copy()?)?;
-        }
-        Ok(Path { steps })
+        let text = self.written.text.copy()?;
+        let steps = self.written.steps.clone()?;
+        Ok(Path {
+            written: Box::new(*steps.allocator(), Written { text, steps })?,
+        })
     }
 }
 
@@ -166,10 +174,11 @@ impl Found {
     }
 }
 
-// Notes the nodes that the steps reach from a node.
+// Notes the nodes that the steps of that text reach from a node.
 #[cycle(visit)]
-fn visit(page: &Page, steps: &[step::Step], at: u32, found: &mut Found)
-    ensures { place_found page.now found.new ≡ fold note (place_found page.now found.old) (places_below page.now (steps_seen steps.now) (place_numbered at page.now)) }
+fn visit(page: &Page, text: &[u8], steps: &[Step], at: u32, found: &mut Found)
+    requires { AreWithin text.now steps.now }
+    ensures { place_found page.now found.new ≡ fold note (place_found page.now found.old) (places_below page.now (steps_seen text.now steps.now) (place_numbered at page.now)) }
 {
     let Some((step, rest)) = steps.split_first() else {
         found.note(at);
@@ -181,7 +190,7 @@ fn visit(page: &Page, steps: &[step::Step], at: u32, found: &mut Found)
         if found.is_several() || step.is_past(before) {
             return;
         }
-        if visit_child(page, step, rest, child, before, found) {
+        if visit_child(page, text, step, rest, child, before, found) {
             before += 1;
         }
         child = page.nodes_under(child).end;
@@ -192,20 +201,23 @@ fn visit(page: &Page, steps: &[step::Step], at: u32, found: &mut Found)
 #[cycle(visit)]
 fn visit_child(
     page: &Page,
-    step: &step::Step,
-    rest: &[step::Step],
+    text: &[u8],
+    step: &Step,
+    rest: &[Step],
     child: u32,
     before: u32,
     found: &mut Found,
 ) -> bool
-    ensures matched { result ≡ matches (test_seen step.now.test) (name_at (place_numbered child page.now) page.now) }
-    ensures noted { place_found page.now found.new ≡ fold note (place_found page.now found.old) (if matches (test_seen step.now.test) (name_at (place_numbered child page.now) page.now) && is_nth step.now.index before then places_below page.now (steps_seen rest.now) (place_numbered child page.now) else []) }
+    requires step { IsWithin text.now step.now }
+    requires rest { AreWithin text.now rest.now }
+    ensures matched { result ≡ matches (test_seen text.now step.now) (name_at (place_numbered child page.now) page.now) }
+    ensures noted { place_found page.now found.new ≡ fold note (place_found page.now found.old) (if matches (test_seen text.now step.now) (name_at (place_numbered child page.now) page.now) && is_nth step.now.index before then places_below page.now (steps_seen text.now rest.now) (place_numbered child page.now) else []) }
 {
-    if !step.matches(page.name_of(child)) {
+    if !step.matches(text, page.name_of(child)) {
         return false;
     }
     if step.picks(before) {
-        visit(page, rest, child, found);
+        visit(page, text, rest, child, found);
     }
     true
 }

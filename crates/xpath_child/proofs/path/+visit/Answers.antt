@@ -9,8 +9,9 @@ use Rattle.xpath_child.proofs.path.+visit.Goals.{visit-then-is_several-via-then-
 pub visit-returns-then-is_several : goal.visit-returns-then-is_several
 visit-returns-then-is_several t c =
     let page = c.args.page.now in
-    settled page (step_seen c.in-Some.step.now) (steps_seen c.in-Some.rest.now) (steps_seen c.args.steps.now) (place_numbered c.args.at page) (place_found page c.args.found.now) (place_found page c.loop-i.found)
-    c.loop-i.i c.children_of-i-end.result c.loop-i.before (ap steps_seen c.in-Some.ensures.cases.0) c.children_of-i-end.ensures c.loop-i.auto.i-end c.loop-i.invariant.count c.loop-i.invariant.found
+    let text = c.args.text.now in
+    settled page (step_seen text c.in-Some.step.now) (steps_seen text c.in-Some.rest.now) (steps_seen text c.args.steps.now) (place_numbered c.args.at page) (place_found page c.args.found.now) (place_found page c.loop-i.found)
+    c.loop-i.i c.children_of-i-end.result c.loop-i.before (ap (steps_seen text) c.in-Some.ensures.cases.0) c.children_of-i-end.ensures c.loop-i.auto.i-end c.loop-i.invariant.count c.loop-i.invariant.found
     (elim c.then-is_several.branch [
       | visit-then-is_several-via-then-is_several w ↦ inl (ap (place_found page) (c.is_several.ensures.0 w.if-is_several.true))
       | visit-then-is_several-via-else-is_several+then-is_past w ↦ let past = w.is_past.ensures in let yes = w.if-is_past.true in inr cc
@@ -20,8 +21,9 @@ pub visit-loop-i-preserved : goal.visit-loop-i-preserved
 visit-loop-i-preserved t c =
     let page = c.args.page.now in
     let at = place_numbered c.args.at page in
-    let step = step_seen c.in-Some.step.now in
-    let rest = steps_seen c.in-Some.rest.now in
+    let text = c.args.text.now in
+    let step = step_seen text c.in-Some.step.now in
+    let rest = steps_seen text c.in-Some.rest.now in
     let i = c.loop-i.i in
     let count = c.loop-i.invariant.count in
     let child = place_numbered c.loop-i.child page in

@@ -20,7 +20,7 @@ invariant-visit-loop-i l =
     let at = place_numbered l.at page in
     record {
       few : l.before ≤ l.i;
-      count : l.before ≡ matching_before page (step_seen l.step).test at l.i;
+      count : l.before ≡ matching_before page (step_seen l.text l.step).test at l.i;
       child : l.i < child_count_at at page → place_numbered l.child page ≡ at ++ l.i ∷ [];
-      found : place_found page l.found ≡ fold note (place_found page l.initial.found) (flat_map (λ k. places_below page (steps_seen l.rest) (at ++ k ∷ [])) (selected page (step_seen l.step) at l.i));
+      found : place_found page l.found ≡ fold note (place_found page l.initial.found) (flat_map (λ k. places_below page (steps_seen l.text l.rest) (at ++ k ∷ [])) (selected page (step_seen l.text l.step) at l.i));
     }

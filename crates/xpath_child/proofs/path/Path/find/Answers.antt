@@ -1,4 +1,4 @@
-use Rattle.std.proofs.Common.{subst, ap, sym, ◌∙◌}
+use Rattle.std.proofs.Common.{◌≡◌, subst, ap, sym, ◌∙◌}
 use Rattle.page_tree.specs.Number.{place_numbered}
 use Rattle.xpath_child.specs.Seen.{step_seen, steps_seen}
 use Rattle.xpath_child.specs.Reaches.{IsTarget}
@@ -12,8 +12,11 @@ use Rattle.xpath_child.proofs.path.Path.find.Goals as goal
 pub returns-clause-exact : goal.returns-clause-exact
 returns-clause-exact c =
     let page = c.args.page.now in
-    let path = sym c.self.view_is ∙ ap steps_seen (sym c.as_slice.ensures.value ∙ c.in-Some.ensures.cases.0) in
-    found_target page (step_seen c.in-Some.step.now) (steps_seen c.in-Some.rest.now) c.args.self.now (place_numbered 0 page) (place_found page c.visit_child.new.found) path (root_numbered page) c.visit_child.ensures.noted
+    let text = c.as_bytes-text.result.now in
+    let kept : c.self.inside.written.value ≡ c.deref.result.now = cc in
+    let same : c.deref.result.now.text ≡ text = cc in
+    let path = sym c.self.view_is ∙ ap (λ w. steps_seen w.text w.steps.items) kept ∙ ap (λ t. steps_seen t c.deref.result.now.steps.items) same ∙ ap (steps_seen text) (sym c.as_slice.ensures.value ∙ c.in-Some.ensures.cases.0) in
+    found_target page (step_seen text c.in-Some.step.now) (steps_seen text c.in-Some.rest.now) c.args.self.now (place_numbered 0 page) (place_found page c.visit_child.new.found) path (root_numbered page) c.visit_child.ensures.noted
 
 pub returns-clause-target : goal.returns-clause-target
 returns-clause-target c =
