@@ -20,6 +20,7 @@ mod collected;
 mod group;
 mod groups;
 mod halt;
+mod heap;
 mod parties;
 mod recorder;
 mod sent;

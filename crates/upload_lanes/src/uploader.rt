@@ -8,6 +8,7 @@ ghost use Rattle.upload_reader.specs.Upload.{UploadState, IsUntouched};
 ghost use Rattle.upload_lanes.specs.inside.Sent.{IsReadOn, IsPutting, IsPut, IsUploaded, Sends, is_done};
 ghost use Rattle.upload_lanes.specs.declared.sent.Sent.TheVariants.{One, Last};
 
+use crate::heap::{Heap, READ};
 use crate::sent::{Priced, Sent};
 use crate::starter::Starter;
 use byte_streams::Source;
@@ -77,7 +78,9 @@ fn upload_all<R: Source + Drop, W: Wait>(
 {
     let mut upload = upload;
     let mut putter = putter;
+    let mut heap = Heap::of_thread(upload.allocator(), READ);
     for _ in rt.forever() {
+        heap.expect_item();
         if !put_next(rt, queue, &mut putter, &mut upload) {
             return Uploaded { upload, putter };
         }

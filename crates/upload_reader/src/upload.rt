@@ -121,6 +121,11 @@ impl<R: Source> Upload<R> {
         &self.client
     }
 
+    /// The allocator of what it gives.
+    pub fn allocator(&self) -> Global {
+        self.lines.allocator()
+    }
+
     /// The session of the messages that it began with and of those that were given.
     pub fn session(&self) -> &Session
         ensures { result.now ≡ self.now.lane.earlier ++ messages_of self.now.given }
