@@ -12,8 +12,8 @@ use Rattle.page_tree.proofs.FirstFault.{unless-none}
 use Rattle.page_tree.specs.FirstFault.{ok_unless}
 use Rattle.xpath_child.specs.Path.{Step as Plain}
 use Rattle.xpath_child.specs.Fault.{is_slash, is_test, is_closed_index, front, test_part, index_part, test_in, text_fault, step_in, first_step_fault, written_steps, path_in}
-use Rattle.xpath_child.specs.Seen.{step_seen, steps_seen, AreWithin}
-use Rattle.xpath_child.specs.inside.Placed.{placed, placed_steps, IsWritten}
+use Rattle.xpath_child.specs.Seen.{step_seen, steps_seen, AllStandIn}
+use Rattle.xpath_child.specs.inside.Placed.{placed, placed_steps, IsTextOf}
 use Rattle.xpath_child.specs.declared.step.Step.{Step}
 use Rattle.xpath_child.proofs.Index.{index_parts}
 use Rattle.xpath_child.proofs.Faults.{unless_ok}
@@ -30,7 +30,7 @@ use Rattle.std.proofs.lemmas.Slice.Eq.{bytes_eq-Decides}
 use Rattle.page_tree.specs.Name.{is_name}
 use Rattle.page_tree.proofs.FirstFault.{unless-none}
 use Rattle.xpath_child.specs.Fault.{is_test, is_closed_index, front, test_part, index_part, test_in, text_fault, step_in}
-use Rattle.xpath_child.specs.Seen.{step_seen, steps_seen, AreWithin}
+use Rattle.xpath_child.specs.Seen.{step_seen, steps_seen, AllStandIn}
 use Rattle.xpath_child.specs.inside.Placed.{placed, placed_steps}
 use Rattle.xpath_child.specs.declared.step.Step.{Step}
 use Rattle.xpath_child.proofs.Index.{index_parts}
@@ -90,17 +90,17 @@ module _ (text part tail : List ℕ) (start : ℕ) (stands : drop start text ≡
   step_placed : step_seen text (placed start part) ≡ step_in part
   step_placed = ap (λ name. named_step name (step_in part).index) name_placed
 
-  step_within : start ≤ length text → start + length (test_part part) ≤ length text
-  step_within low = omega (arith, low, length-drop start text, ap length stands, length-append part tail, ap length (cut_is part).whole, length-append (test_part part) (indexed (index_part part)))
+  step_stands : start ≤ length text → start + length (test_part part) ≤ length text
+  step_stands low = omega (arith, low, length-drop start text, ap length stands, length-append part tail, ap length (cut_is part).whole, length-append (test_part part) (indexed (index_part part)))
 
 -- ---- all of them
 
 pub steps_placed : (text : List ℕ) (start : ℕ) (parts : List (List ℕ)) → 0 < length parts → start ≤ length text → drop start text ≡ join_with_byte 47 parts
-    → (steps_seen text (placed_steps start parts) ≡ map step_in parts) × AreWithin text (placed_steps start parts)
+    → (steps_seen text (placed_steps start parts) ≡ map step_in parts) × AllStandIn text (placed_steps start parts)
 steps_placed text start [] some low stands = absurd (omega arith)
 steps_placed text start (part ∷ []) some low stands =
     let here = stands ∙ sym (append-nil part) in
-    (ap (λ step. step ∷ []) (step_placed text part [] start here), (step_within text part [] start here low, tt))
+    (ap (λ step. step ∷ []) (step_placed text part [] start here), (step_stands text part [] start here low, tt))
 steps_placed text start (part ∷ next ∷ more) some low stands =
     let tail = 47 ∷ join_with_byte 47 (next ∷ more) in
     let past = start + length part + 1 in
@@ -109,12 +109,12 @@ steps_placed text start (part ∷ next ∷ more) some low stands =
     let behind = ap (λ n. drop n text) same ∙ sym (drop-drop (length part + 1) start text) ∙ ap (drop (length part + 1)) stands ∙ drop-append-add part tail 1 in
     let there = steps_placed text past (next ∷ more) (omega arith) inside behind in (
       ap (λ step. step ∷ steps_seen text (placed_steps past (next ∷ more))) (step_placed text part tail start stands) ∙ ap (λ steps. step_in part ∷ steps) there.0,
-      (step_within text part tail start stands low, there.1),
+      (step_stands text part tail start stands low, there.1),
     )
 
 -- The steps of a text without a fault are those of the path that is read in it.
 pub read_here : (text rest : List ℕ) (steps : List Step) → text ≡ 47 ∷ rest → ok_unless (first_step_fault 0 1 (written_steps rest)) (placed_steps 1 (written_steps rest)) ≡ Ok steps
-    → IsWritten text steps × (path_in text ≡ Ok (steps_seen text steps))
+    → IsTextOf text steps × (path_in text ≡ Ok (steps_seen text steps))
 read_here text rest steps is read =
     let parts = written_steps rest in
     let found = unless_ok (first_step_fault 0 1 parts) (placed_steps 1 parts) steps read in
@@ -124,4 +124,4 @@ read_here text rest steps is read =
     let seen = sym all.0 ∙ ap (steps_seen text) found.1 in
     let exact = path_in-slash text rest is ∙ ap (λ fault. ok_unless fault (map step_in parts)) found.0 ∙ ap Ok seen in
     let sound = path_in-sound text (steps_seen text steps) exact in
-    (record { path = sound.0; written = sound.1; within = subst (AreWithin text) found.1 all.1 }, exact)
+    (record { path = sound.0; written = sound.1; within = subst (AllStandIn text) found.1 all.1 }, exact)

@@ -14,8 +14,8 @@ step_seen text step = record { test = test_seen text step; index = step.index }
 abbrev pub steps_seen : List ℕ → List Step → List plain.Step
 steps_seen text steps = map (step_seen text) steps
 
-abbrev pub IsWithin : List ℕ → Step → Type 0
-IsWithin text step = step.start + step.len ≤ length text
+abbrev pub StandsIn : List ℕ → Step → Type 0
+StandsIn text step = step.start + step.len ≤ length text
 
-abbrev pub AreWithin : List ℕ → List Step → Type 0
-AreWithin text steps = AllByRecursion (IsWithin text) steps
+abbrev pub AllStandIn : List ℕ → List Step → Type 0
+AllStandIn text steps = AllByRecursion (StandsIn text) steps

@@ -6,7 +6,7 @@ ghost use Rattle.page_tree.specs.Look.{name_at};
 ghost use Rattle.page_tree.specs.Number.{place_numbered};
 ghost use Rattle.xpath_child.specs.Path.{Step as Plain, IsPath, path_text};
 ghost use Rattle.xpath_child.specs.Fault.{path_fault, path_in, GivesPath};
-ghost use Rattle.xpath_child.specs.Seen.{IsWithin, AreWithin, test_seen, steps_seen};
+ghost use Rattle.xpath_child.specs.Seen.{StandsIn, AllStandIn, test_seen, steps_seen};
 ghost use Rattle.xpath_child.specs.Reaches.{IsTarget, matches};
 ghost use Rattle.xpath_child.specs.Targets.{target_in, only_place, is_nth, places_below};
 ghost use Rattle.xpath_child.specs.Found.{place_found};
@@ -39,13 +39,13 @@ impl Model for Path {
     ghost use Rattle.std.specs.Prelude.{List};
     ghost use Rattle.xpath_child.specs.Path.{Step};
     ghost use Rattle.xpath_child.specs.Seen.{steps_seen};
-    ghost use Rattle.xpath_child.specs.inside.Placed.{IsWritten};
+    ghost use Rattle.xpath_child.specs.inside.Placed.{IsTextOf};
 
     ghost Value = { List Step };
 
     ghost view = { λ p. steps_seen p.written.value.text p.written.value.steps.items };
 
-    ghost invariant = { λ p. IsWritten p.written.value.text p.written.value.steps.items };
+    ghost invariant = { λ p. IsTextOf p.written.value.text p.written.value.steps.items };
 }
 
 impl Path {
@@ -177,7 +177,7 @@ impl Found {
 // Notes the nodes that the steps of that text reach from a node.
 #[cycle(visit)]
 fn visit(page: &Page, text: &[u8], steps: &[Step], at: u32, found: &mut Found)
-    requires { AreWithin text.now steps.now }
+    requires { AllStandIn text.now steps.now }
     ensures { place_found page.now found.new ≡ fold note (place_found page.now found.old) (places_below page.now (steps_seen text.now steps.now) (place_numbered at page.now)) }
 {
     let Some((step, rest)) = steps.split_first() else {
@@ -208,8 +208,8 @@ fn visit_child(
     before: u32,
     found: &mut Found,
 ) -> bool
-    requires step { IsWithin text.now step.now }
-    requires rest { AreWithin text.now rest.now }
+    requires step { StandsIn text.now step.now }
+    requires rest { AllStandIn text.now rest.now }
     ensures matched { result ≡ matches (test_seen text.now step.now) (name_at (place_numbered child page.now) page.now) }
     ensures noted { place_found page.now found.new ≡ fold note (place_found page.now found.old) (if matches (test_seen text.now step.now) (name_at (place_numbered child page.now) page.now) && is_nth step.now.index before then places_below page.now (steps_seen text.now rest.now) (place_numbered child page.now) else []) }
 {

@@ -5,7 +5,7 @@ ghost use Rattle.std.specs.Char.{is_ascii_digit};
 ghost use Rattle.std.specs.Str.Parse.{digits_value};
 ghost use Rattle.page_tree.specs.FirstFault.{ok_unless};
 ghost use Rattle.xpath_child.specs.Fault.{test_part, index_part, is_test, is_index, is_closed_index, front, text_fault, first_step_fault, written_steps, GivesPath};
-ghost use Rattle.xpath_child.specs.Seen.{IsWithin, test_seen};
+ghost use Rattle.xpath_child.specs.Seen.{StandsIn, test_seen};
 ghost use Rattle.xpath_child.specs.Reaches.{matches};
 ghost use Rattle.xpath_child.specs.Targets.{is_nth};
 ghost use Rattle.xpath_child.specs.inside.Search.{is_past};
@@ -27,7 +27,7 @@ pub(crate) struct Step {
 impl Step {
     /// Whether a node of that name, if it has one, matches the test.
     pub(crate) fn matches(&self, text: &[u8], name: Option<&str>) -> bool
-        requires { IsWithin text.now self.now }
+        requires { StandsIn text.now self.now }
         ensures { result ≡ matches (test_seen text.now self.now) (option_map (λ s. s.now) name.entry) }
     {
         let Some(name) = name else {

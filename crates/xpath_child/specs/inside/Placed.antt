@@ -2,7 +2,7 @@
 use Rattle.std.specs.Prelude.{ℕ, ◌+◌, ◌≡◌, List, [], ◌∷◌, length}
 use Rattle.xpath_child.specs.Path.{IsPath, path_text}
 use Rattle.xpath_child.specs.Fault.{test_part, step_in}
-use Rattle.xpath_child.specs.Seen.{steps_seen, AreWithin}
+use Rattle.xpath_child.specs.Seen.{steps_seen, AllStandIn}
 use Rattle.xpath_child.specs.declared.step.Step.{Step}
 
 -- the step of a text that begins at that byte
@@ -14,8 +14,8 @@ abbrev pub placed_steps : ℕ → List (List ℕ) → List Step
 placed_steps start [] = []
 placed_steps start (text ∷ rest) = placed start text ∷ placed_steps (start + length text + 1) rest
 
--- the steps stand in the text as those of a path that has it
-pub record IsWritten (text : List ℕ) (steps : List Step) : Type 0 where
+-- the text is that of a path, and these are its steps in it
+pub record IsTextOf (text : List ℕ) (steps : List Step) : Type 0 where
   pub path : IsPath (steps_seen text steps)
   pub written : path_text (steps_seen text steps) ≡ text
-  pub within : AreWithin text steps
+  pub within : AllStandIn text steps
