@@ -5,8 +5,8 @@ ghost use Rattle.page_tree.specs.Limits.{nodes};
 ghost use Rattle.page_tree.specs.Look.{name_at};
 ghost use Rattle.page_tree.specs.Number.{place_numbered};
 ghost use Rattle.xpath_child.specs.Path.{Step as Plain, IsPath, path_text};
-ghost use Rattle.xpath_child.specs.Fault.{path_fault, path_in, GivesPath};
-ghost use Rattle.xpath_child.specs.Seen.{StandsIn, AllStandIn, test_seen, steps_seen};
+ghost use Rattle.xpath_child.specs.Fault.{path_fault, path_in, test_in, GivesPath};
+ghost use Rattle.xpath_child.specs.Seen.{AllStandIn, steps_seen};
 ghost use Rattle.xpath_child.specs.Reaches.{IsTarget, matches};
 ghost use Rattle.xpath_child.specs.Targets.{target_in, only_place, is_nth, places_below};
 ghost use Rattle.xpath_child.specs.Found.{place_found};
@@ -14,7 +14,7 @@ ghost use Rattle.xpath_child.specs.declared.fault.PathFaultKind.TheVariants.{NoM
 ghost use Rattle.xpath_child.specs.inside.Search.{note};
 
 use crate::fault::{PathFault, PathFaultKind};
-use crate::step::{Step, read_steps};
+use crate::step::{Step, matches, read_steps};
 use page_tree::{NoMemory, Page, Place, Text};
 use std::alloc::Global;
 use std::marker::Model;
@@ -94,7 +94,8 @@ impl Path {
         };
         let mut found = Found::Missing;
         let text = self.written.text.as_str().as_bytes();
-        visit_child(page, text, step, rest, 0, 0, &mut found);
+        let test = step.test(text);
+        visit_child(page, text, test, step, rest, 0, 0, &mut found);
         found
     }
 
@@ -184,36 +185,37 @@ fn visit(page: &Page, text: &[u8], steps: &[Step], at: u32, found: &mut Found)
         found.note(at);
         return;
     };
+    let test = step.test(text);
     let mut child = page.nodes_under(at).start;
     let mut before = 0;
     for i in 0..page.children_of(at) {
         if found.is_several() || step.is_past(before) {
             return;
         }
-        if visit_child(page, text, step, rest, child, before, found) {
+        if visit_child(page, text, test, step, rest, child, before, found) {
             before += 1;
         }
         child = page.nodes_under(child).end;
     }
 }
 
-// Notes the nodes that a step and the rest reach through one child, before which so many siblings match. It says whether the child matches.
+// Notes the nodes that a step of that test and the rest reach through one child, before which so many siblings match. It says whether the child matches.
 #[cycle(visit)]
 fn visit_child(
     page: &Page,
     text: &[u8],
+    test: &[u8],
     step: &Step,
     rest: &[Step],
     child: u32,
     before: u32,
     found: &mut Found,
 ) -> bool
-    requires step { StandsIn text.now step.now }
-    requires rest { AllStandIn text.now rest.now }
-    ensures matched { result ≡ matches (test_seen text.now step.now) (name_at (place_numbered child page.now) page.now) }
-    ensures noted { place_found page.now found.new ≡ fold note (place_found page.now found.old) (if matches (test_seen text.now step.now) (name_at (place_numbered child page.now) page.now) && is_nth step.now.index before then places_below page.now (steps_seen text.now rest.now) (place_numbered child page.now) else []) }
+    requires { AllStandIn text.now rest.now }
+    ensures matched { result ≡ matches (test_in test.now) (name_at (place_numbered child page.now) page.now) }
+    ensures noted { place_found page.now found.new ≡ fold note (place_found page.now found.old) (if matches (test_in test.now) (name_at (place_numbered child page.now) page.now) && is_nth step.now.index before then places_below page.now (steps_seen text.now rest.now) (place_numbered child page.now) else []) }
 {
-    if !step.matches(text, page.name_of(child)) {
+    if !matches(test, page.name_of(child)) {
         return false;
     }
     if step.picks(before) {

@@ -4,7 +4,7 @@ ghost use Rattle.std.specs.List.{list_all};
 ghost use Rattle.std.specs.Char.{is_ascii_digit};
 ghost use Rattle.std.specs.Str.Parse.{digits_value};
 ghost use Rattle.page_tree.specs.FirstFault.{ok_unless};
-ghost use Rattle.xpath_child.specs.Fault.{test_part, index_part, is_test, is_index, is_closed_index, front, text_fault, first_step_fault, written_steps, GivesPath};
+ghost use Rattle.xpath_child.specs.Fault.{test_part, index_part, test_in, is_test, is_index, is_closed_index, front, text_fault, first_step_fault, written_steps, GivesPath};
 ghost use Rattle.xpath_child.specs.Seen.{StandsIn, test_seen};
 ghost use Rattle.xpath_child.specs.Reaches.{matches};
 ghost use Rattle.xpath_child.specs.Targets.{is_nth};
@@ -25,17 +25,13 @@ pub(crate) struct Step {
 }
 
 impl Step {
-    /// Whether a node of that name, if it has one, matches the test.
-    pub(crate) fn matches(&self, text: &[u8], name: Option<&str>) -> bool
+    /// Its test, as it stands in the text: a name, or `*`.
+    pub(crate) fn test<'a>(&self, text: &'a [u8]) -> &'a [u8]
         requires { StandsIn text.now self.now }
-        ensures { result ≡ matches (test_seen text.now self.now) (option_map (λ s. s.now) name.entry) }
+        ensures { test_in result.now ≡ test_seen text.now self.now }
     {
-        let Some(name) = name else {
-            return false;
-        };
         let start = usize::from(self.start);
-        let test = &text[start..start + usize::from(self.len)];
-        test == b"*".as_slice() || test == name.as_bytes()
+        &text[start..start + usize::from(self.len)]
     }
 
     /// Whether the index, if there is one, picks a match before which so many stand.
@@ -56,6 +52,16 @@ impl Step {
             None => false,
             Some(n) => n <= before,
         }
+    }
+}
+
+/// Whether a node of that name, if it has one, matches a test.
+pub(crate) fn matches(test: &[u8], name: Option<&str>) -> bool
+    ensures { result ≡ matches (test_in test.now) (option_map (λ s. s.now) name.entry) }
+{
+    match name {
+        None => false,
+        Some(name) => test == b"*".as_slice() || test == name.as_bytes(),
     }
 }
 

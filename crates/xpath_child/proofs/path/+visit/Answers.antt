@@ -1,7 +1,11 @@
-use Rattle.std.proofs.Common.{arith, add-one, ap, sym, ◌∙◌, inl, inr, [], ◌∷◌, ◌++◌}
+use Rattle.std.proofs.Common.{arith, add-one, ap, sym, ◌∙◌, inl, inr, ◌&&◌, cond, [], ◌∷◌, ◌++◌, fold}
+use Rattle.page_tree.specs.Look.{name_at}
 use Rattle.page_tree.specs.Number.{place_numbered}
 use Rattle.xpath_child.specs.Seen.{step_seen, steps_seen}
+use Rattle.xpath_child.specs.Reaches.{matches}
+use Rattle.xpath_child.specs.Targets.{is_nth, places_below}
 use Rattle.xpath_child.specs.Found.{place_found}
+use Rattle.xpath_child.specs.inside.Search.{note}
 use Rattle.xpath_child.proofs.Steps.{counted, not_counted, noted, settled}
 use Rattle.xpath_child.proofs.path.+visit.Goals as goal
 use Rattle.xpath_child.proofs.path.+visit.Goals.{visit-then-is_several-via-then-is_several, visit-then-is_several-via-else-is_several+then-is_past, visit-then-visit_child, visit-else-visit_child}
@@ -29,11 +33,15 @@ visit-loop-i-preserved t c =
     let child = place_numbered c.loop-i.child page in
     let there = c.loop-i.invariant.child (omega (arith, c.children_of-i-end.ensures)) in
     let m = c.visit_child.result in
-    let yes = counted page step.test at child i c.loop-i.before m count there c.visit_child.ensures.matched in
-    let no = not_counted page step.test at child i c.loop-i.before m count there c.visit_child.ensures.matched in
+    let name = name_at child page in
+    let found = place_found page c.loop-i.found in
+    let matched = c.visit_child.ensures.matched ∙ ap (λ test. matches test name) c.test-test.ensures in
+    let taken_in = c.visit_child.ensures.noted ∙ ap (λ test. fold note found (cond (matches test name && is_nth step.index c.loop-i.before) (places_below page rest child) [])) c.test-test.ensures in
+    let yes = counted page step.test at child i c.loop-i.before m count there matched in
+    let no = not_counted page step.test at child i c.loop-i.before m count there matched in
     record {
       few = elim c.if-visit_child.branch [ visit-then-visit_child w ↦ omega arith | visit-else-visit_child w ↦ omega arith ];
       count = elim c.if-visit_child.branch [ visit-then-visit_child w ↦ w.before-is ∙ yes w.if-visit_child.true | visit-else-visit_child w ↦ w.before-is ∙ no w.if-visit_child.false ];
       child = λ more. c.nodes_under-child-in-loop-i.ensures.next at i there (omega (arith, more)) ∙ ap (λ k. at ++ k ∷ []) (sym (add-one i));
-      found = noted page step rest at child i c.loop-i.before (place_found page c.args.found.now) (place_found page c.loop-i.found) (place_found page c.visit_child.new.found) count there c.loop-i.invariant.found c.visit_child.ensures.noted;
+      found = noted page step rest at child i c.loop-i.before (place_found page c.args.found.now) found (place_found page c.visit_child.new.found) count there c.loop-i.invariant.found taken_in;
     }
