@@ -18,8 +18,9 @@ use crate::room::Room;
 use crate::rule::{Gets, InLanes, Opens, Reckons, Sends};
 use crate::taker::Taker;
 use crate::view::View;
-use crate::waiting::{Turns, announced, rest};
+use crate::waiting::{Turns, rest};
 use crossbeam_queue::{Pass, RuledArrayQueue};
+use crossbeam_utils::Backoff;
 use crossbeam_utils::sync::{EventCount, Key};
 use std::alloc::Global;
 use std::marker::Model;
@@ -31,12 +32,14 @@ use std::sync::atomic::{AtomicBool, Ordering};
 pub struct Lanes<T> {
     queue: RuledArrayQueue<Item<T>, View<T>, InLanes>,
     closed: AtomicBool,
-    // told after each pop, and at the close
+    // told after a pop that finds putters at rest, and at the close
     room: EventCount,
+    // whether a putter is about to sleep, or has woken and others may sleep on, and no pop has told one since
+    putters_at_rest: AtomicBool,
     // told after a push that finds the taker at rest
     items: EventCount,
     // whether the taker is about to sleep, and no push has told it since
-    at_rest: AtomicBool,
+    taker_at_rest: AtomicBool,
 }
 
 impl<T> Model for Lanes<T> {
@@ -71,8 +74,9 @@ impl<T> Lanes<T> {
             queue,
             closed: AtomicBool::new(false),
             room: EventCount::new(),
+            putters_at_rest: AtomicBool::new(false),
             items: EventCount::new(),
-            at_rest: AtomicBool::new(false),
+            taker_at_rest: AtomicBool::new(false),
         };
         let (pass, putters) = opened.split(pass, lanes, putters);
         Ok((opened, Taker::over(pass, counts, lanes), putters))
@@ -114,16 +118,30 @@ impl<T> Lanes<T> {
     }
 
     /// The taker announces a sleep before it looks at the queue once more: a push from then on ends the sleep.
-    pub(crate) fn announce_sleep(&self) -> Key<'_> {
+    pub(crate) fn announce_taker_sleep(&self) -> Key<'_> {
         let sleep = self.items.prepare_wait();
-        self.at_rest.store(true, Ordering::SeqCst);
+        self.taker_at_rest.store(true, Ordering::SeqCst);
         sleep
     }
 
     // Of the pushes that find the taker at rest, the first wakes it. It takes its time to wake, and each further call to the system would be in vain.
     fn wake_taker(&self) {
-        if self.at_rest.load(Ordering::SeqCst) && self.at_rest.swap(false, Ordering::SeqCst) {
+        if clears(&self.taker_at_rest) {
             self.items.notify_one();
+        }
+    }
+
+    // A putter announces a sleep before it tries once more: a pop from then on, or the close, ends the sleep of one.
+    fn announce_putter_sleep(&self) -> Key<'_> {
+        let sleep = self.room.prepare_wait();
+        self.putters_at_rest.store(true, Ordering::SeqCst);
+        sleep
+    }
+
+    // Of the pops that find putters at rest, the first wakes one, and that one has the next pop wake another.
+    fn wake_putter(&self) {
+        if clears(&self.putters_at_rest) {
+            self.room.notify_one();
         }
     }
 
@@ -157,7 +175,7 @@ impl<T> Lanes<T> {
     {
         let popped = self.queue.pop_as::<Gets, R>(rt, pass);
         if popped.is_some() {
-            self.room.notify_one();
+            self.wake_putter();
         }
         popped
     }
@@ -175,9 +193,13 @@ impl<T> Lanes<T> {
         ensures answer { MatchResult result (λ _. view pass.new ≡ with_put (view pass.old) item) (λ back. (back ≡ item) × (view pass.new ≡ view pass.old)) }
     {
         let mut item = item;
-        let mut turns = Turns::new(0);
+        let mut turns = Turns::Pauses(Backoff::new());
         for _ in rt.forever() {
-            let sleep = announced(&turns, &self.room);
+            let sleep = if turns.are_over() {
+                Some(self.announce_putter_sleep())
+            } else {
+                None
+            };
             if self.is_closed() {
                 return Err(item);
             }
@@ -203,4 +225,9 @@ impl<T> Lanes<T> {
         self.queue.absorb::<Reckons>(pass, putter);
         self.queue.learn_as::<Reckons>(pass);
     }
+}
+
+// Whether it was set, and is no more by this call.
+fn clears(flag: &AtomicBool) -> bool {
+    flag.load(Ordering::SeqCst) && flag.swap(false, Ordering::SeqCst)
 }

@@ -82,10 +82,10 @@ impl<T> Taker<T> {
         ensures lanes { IsOf lanes.now self.new }
         ensures answer { TakesOne (view self.old) (view self.new) result }
     {
-        let mut turns = Turns::new(YIELDS);
+        let mut turns = Turns::Yields(YIELDS);
         for _ in rt.forever() {
             let sleep = if turns.are_over() {
-                Some(lanes.announce_sleep())
+                Some(lanes.announce_taker_sleep())
             } else {
                 None
             };

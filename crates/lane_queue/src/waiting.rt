@@ -1,44 +1,35 @@
 //! How a call waits for a change of the queue: it tries again for some turns, then it sleeps until it is told of one.
 use crossbeam_utils::Backoff;
-use crossbeam_utils::sync::{EventCount, Key};
+use crossbeam_utils::sync::Key;
 use std::sync::Wait;
+use std::thread;
 
-/// The turns of one wait before its sleep. At the first few the thread pauses, each time longer; at the others it yields the processor.
+/// The turns of one wait before its sleep.
 #[derive(Drop)]
-pub(crate) struct Turns {
-    pauses: Backoff,
-    // how many yields are left once the pauses are over
-    yields: u32,
+pub(crate) enum Turns {
+    /// The thread pauses, each time longer, and at the last ones yields the processor.
+    Pauses(Backoff),
+    /// So many times more it yields the processor.
+    Yields(u32),
 }
 
 impl Turns {
-    /// With so many yields once the pauses are over.
-    pub(crate) fn new(yields: u32) -> Turns {
-        Turns {
-            pauses: Backoff::new(),
-            yields,
-        }
-    }
-
-    /// Whether it is time to sleep.
+    /// Whether it is time to sleep. The sleep is announced before one more try: a change from then on ends it.
     pub(crate) fn are_over(&self) -> bool {
-        self.pauses.is_completed() && self.yields == 0
+        match self {
+            Turns::Pauses(pauses) => pauses.is_completed(),
+            Turns::Yields(left) => *left == 0,
+        }
     }
 
     fn take_one(&mut self) {
-        if self.pauses.is_completed() {
-            self.yields = self.yields.saturating_sub(1);
+        match self {
+            Turns::Pauses(pauses) => pauses.snooze(),
+            Turns::Yields(left) => {
+                *left = left.saturating_sub(1);
+                thread::yield_now();
+            }
         }
-        self.pauses.snooze();
-    }
-}
-
-/// After some turns a sleep is announced before the next try: a change from then on ends it.
-pub(crate) fn announced<'a>(turns: &Turns, change: &'a EventCount) -> Option<Key<'a>> {
-    if turns.are_over() {
-        Some(change.prepare_wait())
-    } else {
-        None
     }
 }
 

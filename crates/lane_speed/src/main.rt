@@ -17,8 +17,8 @@ use std::time::{Clock, CpuClock, Duration, Instant};
 use upload_lanes::{Gathered, gather, gather_in_order};
 use uploads::{Made, Reader, make, schedule_of};
 
-/// How many messages wait between an uploader and its recorder.
-const ROOM: usize = 64;
+/// How many messages wait between the uploaders and their recorder: as many as the server has wait where several clients upload.
+const ROOM: usize = 1_024;
 
 fn main(rt: HostRuntime) -> ExitCode {
     let Ok(mut words) = env::args(&rt) else {

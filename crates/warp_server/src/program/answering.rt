@@ -30,8 +30,11 @@ use std::thread::Threads;
 use upload_lanes::{GatherFault, Gathered, gather};
 use upload_reader::Upload;
 
-/// How many messages of a lane wait to be recorded, at the most.
-const ROOM: usize = 64;
+/// How many messages wait to be recorded, at the most, where one client uploads.
+const ROOM_FOR_ONE: usize = 64;
+
+/// The same in each queue of several clients. In a smaller one they would wait for their turn more often than they work.
+const ROOM_FOR_SEVERAL: usize = 1_024;
 
 /// What became of uploads.
 #[derive(Drop)]
@@ -113,12 +116,18 @@ fn take_whole<
     ensures ok { IfOk result (GathersFirst never uploads.items quota) }
     ensures refused { IfErr result (IsNoRound uploads.items) }
 {
-    gather(rt, uploads, quota, room(), halt)
+    let room = room_for(uploads.len());
+    gather(rt, uploads, quota, room, halt)
 }
 
-/// As much as a queue of lanes holds.
-pub(crate) fn room() -> Room {
-    let Ok(room) = Room::new(ROOM) else {
+/// As much as a queue holds where so many clients upload.
+pub(crate) fn room_for(uploads: usize) -> Room {
+    let items = if uploads == 1 {
+        ROOM_FOR_ONE
+    } else {
+        ROOM_FOR_SEVERAL
+    };
+    let Ok(room) = Room::new(items) else {
         unreachable!()
     };
     room

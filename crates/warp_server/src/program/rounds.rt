@@ -14,7 +14,7 @@ ghost use Rattle.warp_server.specs.program.Shortage.{status_of};
 ghost use Rattle.warp_server.specs.declared.program.status.Status.TheVariants.{Done, OutOfMemory};
 ghost use Rattle.warp_server.specs.inside.Serving.{let_go_at};
 
-use crate::program::answering::room;
+use crate::program::answering::room_for;
 use crate::program::callers::Callers;
 use crate::program::ending::status_of;
 use crate::program::greeting::accept_uploads;
@@ -107,7 +107,8 @@ fn take_behind<
     ensures ok { IfOk result (Gathers never earlier uploads.items quota) }
     ensures refused { IfErr result (λ status. status ≡ OutOfMemory) }
 {
-    match gather_again(rt, earlier, uploads, quota, room(), halt) {
+    let room = room_for(uploads.len());
+    match gather_again(rt, earlier, uploads, quota, room, halt) {
         Ok(gathered) => Ok(gathered),
         Err(again) => match again.fault {
             GatherFault::BadLanes => unreachable!(),
