@@ -22,6 +22,7 @@ use crate::program::status::Status;
 use byte_streams::Source;
 use client_log::Quota;
 use indexmap::IndexMap;
+use lane_queue::Room;
 use site_line::Site;
 use std::sync::Wait;
 use std::thread::Threads;
@@ -81,7 +82,15 @@ fn gather_round<
         give_back(callers, uploads);
         return Err(Status::BadHello);
     }
-    match take_behind(rt, earlier, uploads, site.quota(), &|_items: u64| false) {
+    let room = room_for(lanes as usize);
+    match take_behind(
+        rt,
+        earlier,
+        uploads,
+        site.quota(),
+        room,
+        &|_items: u64| false,
+    ) {
         Ok(round) => Ok(give_back_all(callers, round)),
         Err(status) => Err(status),
     }
@@ -97,6 +106,7 @@ fn take_behind<
     earlier: Gathered<R>,
     uploads: Vec<Upload<R>>,
     quota: Quota,
+    room: Room,
     halt: &H,
 ) -> Result<Gathered<R>, Status>
     requires untouched { AllByRecursion IsUntouched uploads.items }
@@ -107,7 +117,6 @@ fn take_behind<
     ensures ok { IfOk result (Gathers never earlier uploads.items quota) }
     ensures refused { IfErr result (λ status. status ≡ OutOfMemory) }
 {
-    let room = room_for(uploads.len());
     match gather_again(rt, earlier, uploads, quota, room, halt) {
         Ok(gathered) => Ok(gathered),
         Err(again) => match again.fault {
