@@ -1,7 +1,7 @@
 /* For LD_PRELOAD: has starts of threads refused. REFUSED_STARTS is the number of the refused start, counted from 1; where a `+` follows, those behind it are
-   refused too. On standard error there is an `s` for each thread that was started, an `r` for each refused one, and a `j` for each whose handle was given up: it
-   was joined, or let go. A thread is let go by itself, a moment after its scope was told that it has ended; so the end of the program waits for that, two
-   seconds at most. The script `tools/sweeps` builds it, and no crate uses it. */
+   refused too, and where it isn't set none is. On standard error there is an `s` for each thread that was started, an `r` for each refused one, and a `j` for
+   each whose handle was given up: it was joined, or let go. A thread is let go by itself, a moment after its scope was told that it has ended; so the end of the
+   program waits for that, two seconds at most. The script `tools/sweeps` builds it, and no crate uses it. */
 #define _GNU_SOURCE
 #include <dlfcn.h>
 #include <errno.h>
