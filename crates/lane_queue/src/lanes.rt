@@ -32,13 +32,13 @@ use std::sync::atomic::{AtomicBool, Ordering};
 pub struct Lanes<T> {
     queue: RuledArrayQueue<Item<T>, View<T>, InLanes>,
     closed: AtomicBool,
-    // told after a pop that finds putters at rest, and at the close
+    // told by a step that finds putters at rest, and at the close
     room: EventCount,
-    // whether a putter is about to sleep, or has woken and others may sleep on, and no pop has told one since
+    // set by each putter that announces a sleep, and taken down by the step that tells one
     putters_at_rest: AtomicBool,
-    // told after a push that finds the taker at rest
+    // told by a push that finds the taker at rest
     items: EventCount,
-    // whether the taker is about to sleep, and no push has told it since
+    // set by the taker when it announces a sleep, and taken down by the push that tells it
     taker_at_rest: AtomicBool,
 }
 
@@ -126,22 +126,35 @@ impl<T> Lanes<T> {
 
     // Of the pushes that find the taker at rest, the first wakes it. It takes its time to wake, and each further call to the system would be in vain.
     fn wake_taker(&self) {
-        if clears(&self.taker_at_rest) {
+        if take_down(&self.taker_at_rest) {
             self.items.notify_one();
         }
     }
 
-    // A putter announces a sleep before it tries once more: a pop from then on, or the close, ends the sleep of one.
+    // A putter announces a sleep before it tries once more: the first pop from then on ends the sleep of one putter, and the close that of all.
     fn announce_putter_sleep(&self) -> Key<'_> {
         let sleep = self.room.prepare_wait();
         self.putters_at_rest.store(true, Ordering::SeqCst);
         sleep
     }
 
-    // Of the pops that find putters at rest, the first wakes one, and that one has the next pop wake another.
+    // Of the pops that find putters at rest, the first wakes one, for the same reason.
     fn wake_putter(&self) {
-        if clears(&self.putters_at_rest) {
+        if take_down(&self.putters_at_rest) {
             self.room.notify_one();
+        }
+    }
+
+    // A putter that announced a sleep, and then put its item, wakes another where there is room. So no putter sleeps on at a queue with room, though the pops
+    // that made it woke but one.
+    #[tactic(auto, using(crate::proofs::Steps::sees))]
+    fn wake_next(&self, pass: &mut Pass<Item<T>, View<T>>)
+        requires { IsWhole self.now pass.old }
+        ensures pass { IsSamePass pass.old pass.new }
+        ensures view { view pass.new ≡ view pass.old }
+    {
+        if !self.queue.is_full_as::<Sends>(pass) {
+            self.wake_putter();
         }
     }
 
@@ -180,7 +193,8 @@ impl<T> Lanes<T> {
         popped
     }
 
-    /// One push after another, until one goes through or the lanes are closed, which hands the item back. Between pushes it rests.
+    /// One push after another, until one goes through or the lanes are closed, which hands the item back. Between pushes it rests. Once its turns are over it
+    /// announces a sleep before each push, also after it woke: others may sleep on, and have to be told.
     pub(crate) fn push_or_closed<R: Wait>(
         &self,
         rt: &R,
@@ -204,7 +218,12 @@ impl<T> Lanes<T> {
                 return Err(item);
             }
             match self.push(rt, pass, item) {
-                Ok(()) => return Ok(()),
+                Ok(()) => {
+                    if sleep.is_some() {
+                        self.wake_next(pass);
+                    }
+                    return Ok(());
+                }
                 Err(back) => item = back,
             }
             rest(rt, &mut turns, sleep);
@@ -227,7 +246,7 @@ impl<T> Lanes<T> {
     }
 }
 
-// Whether it was set, and is no more by this call.
-fn clears(flag: &AtomicBool) -> bool {
+// Whether the flag was set, and this call took it down.
+fn take_down(flag: &AtomicBool) -> bool {
     flag.load(Ordering::SeqCst) && flag.swap(false, Ordering::SeqCst)
 }

@@ -14,7 +14,7 @@ pub(crate) enum Turns {
 }
 
 impl Turns {
-    /// Whether it is time to sleep. The sleep is announced before one more try: a change from then on ends it.
+    /// Whether it is time to sleep. The sleep is announced before one more try, so that no change is missed.
     pub(crate) fn are_over(&self) -> bool {
         match self {
             Turns::Pauses(pauses) => pauses.is_completed(),

@@ -106,6 +106,49 @@ fn put_after<R: Threads + Wait + Clock + CpuClock + Sync>(
     )
 }
 
+fn put_one<R: Wait>(rt: &R, lanes: &Lanes<u64>, putter: Putter<u64>) -> Put<u64>
+    requires { IsOf lanes.now putter × (length (view putter).put ≤ 1) }
+{
+    let mut putter = putter;
+    putter.put(rt, lanes, 8)
+}
+
+// Two putters wait for room. After that time two items are taken, one right after the other, and no more.
+fn put_both_after<R: Threads + Wait + Clock + Sync>(
+    rt: &R,
+    lanes: &Lanes<u64>,
+    taker: Taker<u64>,
+    one: Putter<u64>,
+    other: Putter<u64>,
+    time: Duration,
+) -> Result<(Put<u64>, Put<u64>), AllocError>
+    requires taker { IsOf lanes.now taker }
+    requires one { IsOf lanes.now one × (length (view one).put ≤ 1) }
+    requires other { IsOf lanes.now other × (length (view other).put ≤ 1) }
+{
+    thread::scope(
+        thread::scope_env(),
+        rt,
+        move |scope| -> Result<(Put<u64>, Put<u64>), AllocError>
+            requires { IsOf lanes.now taker × (IsOf lanes.now one × (length (view one).put ≤ 1)) × (IsOf lanes.now other × (length (view other).put ≤ 1)) }
+        {
+            let put_first = move || -> Put<u64>
+                requires { IsOf lanes.now one × (length (view one).put ≤ 1) }
+            { put_one(rt, lanes, one) };
+            let put_second = move || -> Put<u64>
+                requires { IsOf lanes.now other × (length (view other).put ≤ 1) }
+            { put_one(rt, lanes, other) };
+            let first = scope.spawn(put_first)?;
+            let second = scope.spawn(put_second)?;
+            thread::sleep(rt, time);
+            let mut taker = taker;
+            let _ = taker.take(rt, lanes);
+            let _ = taker.take(rt, lanes);
+            Ok((first.join(rt), second.join(rt)))
+        },
+    )
+}
+
 #[test]
 fn a_taker_sleeps_at_an_empty_queue(rt: HostRuntime) -> Result<(), Fail> {
     let (lanes, taker, mut putters) = Lanes::open(rt.alloc(), 1, Room::new(1)?)?;
@@ -145,5 +188,27 @@ fn a_putter_sleeps_at_a_full_queue(rt: HostRuntime) -> Result<(), Fail> {
         }
         assert!(rt; busy < Duration::from_millis(MILLIS), "{busy:?} of work");
     }
+    Ok(())
+}
+
+#[test]
+fn two_putters_go_on_where_there_is_room_for_both(rt: HostRuntime) -> Result<(), Fail> {
+    let (lanes, taker, mut putters) = Lanes::open(rt.alloc(), 2, Room::new(2)?)?;
+    let Some(mut one) = putters.pop() else {
+        assert!(rt; false, "no putter");
+        return Ok(());
+    };
+    let Some(mut other) = putters.pop() else {
+        assert!(rt; false, "no second putter");
+        return Ok(());
+    };
+    let _ = one.put(&rt, &lanes, 7);
+    let _ = other.put(&rt, &lanes, 7);
+    let time = Duration::from_millis(200);
+    let put = put_both_after(&rt, &lanes, taker, one, other, time)?;
+    assert!(rt;
+        matches!(put, (Put::Done, Put::Done)),
+        "an item was not put"
+    );
     Ok(())
 }

@@ -17,7 +17,7 @@ use std::time::{Clock, CpuClock, Duration, Instant};
 use upload_lanes::{Gathered, gather, gather_in_order};
 use uploads::{Made, Reader, make, schedule_of};
 
-/// How many messages wait between the uploaders and their recorder: as many as the server has wait where several clients upload.
+/// How many messages a queue holds: as many as the server's do where several clients upload.
 const ROOM: usize = 1_024;
 
 fn main(rt: HostRuntime) -> ExitCode {

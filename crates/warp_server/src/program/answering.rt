@@ -30,10 +30,10 @@ use std::thread::Threads;
 use upload_lanes::{GatherFault, Gathered, gather};
 use upload_reader::Upload;
 
-/// How many messages wait to be recorded, at the most, where one client uploads.
+/// The room that `gather` is given for one client. It makes no queue then: what is read is recorded on the same thread.
 const ROOM_FOR_ONE: usize = 64;
 
-/// The same in each queue of several clients. In a smaller one they would wait for their turn more often than they work.
+/// How many messages wait in each queue of a round of several clients, at the most. At a smaller one uploaders stop too often.
 const ROOM_FOR_SEVERAL: usize = 1_024;
 
 /// What became of uploads.
