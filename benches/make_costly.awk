@@ -4,13 +4,17 @@
 #   siblings    5,000 clicks on the last of 4,000 siblings
 #   forms       500 submits of a form of 4,000 elements
 #   watched     4,000 watched paths over 1,500 siblings, and 10 visits
+#   stars       500 watched paths like /html/*/p over 4,000 siblings, and 100 visits
+#   radios      1,000 submits of a form of 4,000 radio buttons
+#   texts       1,000 submits of a text of 64,999 bytes, each of which the report writes as three
 #   awk -v input=pages -f make_costly.awk > upload.jsonl
 function times(n, text,   all) { all = ""; for (i = 1; i <= n; i++) all = all (i > 1 ? "," : "") text; return all }
 function site(page, watch) { print "{\"patched\":[\"/a\"],\"quota\":4294967295,\"watch\":[" watch "],\"pages\":{\"/a\":" page "}}"; print "{\"t\":\"hello\",\"client\":\"bench\"}" }
-function load(visit) { print "{\"t\":\"load\",\"visit\":" visit ",\"at\":0,\"path\":\"/a\",\"page\":{\"n\":\"html\"}}" }
+function load(visit, page) { print "{\"t\":\"load\",\"visit\":" visit ",\"at\":0,\"path\":\"/a\",\"page\":" page "}" }
 function ends(visit) { print "{\"t\":\"end\",\"visit\":" visit ",\"at\":0}" }
-function visits(n,   visit) { for (visit = 1; visit <= n; visit++) { load(visit); ends(visit) } }
-function clicks(n, target,   k) { load(1); for (k = 1; k <= n; k++) print "{\"t\":\"click\",\"visit\":1,\"at\":0,\"target\":\"" target "\"}"; ends(1) }
+function visits(n,   visit) { for (visit = 1; visit <= n; visit++) { load(visit, "{\"n\":\"html\"}"); ends(visit) } }
+function submits(n,   k) { for (k = 1; k <= n; k++) print "{\"t\":\"submit\",\"visit\":1,\"at\":0,\"target\":\"/html/form\",\"req\":" k "}" }
+function clicks(n, target,   k) { load(1, "{\"n\":\"html\"}"); for (k = 1; k <= n; k++) print "{\"t\":\"click\",\"visit\":1,\"at\":0,\"target\":\"" target "\"}"; ends(1) }
 BEGIN {
     if (input == "pages") {
         attributes = ""
@@ -27,8 +31,8 @@ BEGIN {
         clicks(5000, "/html/p[4000]")
     } else if (input == "forms") {
         site("{\"n\":\"html\",\"c\":[{\"n\":\"form\",\"c\":[" times(4000, "{\"n\":\"input\",\"a\":{\"name\":\"n\"}}") "]}]}", "")
-        load(1)
-        for (k = 1; k <= 500; k++) print "{\"t\":\"submit\",\"visit\":1,\"at\":0,\"target\":\"/html/form\",\"req\":" k "}"
+        load(1, "{\"n\":\"html\"}")
+        submits(500)
         ends(1)
     } else if (input == "watched") {
         watch = ""
@@ -36,9 +40,24 @@ BEGIN {
         site("{\"n\":\"html\",\"c\":[" times(1500, "{\"n\":\"p\"}") "]}", watch)
         page = "{\"n\":\"html\",\"c\":[" times(1500, "{\"n\":\"p\"}") "]}"
         for (visit = 1; visit <= 10; visit++) {
-            print "{\"t\":\"load\",\"visit\":" visit ",\"at\":0,\"path\":\"/a\",\"page\":" page "}"
+            load(visit, page)
             ends(visit)
         }
+    } else if (input == "stars") {
+        site("{\"n\":\"html\",\"c\":[" times(4000, "{\"n\":\"p\"}") "]}", times(500, "\"/html/*/p\""))
+        visits(100)
+    } else if (input == "radios") {
+        site("{\"n\":\"html\",\"c\":[{\"n\":\"form\",\"c\":[" times(4000, "{\"n\":\"input\",\"a\":{\"name\":\"n\",\"type\":\"radio\"}}") "]}]}", "")
+        load(1, "{\"n\":\"html\"}")
+        submits(1000)
+        ends(1)
+    } else if (input == "texts") {
+        page = "{\"n\":\"html\",\"c\":[{\"n\":\"form\",\"c\":[{\"n\":\"textarea\",\"a\":{\"name\":\"t\"}}]}]}"
+        site(page, "")
+        load(1, page)
+        print "{\"t\":\"input\",\"visit\":1,\"at\":0,\"target\":\"/html/form/textarea\",\"value\":\"" times(32500, ";") "\"}"
+        submits(1000)
+        ends(1)
     } else { print "make_costly: no such input" > "/dev/stderr"; exit 1 }
     print "{\"t\":\"bye\"}"
 }
