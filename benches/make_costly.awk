@@ -14,6 +14,12 @@ function load(visit, page) { print "{\"t\":\"load\",\"visit\":" visit ",\"at\":0
 function ends(visit) { print "{\"t\":\"end\",\"visit\":" visit ",\"at\":0}" }
 function visits(n,   visit) { for (visit = 1; visit <= n; visit++) { load(visit, "{\"n\":\"html\"}"); ends(visit) } }
 function submits(n,   k) { for (k = 1; k <= n; k++) print "{\"t\":\"submit\",\"visit\":1,\"at\":0,\"target\":\"/html/form\",\"req\":" k "}" }
+function form(elements, n) {
+    site("{\"n\":\"html\",\"c\":[{\"n\":\"form\",\"c\":[" elements "]}]}", "")
+    load(1, "{\"n\":\"html\"}")
+    submits(n)
+    ends(1)
+}
 function clicks(n, target,   k) { load(1, "{\"n\":\"html\"}"); for (k = 1; k <= n; k++) print "{\"t\":\"click\",\"visit\":1,\"at\":0,\"target\":\"" target "\"}"; ends(1) }
 BEGIN {
     if (input == "pages") {
@@ -30,10 +36,7 @@ BEGIN {
         site("{\"n\":\"html\",\"c\":[" times(4000, "{\"n\":\"p\"}") "]}", "")
         clicks(5000, "/html/p[4000]")
     } else if (input == "forms") {
-        site("{\"n\":\"html\",\"c\":[{\"n\":\"form\",\"c\":[" times(4000, "{\"n\":\"input\",\"a\":{\"name\":\"n\"}}") "]}]}", "")
-        load(1, "{\"n\":\"html\"}")
-        submits(500)
-        ends(1)
+        form(times(4000, "{\"n\":\"input\",\"a\":{\"name\":\"n\"}}"), 500)
     } else if (input == "watched") {
         watch = ""
         for (i = 0; i < 4000; i++) watch = watch (i ? "," : "") "\"/html/p[" i % 1500 + 1 "]\""
@@ -47,10 +50,7 @@ BEGIN {
         site("{\"n\":\"html\",\"c\":[" times(4000, "{\"n\":\"p\"}") "]}", times(500, "\"/html/*/p\""))
         visits(100)
     } else if (input == "radios") {
-        site("{\"n\":\"html\",\"c\":[{\"n\":\"form\",\"c\":[" times(4000, "{\"n\":\"input\",\"a\":{\"name\":\"n\",\"type\":\"radio\"}}") "]}]}", "")
-        load(1, "{\"n\":\"html\"}")
-        submits(1000)
-        ends(1)
+        form(times(4000, "{\"n\":\"input\",\"a\":{\"name\":\"n\",\"type\":\"radio\"}}"), 1000)
     } else if (input == "texts") {
         page = "{\"n\":\"html\",\"c\":[{\"n\":\"form\",\"c\":[{\"n\":\"textarea\",\"a\":{\"name\":\"t\"}}]}]}"
         site(page, "")
