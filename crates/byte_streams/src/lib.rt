@@ -21,8 +21,3 @@ pub use limits::READ_BYTES;
 pub use lines::Lines;
 pub use sink::{Sink, Told, WriteFailed, write_text};
 pub use source::{Fed, Last, Source};
-
-#[cfg(test)]
-mod line_tests;
-#[cfg(test)]
-mod sink_tests;

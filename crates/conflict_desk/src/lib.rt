@@ -22,6 +22,3 @@ pub use decided::{Choice, Standing};
 pub use desk::Desk;
 pub use docket::{Case, Cases, Docket, are_dockets};
 pub use fault::DeskFault;
-
-#[cfg(test)]
-mod tests;

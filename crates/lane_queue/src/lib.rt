@@ -26,10 +26,3 @@ pub use putter::Putter;
 pub use room::Room;
 pub use taker::{Taker, reckon};
 pub use view::View;
-
-#[cfg(test)]
-mod tests;
-#[cfg(test)]
-mod thread_tests;
-#[cfg(test)]
-mod waiting_tests;

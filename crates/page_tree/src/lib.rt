@@ -18,8 +18,6 @@ mod reading;
 mod siblings;
 mod starting;
 mod table;
-#[cfg(test)]
-mod tests;
 mod text;
 mod texts;
 mod tree;

@@ -19,10 +19,3 @@ pub use limits::MAX_WORKERS;
 pub use pool::replay_all;
 pub use seat::Seat;
 pub use share::{Done, Share, work};
-
-#[cfg(test)]
-mod pool_tests;
-#[cfg(test)]
-mod tests;
-#[cfg(test)]
-mod thread_tests;

@@ -22,8 +22,8 @@ use std::thread;
 use std::thread::Threads;
 use visit_replay::{Outcome, Patch, follow_parents};
 
-/// The outcomes of visits in their order, fewer than 2^32, each behind its parent's, by so many workers, 1 to `MAX_WORKERS`, each on a thread of its own.
-/// Where no thread can be started, the one that calls does a worker's part.
+/// The outcomes of visits in their order, fewer than 2^32, each behind its parent's, by so many workers, 1 to `MAX_WORKERS`: the thread
+/// that calls is one, and the others have threads of their own. Where one of these can't be started, the thread that calls does its part too.
 pub fn replay_all<H: SiteHooks, R: AllocGlobal + Threads + Sync>(
     rt: &R,
     workers: u32,

@@ -10,8 +10,6 @@ mod fork;
 mod hooks;
 mod law;
 mod table;
-#[cfg(test)]
-mod tests;
 
 pub use closures::{Closures, ConflictTeller, PageMaker};
 pub use fork::Fork;

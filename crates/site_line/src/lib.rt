@@ -11,6 +11,3 @@ mod site;
 pub use decision::Decision;
 pub use fault::SiteFault;
 pub use site::Site;
-
-#[cfg(test)]
-mod tests;

@@ -43,14 +43,4 @@ pub use session_fault::SessionFault;
 pub use upload::Upload;
 
 #[cfg(test)]
-mod hello_tests;
-#[cfg(test)]
-mod limit_tests;
-#[cfg(test)]
 mod reading_tests;
-#[cfg(test)]
-mod session_tests;
-#[cfg(test)]
-mod test_uploads;
-#[cfg(test)]
-mod upload_tests;

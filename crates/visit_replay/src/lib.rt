@@ -24,16 +24,3 @@ pub use outcome::{ConflictKind, Outcome};
 pub use patch::{Patch, affected};
 pub use replaying::replay;
 pub use requests::{Method, Request, Requests};
-
-#[cfg(test)]
-mod conflict_tests;
-#[cfg(test)]
-mod following_tests;
-#[cfg(test)]
-mod form_tests;
-#[cfg(test)]
-mod moving_tests;
-#[cfg(test)]
-mod test_visits;
-#[cfg(test)]
-mod tests;

@@ -30,10 +30,3 @@ pub use upload_lanes::{
     Again, GatherFault, Gathered, LaneResult, Stop, gather, gather_again, gather_again_in_order,
     gather_in_order,
 };
-
-#[cfg(test)]
-mod fixtures;
-#[cfg(test)]
-mod repairing_tests;
-#[cfg(test)]
-mod settling_tests;

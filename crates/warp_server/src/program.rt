@@ -17,14 +17,3 @@ pub use callers::Callers;
 pub use running::run;
 pub use serving::{listen, serve, serve_callers};
 pub use status::Status;
-
-#[cfg(test)]
-mod answer_tests;
-#[cfg(test)]
-mod call_tests;
-#[cfg(test)]
-mod run_tests;
-#[cfg(test)]
-mod serve_tests;
-#[cfg(test)]
-mod socket_tests;

@@ -254,6 +254,3 @@ fn choice_word(choice: Choice) -> &'static str
         Choice::Keep => "keep",
     }
 }
-
-#[cfg(test)]
-mod tests;

@@ -1,5 +1,5 @@
 -- The first fault of a text: what each step of the reading adds.
-use Rattle.std.proofs.Common.{◌≡◌, ℕ, suc, ◌+◌, ◌<◌, ◌≤◌, Bool, true, false, cond, nat_lt, eqb, List, [], ◌∷◌, ◌++◌, length, drop, get_or, Ok, Err, Option, Some, None, refl, sym, ◌∙◌, ap, arith, add-one, lt-ltb, le-ltb}
+use Rattle.std.proofs.Common.{◌≡◌, ℕ, suc, ◌+◌, ◌<◌, ◌≤◌, Bool, true, false, cond, nat_lt, eqb, List, [], ◌∷◌, length, drop, get_or, Ok, Err, Option, Some, None, refl, sym, ◌∙◌, ap, arith, add-one, lt-ltb, le-ltb}
 use Rattle.std.proofs.lemmas.Bool.{eqb-false}
 use Rattle.std.specs.Option.{option_map_or}
 use Rattle.std.specs.List.{slice_split, onto_first}
@@ -8,7 +8,7 @@ use Rattle.std.proofs.lemmas.List.Splits.{length-slice_split}
 use Rattle.xpath_child.specs.Path.{max_steps}
 use Rattle.std.specs.Option.{option_or}
 use Rattle.page_tree.specs.FirstFault.{unless, ok_unless}
-use Rattle.xpath_child.specs.Fault.{fault_at, is_test, is_closed_index, test_part, index_part, text_fault, first_step_fault, step_in, PathFails}
+use Rattle.xpath_child.specs.Fault.{fault_at, is_test, is_closed_index, test_part, index_part, text_fault, first_step_fault, PathFails}
 use Rattle.xpath_child.specs.declared.fault.PathFault.{PathFault}
 use Rattle.xpath_child.specs.declared.fault.PathFaultKind.{PathFaultKind}
 use Rattle.xpath_child.specs.declared.fault.PathFaultKind.TheVariants.{NotAbsolute, EmptyStep, BadName, BadIndex, TooManySteps, NoMemory}

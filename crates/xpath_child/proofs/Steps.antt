@@ -1,5 +1,5 @@
 -- One child more, and what stays once a search is settled.
-use Rattle.std.proofs.Common.{◌≡◌, ℕ, zero, suc, ◌+◌, ◌-◌, ◌≤◌, ◌⊎◌, inl, inr, Bool, true, false, ◌&&◌, cond, List, [], ◌∷◌, ◌++◌, Option, Some, None, refl, sym, ◌∙◌, ap, arith, zero-add, add-zero, fold, filter, flat_map, count_by, leb-true, le-leb, ne_eqb}
+use Rattle.std.proofs.Common.{◌≡◌, ℕ, zero, suc, ◌+◌, ◌-◌, ◌≤◌, ◌⊎◌, inl, inr, Bool, true, false, true≢false, ◌&&◌, cond, eqb, List, [], ◌∷◌, ◌++◌, map, length, Option, Some, None, refl, sym, ◌∙◌, ap, arith, zero-add, add-zero, fold, filter, flat_map, count_by, leb-true, le-leb, ne_eqb}
 use Rattle.std.specs.List.{range_with_len}
 use Rattle.std.proofs.lemmas.Bool.{and_right}
 use Rattle.std.proofs.lemmas.List.{append-nil}
@@ -134,6 +134,17 @@ module _ (page : Tree) (step : Step) (rest path : List Step) (at : List ℕ) (fo
   settled (inr past) =
       so_far ∙ ap (λ ks. fold note found (flat_map (λ k. places_below page rest (at ++ k ∷ [])) ks)) (sym (past_stays page step at i n h (ap (is_past step.index) (sym count) ∙ past)))
       ∙ whole
+
+-- ---- a child without children, from which further steps reach nothing
+
+none_below : {A : Type 0} (f : A → Step) (page : Tree) (steps : List A) (at : List ℕ) → eqb (length steps) 0 ≡ false → child_count_at at page ≡ 0 → places_below page (map f steps) at ≡ []
+none_below f page [] at more none = absurd (true≢false more)
+none_below f page (step ∷ steps) at more none = ap (λ n. flat_map (λ i. places_below page (map f steps) (at ++ i ∷ [])) (selected page (f step) at n)) none
+
+pub nothing_noted : {A : Type 0} (f : A → Step) (page : Tree) (steps : List A) (at : List ℕ) (found : Target) (b : Bool) → eqb (length steps) 0 ≡ false → child_count_at at page ≡ 0
+    → found ≡ fold note found (cond b (places_below page (map f steps) at) [])
+nothing_noted f page steps at found true more none = sym (ap (fold note found) (none_below f page steps at more none))
+nothing_noted f page steps at found false more none = refl
 
 -- ---- a whole path
 

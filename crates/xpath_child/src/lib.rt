@@ -14,6 +14,3 @@ mod step;
 pub use fault::{PathFault, PathFaultKind};
 pub use limits::{MAX_INDEX_DIGITS, MAX_STEPS};
 pub use path::{Found, Path, Target};
-
-#[cfg(test)]
-mod tests;

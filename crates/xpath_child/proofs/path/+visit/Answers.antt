@@ -6,7 +6,7 @@ use Rattle.xpath_child.specs.Reaches.{matches}
 use Rattle.xpath_child.specs.Targets.{is_nth, places_below}
 use Rattle.xpath_child.specs.Found.{place_found}
 use Rattle.xpath_child.specs.inside.Search.{note}
-use Rattle.xpath_child.proofs.Steps.{counted, not_counted, noted, settled}
+use Rattle.xpath_child.proofs.Steps.{counted, not_counted, noted, settled, nothing_noted}
 use Rattle.xpath_child.proofs.path.+visit.Goals as goal
 use Rattle.xpath_child.proofs.path.+visit.Goals.{visit-then-is_several-via-then-is_several, visit-then-is_several-via-else-is_several+then-is_past, visit-then-visit_child, visit-else-visit_child}
 
@@ -45,3 +45,9 @@ visit-loop-i-preserved t c =
       child = λ more. c.nodes_under-child-in-loop-i.ensures.next at i there (omega (arith, more)) ∙ ap (λ k. at ++ k ∷ []) (sym (add-one i));
       found = noted page step rest at child i c.loop-i.before (place_found page c.args.found.now) found (place_found page c.visit_child.new.found) count there c.loop-i.invariant.found taken_in;
     }
+
+pub visit_child-returns-then-children_of-eq0-clause-noted : goal.visit_child-returns-then-children_of-eq0-clause-noted
+visit_child-returns-then-children_of-eq0-clause-noted t c =
+    let page = c.args.page.now in
+    nothing_noted (step_seen c.args.text.now) page c.args.rest.now (place_numbered c.args.child page) (place_found page c.args.found.now) _
+    (sym c.is_empty.ensures ∙ c.if-not-is_empty.true) (sym c.children_of.ensures ∙ c.if-children_of-eq0.true)

@@ -1,4 +1,4 @@
-use Rattle.std.proofs.Common.{[], ap, sym, subst, ◌∙◌}
+use Rattle.std.proofs.Common.{ap, sym, subst, ◌∙◌}
 use Rattle.upload_reader.specs.inside.Taken.{lane_of, taken_of, LaneTaken}
 use Rattle.upload_reader.proofs.LaneLaws.{begins_again}
 use Rattle.upload_reader.proofs.upload.Upload.resume.Goals as goal

@@ -1,0 +1,115 @@
+//! Putters on threads of their own, and the taker on this one.
+ghost use Rattle.std.specs.Prelude.{All};
+ghost use Rattle.lane_queue.specs.Opened.{IsFreshOf};
+ghost use Rattle.lane_queue.specs.Queue.{IsOf};
+
+use lane_queue::{Lanes, Putter, Room, Take, Taker};
+use std::alloc::{AllocError, Global};
+use std::process::Abort;
+use std::sync::Wait;
+use std::test::Fail;
+use std::thread;
+use std::thread::{Scope, Threads};
+
+// Puts the numbers below that one, and then it as the last.
+fn put_all<R: Wait>(rt: &R, lanes: &Lanes<u64>, putter: Putter<u64>, count: u32)
+    requires { IsFreshOf lanes.now putter }
+{
+    let mut putter = putter;
+    for body in 0..count {
+        let _ = putter.put(rt, lanes, u64::from(body));
+    }
+    let _ = putter.finish(rt, lanes, u64::from(count));
+}
+
+// Takes all items, and counts those that each lane got in order.
+fn take_all<R: Wait>(rt: &R, lanes: &Lanes<u64>, taker: &mut Taker<u64>, counts: &mut [u64]) -> bool
+    requires { IsOf lanes.now taker.old }
+{
+    for _ in rt.forever() {
+        match taker.take(rt, lanes) {
+            Take::AllEnded => return true,
+            Take::Item(item) => {
+                let Some(count) = counts.get_mut(item.lane as usize) else {
+                    return false;
+                };
+                if item.number != *count || item.body != *count {
+                    return false;
+                }
+                *count = count.wrapping_add(1);
+            }
+        }
+    }
+    unreachable!()
+}
+
+// Starts a thread for each putter.
+fn start_all<'s, E, R: Wait + Sync>(
+    scope: &Scope<'s, E>,
+    rt: &'s R,
+    lanes: &'s Lanes<u64>,
+    putters: Vec<Putter<u64>>,
+    each: u32,
+) -> Result<(), AllocError>
+    requires { All (IsFreshOf lanes.now) putters.items }
+{
+    for putter in putters {
+        let run = move ||
+            requires { IsFreshOf lanes.now putter }
+        { put_all(rt, lanes, putter, each) };
+        scope.spawn(run)?;
+    }
+    Ok(())
+}
+
+// Whether all items came in order; how many did is counted by lane.
+fn run_all<R: Threads + Wait + Sync>(
+    rt: &R,
+    lanes: &Lanes<u64>,
+    taker: &mut Taker<u64>,
+    putters: Vec<Putter<u64>>,
+    each: u32,
+    counts: &mut [u64],
+) -> Result<bool, AllocError>
+    requires putters { All (IsFreshOf lanes.now) putters.items }
+    requires taker { IsOf lanes.now taker.old }
+{
+    thread::scope(
+        thread::scope_env(),
+        rt,
+        move |scope| -> Result<bool, AllocError>
+            requires { All (IsFreshOf lanes.now) putters.items × IsOf lanes.now taker.now }
+        {
+            start_all(scope, rt, lanes, putters, each)?;
+            Ok(take_all(rt, lanes, taker, counts))
+        },
+    )
+}
+
+fn pass_all<R: Threads + Wait + Sync>(
+    rt: &R,
+    alloc: Global,
+    count: u32,
+    room: Room,
+    each: u32,
+) -> Result<Option<Vec<u64>>, Fail> {
+    let (lanes, mut taker, putters) = Lanes::<u64>::open(alloc, count, room)?;
+    let mut counts = Vec::from_elem(alloc, 0, count as usize)?;
+    let whole = run_all(rt, &lanes, &mut taker, putters, each, counts.as_mut_slice())?;
+    Ok(if whole { Some(counts) } else { None })
+}
+
+#[test]
+fn passes_the_items_of_sixteen_threads(rt: HostRuntime) -> Result<(), Fail> {
+    for items in [1, 2, 64] {
+        let Some(counts) = pass_all(&rt, rt.alloc(), 16, Room::new(items)?, 10_000)? else {
+            assert!(rt; false, "an item out of order");
+            continue;
+        };
+        assert_eq!(rt; counts.len(), 16);
+        for count in &counts {
+            assert_eq!(rt; *count, 10_001);
+        }
+    }
+    Ok(())
+}

@@ -1,0 +1,789 @@
+use page_tree::{Attributes, Control, NoMemory, Page, PageFault, Place, Text, Tree, is_name};
+use serde_json::Value;
+use std::alloc::Global;
+use std::borrow::CowStr;
+use std::cmp::Ordering;
+use std::collections::BTreeMap;
+use std::process::Abort;
+use std::test::Fail;
+
+const LINK: &str =
+    r#"{"n":"html","c":[{"n":"body","c":[{"n":"a","a":{"href":"/b"},"c":["go"]}]}]}"#;
+
+const FIELD: &str =
+    r#"{"n":"html","c":[{"n":"body","c":[{"n":"form","a":{"action":"/s","method":"POST"},"c":[{"n":"input","a":{"name":"q","value":"v"}}]}]}]}"#;
+
+fn read(alloc: Global, text: &str) -> Result<Page, Fail> {
+    let value = Value::from_str(alloc, text)?;
+    Ok(Page::from_value(alloc, &value)?)
+}
+
+fn fault_of(alloc: Global, text: &str) -> Result<Option<PageFault>, Fail> {
+    let value = Value::from_str(alloc, text)?;
+    Ok(Page::from_value(alloc, &value).err())
+}
+
+fn place(alloc: Global, positions: &[u32]) -> Result<Place, NoMemory> {
+    Ok(Place::from(positions.to_vec(alloc)?))
+}
+
+// The first text, the second so many times, and the third.
+fn repeated(
+    alloc: Global,
+    before: &str,
+    again: &str,
+    times: u32,
+    after: &str,
+) -> Result<String, NoMemory> {
+    let mut text = String::from_str(alloc, before)?;
+    for _ in 0..times {
+        text.push_str(again)?;
+    }
+    text.push_str(after)?;
+    Ok(text)
+}
+
+// A chain of elements, so many levels deep, in an outermost element.
+fn chain(alloc: Global, levels: u32) -> Result<String, NoMemory> {
+    let mut text = repeated(alloc, "", r#"{"n":"a","c":["#, levels, r#"{"n":"a"}"#)?;
+    for _ in 0..levels {
+        text.push_str("]}")?;
+    }
+    Ok(text)
+}
+
+#[test]
+fn names_the_first_fault_of_a_value(rt: HostRuntime) -> Result<(), Fail> {
+    let cases = [
+        (r#""html""#, PageFault::NotAnElement),
+        ("null", PageFault::NotAnElement),
+        (r#"{"n":"1x"}"#, PageFault::BadName),
+        ("{}", PageFault::BadName),
+        (r#"{"n":7}"#, PageFault::BadName),
+        (r#"{"n":"a","a":{"href":7}}"#, PageFault::BadAttribute),
+        (r#"{"n":"a","a":null}"#, PageFault::BadAttribute),
+        (r#"{"n":"a","c":"x"}"#, PageFault::BadChildren),
+        (r#"{"n":"a","c":[7]}"#, PageFault::BadChildren),
+        // At one node the name comes before the attributes, and those before the children.
+        (r#"{"n":"","a":7,"c":7}"#, PageFault::BadName),
+        (r#"{"n":"a","a":7,"c":7}"#, PageFault::BadAttribute),
+        // A fault deep in the first child comes before one of the second child.
+        (
+            r#"{"n":"a","c":[{"n":"b","c":[{"n":"c","a":1}]},7]}"#,
+            PageFault::BadAttribute,
+        ),
+        // A node's own fault comes before its children's.
+        (r#"{"n":"a","a":1,"c":[7]}"#, PageFault::BadAttribute),
+    ];
+    for (text, fault) in cases {
+        assert_eq!(rt; fault_of(rt.alloc(), text)?, Some(fault), "at {text}");
+    }
+    Ok(())
+}
+
+#[test]
+fn has_limits(rt: HostRuntime) -> Result<(), Fail> {
+    let alloc = rt.alloc();
+    assert_eq!(rt; fault_of(alloc, chain(alloc, 47)?.as_str())?, None);
+    assert_eq!(rt;
+        fault_of(alloc, chain(alloc, 48)?.as_str())?,
+        Some(PageFault::TooDeep)
+    );
+
+    let most = repeated(alloc, r#"{"n":"a","c":["""#, r#","""#, 4094, "]}")?;
+    assert_eq!(rt; fault_of(alloc, most.as_str())?, None);
+    let more = repeated(alloc, r#"{"n":"a","c":["""#, r#","""#, 4095, "]}")?;
+    assert_eq!(rt; fault_of(alloc, more.as_str())?, Some(PageFault::TooMany));
+
+    // One node too many comes before what is wrong with that node, and after what is wrong with an earlier one.
+    let late = repeated(alloc, r#"{"n":"a","c":["""#, r#","""#, 4094, ",7]}")?;
+    assert_eq!(rt; fault_of(alloc, late.as_str())?, Some(PageFault::TooMany));
+    let early = repeated(alloc, r#"{"n":"a","c":[7"#, r#","""#, 4095, "]}")?;
+    assert_eq!(rt;
+        fault_of(alloc, early.as_str())?,
+        Some(PageFault::BadChildren)
+    );
+
+    // Too deep comes before a bad name; a text has no depth.
+    let nameless = repeated(alloc, "", r#"{"n":"a","c":["#, 48, "{}")?;
+    let nameless = repeated(alloc, nameless.as_str(), "]}", 48, "")?;
+    assert_eq!(rt;
+        fault_of(alloc, nameless.as_str())?,
+        Some(PageFault::TooDeep)
+    );
+    let worded = repeated(alloc, "", r#"{"n":"a","c":["#, 48, r#""x""#)?;
+    let worded = repeated(alloc, worded.as_str(), "]}", 48, "")?;
+    assert_eq!(rt; fault_of(alloc, worded.as_str())?, None);
+    Ok(())
+}
+
+#[test]
+fn knows_names(rt: HostRuntime) -> Result<(), Fail> {
+    let longest = repeated(rt.alloc(), "a", "b", 63, "")?;
+    let longer = repeated(rt.alloc(), "a", "b", 64, "")?;
+    let cases = [
+        ("a", true),
+        ("_", true),
+        ("H1.x-y_z", true),
+        ("", false),
+        ("1x", false),
+        ("-a", false),
+        (".a", false),
+        ("a:b", false),
+        ("a b", false),
+        ("é", false),
+        (longest.as_str(), true),
+        (longer.as_str(), false),
+    ];
+    for (text, is) in cases {
+        assert_eq!(rt; is_name(text), is, "at {text}");
+    }
+    Ok(())
+}
+
+#[test]
+fn numbers_its_faults(rt: HostRuntime) -> Result<(), Fail> {
+    let cases = [
+        (PageFault::NotAnElement, "P1"),
+        (PageFault::BadName, "P2"),
+        (PageFault::BadAttribute, "P3"),
+        (PageFault::BadChildren, "P4"),
+        (PageFault::TooDeep, "P5"),
+        (PageFault::TooMany, "P6"),
+        (PageFault::NoMemory, "P7"),
+    ];
+    for (fault, text) in cases {
+        assert_eq!(rt; fault.to_string(rt.alloc())?.as_str(), text);
+    }
+    Ok(())
+}
+
+fn text(alloc: Global, text: &str) -> Result<Text, NoMemory> {
+    Text::from_str(alloc, text)
+}
+
+fn element(alloc: Global, name: &str, names: &[&str], child: Option<Tree>) -> Result<Tree, Fail> {
+    let mut pairs = Vec::new(alloc);
+    for name in names {
+        pairs.push((text(alloc, name)?, text(alloc, "")?))?;
+    }
+    let mut children = Vec::new(alloc);
+    if let Some(child) = child {
+        children.push(child)?;
+    }
+    Ok(Tree::Element {
+        name: text(alloc, name)?,
+        attributes: Attributes::from(pairs),
+        children,
+    })
+}
+
+// Elements in one another, so many.
+fn nested(alloc: Global, levels: u32) -> Result<Tree, Fail> {
+    let mut tree = element(alloc, "a", &[], None)?;
+    for _ in 1..levels {
+        tree = element(alloc, "a", &[], Some(tree))?;
+    }
+    Ok(tree)
+}
+
+// An element with so many empty texts.
+fn broad(alloc: Global, texts: u32) -> Result<Tree, Fail> {
+    let mut children = Vec::new(alloc);
+    for _ in 0..texts {
+        children.push(Tree::Words(text(alloc, "")?))?;
+    }
+    Ok(Tree::Element {
+        name: text(alloc, "a")?,
+        attributes: Attributes::from(Vec::new(alloc)),
+        children,
+    })
+}
+
+#[test]
+fn names_the_first_fault_of_a_tree(rt: HostRuntime) -> Result<(), Fail> {
+    let alloc = rt.alloc();
+    let words = Tree::Words(text(alloc, "x")?);
+    assert_eq!(rt;
+        Page::new(alloc, words).err(),
+        Some(PageFault::NotAnElement)
+    );
+    assert_eq!(rt;
+        Page::new(alloc, element(alloc, "1x", &["b", "a"], None)?).err(),
+        Some(PageFault::BadName)
+    );
+    assert_eq!(rt;
+        Page::new(alloc, element(alloc, "a", &["b", "a"], None)?).err(),
+        Some(PageFault::BadAttribute)
+    );
+    assert_eq!(rt;
+        Page::new(alloc, element(alloc, "a", &["b", "b"], None)?).err(),
+        Some(PageFault::BadAttribute)
+    );
+    assert_eq!(rt;
+        Page::new(alloc, element(alloc, "a", &["", "B", "a", "é"], None)?).err(),
+        None
+    );
+    assert_eq!(rt;
+        Page::new(alloc, nested(alloc, 49)?).err(),
+        Some(PageFault::TooDeep)
+    );
+    assert_eq!(rt; Page::new(alloc, nested(alloc, 48)?).err(), None);
+    assert_eq!(rt;
+        Page::new(alloc, broad(alloc, 4096)?).err(),
+        Some(PageFault::TooMany)
+    );
+    assert_eq!(rt; Page::new(alloc, broad(alloc, 4095)?).err(), None);
+    Ok(())
+}
+
+#[test]
+fn refuses_a_tree_of_any_depth(rt: HostRuntime) -> Result<(), Fail> {
+    let alloc = rt.alloc();
+    let mut tree = Tree::Words(text(alloc, "x")?);
+    for _ in 0..200_000 {
+        let mut children = Vec::new(alloc);
+        children.push(tree)?;
+        tree = Tree::Element {
+            name: text(alloc, "a")?,
+            attributes: Attributes::from(Vec::new(alloc)),
+            children,
+        };
+    }
+    assert_eq!(rt; Page::new(alloc, tree).err(), Some(PageFault::TooDeep));
+    Ok(())
+}
+
+#[test]
+fn makes_the_page_of_a_tree(rt: HostRuntime) -> Result<(), Fail> {
+    let alloc = rt.alloc();
+    let mut words = Vec::new(alloc);
+    words.push(Tree::Words(text(alloc, "go")?))?;
+    let mut pairs = Vec::new(alloc);
+    pairs.push((text(alloc, "href")?, text(alloc, "/b")?))?;
+    let link = Tree::Element {
+        name: text(alloc, "a")?,
+        attributes: Attributes::from(pairs),
+        children: words,
+    };
+    let body = element(alloc, "body", &[], Some(link))?;
+    let page = Page::new(alloc, element(alloc, "html", &[], Some(body))?)?;
+    assert!(rt; page.same(&read(alloc, LINK)?));
+    assert!(rt; !page.same(&read(alloc, FIELD)?));
+    Ok(())
+}
+
+#[test]
+fn looks_into_a_page(rt: HostRuntime) -> Result<(), Fail> {
+    let alloc = rt.alloc();
+    let page = read(alloc, LINK)?;
+    assert!(rt; page.copy()?.same(&page));
+    let root = Place::root(alloc);
+    let link = root.child(0)?.child(0)?;
+    assert_eq!(rt; link.as_slice(), [0, 0].as_slice());
+    let words = link.child(0)?;
+    let nowhere = link.child(1)?;
+
+    assert_eq!(rt; page.text_under(&root)?.as_str(), "go");
+    assert_eq!(rt; page.text_under(&words)?.as_str(), "go");
+    assert_eq!(rt; page.text_under(&nowhere)?.as_str(), "");
+    assert!(rt; page.attribute(&link, "href") == Some("/b"));
+    assert!(rt; page.attribute(&link, "name").is_none());
+    assert!(rt; page.attribute(&words, "href").is_none());
+    assert!(rt; page.name(&root) == Some("html"));
+    assert!(rt; page.name(&link) == Some("a"));
+    assert!(rt; page.name(&words).is_none());
+    assert!(rt; page.name(&nowhere).is_none());
+    assert_eq!(rt; page.children(&root), 1);
+    assert_eq!(rt; page.children(&words), 0);
+    assert_eq!(rt; page.children(&nowhere), 0);
+    assert_eq!(rt; page.control(&link), Control::Link);
+    assert_eq!(rt; page.control(&words), Control::Other);
+    assert_eq!(rt; page.control(&nowhere), Control::Other);
+    Ok(())
+}
+
+fn start_text_at(
+    alloc: Global,
+    page: &Page,
+    positions: &[u32],
+) -> Result<Option<String>, NoMemory> {
+    Ok(
+        page.start_text(&place(alloc, positions)?)?
+            .map(Text::into_string),
+    )
+}
+
+fn is_started_with(rt: &impl Abort, started: Option<String>, text: &str) {
+    match started {
+        None => assert!(rt; false, "no start text for {text}"),
+        Some(start) => assert!(rt; start.as_str() == text, "{start} for {text}"),
+    }
+}
+
+#[test]
+fn starts_with_texts(rt: HostRuntime) -> Result<(), Fail> {
+    let alloc = rt.alloc();
+    let page = read(alloc, FIELD)?;
+    is_started_with(&rt, start_text_at(alloc, &page, &[0, 0, 0])?, "v");
+    assert!(rt; start_text_at(alloc, &page, &[0, 0])?.is_none());
+    assert!(rt; start_text_at(alloc, &page, &[7])?.is_none());
+
+    let area = read(
+        alloc,
+        r#"{"n":"textarea","a":{"value":"no"},"c":["a",{"n":"i","c":["x"]},"b"]}"#,
+    )?;
+    is_started_with(&rt, start_text_at(alloc, &area, &[])?, "ab");
+    let select = read(
+        alloc,
+        r#"{"n":"select","a":{"value":"s"},"c":[{"n":"option","c":["x"]}]}"#,
+    )?;
+    is_started_with(&rt, start_text_at(alloc, &select, &[])?, "s");
+    let empty = read(alloc, r#"{"n":"input"}"#)?;
+    is_started_with(&rt, start_text_at(alloc, &empty, &[])?, "");
+    Ok(())
+}
+
+#[test]
+fn tells_controls_and_start_states(rt: HostRuntime) -> Result<(), Fail> {
+    let alloc = rt.alloc();
+    let cases = [
+        (
+            r#"{"n":"input","a":{"type":"checkbox","checked":""}}"#,
+            Control::Check,
+            true,
+        ),
+        (
+            r#"{"n":"input","a":{"type":"CheckBox"}}"#,
+            Control::Check,
+            false,
+        ),
+        (
+            r#"{"n":"input","a":{"type":"radio","checked":"no"}}"#,
+            Control::Radio,
+            true,
+        ),
+        (
+            r#"{"n":"input","a":{"type":"submit","checked":""}}"#,
+            Control::Submit,
+            false,
+        ),
+        (
+            r#"{"n":"input","a":{"type":"image"}}"#,
+            Control::Other,
+            false,
+        ),
+        (
+            r#"{"n":"input","a":{"type":"file"}}"#,
+            Control::Other,
+            false,
+        ),
+        (
+            r#"{"n":"input","a":{"type":"Reset"}}"#,
+            Control::Other,
+            false,
+        ),
+        (
+            r#"{"n":"input","a":{"type":"button"}}"#,
+            Control::Other,
+            false,
+        ),
+        (
+            r#"{"n":"input","a":{"type":"text","checked":""}}"#,
+            Control::Text,
+            false,
+        ),
+        (
+            r#"{"n":"input","a":{"type":" checkbox"}}"#,
+            Control::Text,
+            false,
+        ),
+        (
+            r#"{"n":"input","a":{"type":"chec\u212Abox"}}"#,
+            Control::Text,
+            false,
+        ),
+        (r#"{"n":"input"}"#, Control::Text, false),
+        (r#"{"n":"INPUT"}"#, Control::Other, false),
+        (
+            r#"{"n":"textarea","a":{"type":"checkbox"}}"#,
+            Control::Text,
+            false,
+        ),
+        (r#"{"n":"select"}"#, Control::Text, false),
+        (r#"{"n":"button"}"#, Control::Submit, false),
+        (
+            r#"{"n":"button","a":{"type":"menu"}}"#,
+            Control::Submit,
+            false,
+        ),
+        (
+            r#"{"n":"button","a":{"type":"reset"}}"#,
+            Control::Other,
+            false,
+        ),
+        (
+            r#"{"n":"button","a":{"type":"BUTTON"}}"#,
+            Control::Other,
+            false,
+        ),
+        (r#"{"n":"a","a":{"href":""}}"#, Control::Link, false),
+        (r#"{"n":"a"}"#, Control::Other, false),
+        (r#"{"n":"area","a":{"href":"/b"}}"#, Control::Link, false),
+        (r#"{"n":"form"}"#, Control::Form, false),
+        (
+            r#"{"n":"p","a":{"href":"/b","checked":""}}"#,
+            Control::Other,
+            false,
+        ),
+    ];
+    for (text, control, checked) in cases {
+        let page = read(alloc, text)?;
+        let root = Place::root(alloc);
+        assert_eq!(rt; page.control(&root), control, "at {text}");
+        assert_eq!(rt; page.start_checked(&root), checked, "at {text}");
+    }
+    Ok(())
+}
+
+#[test]
+fn gives_back_what_it_was_made_of(rt: HostRuntime) -> Result<(), Fail> {
+    let alloc = rt.alloc();
+    let word = Text::from(String::from_str(alloc, "é")?);
+    assert_eq!(rt; word.copy()?.as_str(), "é");
+    assert_eq!(rt; word.into_string().as_str(), "é");
+    assert_eq!(rt;
+        place(alloc, &[3, 1])?.into_vec().as_slice(),
+        [3, 1].as_slice()
+    );
+    let mut pairs = Vec::new(alloc);
+    pairs.push((text(alloc, "k")?, text(alloc, "v")?))?;
+    let attributes = Attributes::from(pairs);
+    assert!(rt; attributes.get("k") == Some("v"));
+    assert!(rt; attributes.get("v").is_none());
+    assert_eq!(rt; attributes.into_vec().len(), 1);
+    Ok(())
+}
+
+const NESTED: &str =
+    r#"{"n":"html","c":[{"n":"body","c":[{"n":"div","c":[{"n":"a","c":["x"]}]},{"n":"p"},{"n":"div","c":[{"n":"a","c":["y"]}]}]}]}"#;
+
+fn shown(alloc: Global, places: &[Place]) -> Result<String, Fail> {
+    let mut text = String::new(alloc);
+    for place in places {
+        text.push_str(format!(in alloc; "{:?}", place.as_slice())?.as_str())?;
+    }
+    Ok(text)
+}
+
+#[test]
+fn lists_the_places_under_a_node(rt: HostRuntime) -> Result<(), Fail> {
+    let alloc = rt.alloc();
+    let page = read(alloc, NESTED)?;
+    page.within_limits();
+    let cases: [(&[u32], &str); 6] = [
+        (
+            &[],
+            "[0][0, 0][0, 0, 0][0, 0, 0, 0][0, 1][0, 2][0, 2, 0][0, 2, 0, 0]",
+        ),
+        (&[0, 0], "[0, 0, 0][0, 0, 0, 0]"),
+        // An element without children, a text, and no node.
+        (&[0, 1], ""),
+        (&[0, 0, 0, 0], ""),
+        (&[0, 3], ""),
+        (&[0, 0, 0, 0, 0], ""),
+    ];
+    for (above, under) in cases {
+        let found = page.places_under(&place(alloc, above)?)?;
+        assert_eq!(rt; shown(alloc, found.as_slice())?.as_str(), under);
+    }
+    Ok(())
+}
+
+#[test]
+fn compares_places(rt: HostRuntime) -> Result<(), Fail> {
+    let alloc = rt.alloc();
+    // Two places, their order, and whether the first is under the second.
+    let cases: [(&[u32], &[u32], Ordering, bool); 8] = [
+        (&[], &[], Ordering::Equal, false),
+        (&[0, 1], &[0, 1], Ordering::Equal, false),
+        (&[0], &[], Ordering::Greater, true),
+        (&[0, 1, 0], &[0, 1], Ordering::Greater, true),
+        (&[0, 1, 0, 5], &[0], Ordering::Greater, true),
+        (&[0], &[0, 1], Ordering::Less, false),
+        (&[0, 2], &[0, 10], Ordering::Less, false),
+        (&[1], &[0, 9], Ordering::Greater, false),
+    ];
+    for (one, other, order, under) in cases {
+        let one = place(alloc, one)?;
+        let other = place(alloc, other)?;
+        assert_eq!(rt; one.cmp(&other), order);
+        assert_eq!(rt; one.partial_cmp(&other), Some(order));
+        assert_eq!(rt; one == other, order == Ordering::Equal);
+        assert_eq!(rt; one.is_under(&other), under);
+    }
+    Ok(())
+}
+
+#[test]
+fn keeps_places_in_a_map(rt: HostRuntime) -> Result<(), Fail> {
+    let alloc = rt.alloc();
+    let field = place(alloc, &[0, 2])?;
+    let copy = field.copy()?;
+    assert_eq!(rt; copy, field);
+    assert_eq!(rt; copy.as_slice(), [0, 2].as_slice());
+    let mut texts = BTreeMap::new(alloc);
+    texts.insert(copy, "a")?;
+    texts.insert(Place::root(alloc), "b")?;
+    assert!(rt; texts.get(&field) == Some(&"a"));
+    assert!(rt; texts.get(&place(alloc, &[0])?).is_none());
+    Ok(())
+}
+
+// ---- looks by numbers
+
+// A node's number and place, its name, its parent's number, how many elements stand before it and how many of these have its name, how many children it
+// has, and the numbers of the nodes under it.
+type Known<'a> = (
+    u32,
+    &'a [u32],
+    Option<&'a str>,
+    Option<u32>,
+    (u32, u32),
+    u32,
+    (u32, u32),
+);
+
+const NESTED_NODES: &[Known<'static>] = &[
+    (0, &[], Some("html"), None, (0, 0), 1, (1, 9)),
+    (1, &[0], Some("body"), Some(0), (0, 0), 3, (2, 9)),
+    (2, &[0, 0], Some("div"), Some(1), (0, 0), 1, (3, 5)),
+    (3, &[0, 0, 0], Some("a"), Some(2), (0, 0), 1, (4, 5)),
+    (4, &[0, 0, 0, 0], None, Some(3), (0, 0), 0, (5, 5)),
+    (5, &[0, 1], Some("p"), Some(1), (1, 0), 0, (6, 6)),
+    (6, &[0, 2], Some("div"), Some(1), (2, 1), 1, (7, 9)),
+    (7, &[0, 2, 0], Some("a"), Some(6), (0, 0), 1, (8, 9)),
+    (8, &[0, 2, 0, 0], None, Some(7), (0, 0), 0, (9, 9)),
+];
+
+const FIELD_NODES: &[Known<'static>] = &[
+    (0, &[], Some("html"), None, (0, 0), 1, (1, 4)),
+    (1, &[0], Some("body"), Some(0), (0, 0), 1, (2, 4)),
+    (2, &[0, 0], Some("form"), Some(1), (0, 0), 1, (3, 4)),
+    (3, &[0, 0, 0], Some("input"), Some(2), (0, 0), 0, (4, 4)),
+];
+
+// A text between two elements of one name, and one in front: texts are siblings, but no elements before one.
+const MIXED: &str = r#"{"n":"p","c":["x",{"n":"b"},"y",{"n":"i"},{"n":"b"},"z"]}"#;
+
+const MIXED_NODES: &[Known<'static>] = &[
+    (0, &[], Some("p"), None, (0, 0), 6, (1, 7)),
+    (1, &[0], None, Some(0), (0, 0), 0, (2, 2)),
+    (2, &[1], Some("b"), Some(0), (0, 0), 0, (3, 3)),
+    (3, &[2], None, Some(0), (0, 0), 0, (4, 4)),
+    (4, &[3], Some("i"), Some(0), (1, 0), 0, (5, 5)),
+    (5, &[4], Some("b"), Some(0), (2, 1), 0, (6, 6)),
+    (6, &[5], None, Some(0), (0, 0), 0, (7, 7)),
+];
+
+#[test]
+fn looks_at_each_node_by_its_number(rt: HostRuntime) -> Result<(), Fail> {
+    let alloc = rt.alloc();
+    let pages = [
+        (NESTED, NESTED_NODES),
+        (FIELD, FIELD_NODES),
+        (MIXED, MIXED_NODES),
+    ];
+    for (text, nodes) in pages {
+        let page = read(alloc, text)?;
+        assert_eq!(rt; page.node_count() as usize, nodes.len());
+        for &(number, positions, name, parent, before, children, under) in nodes {
+            let at = place(alloc, positions)?;
+            assert_eq!(rt; page.number_of(&at), Some(number), "at {positions:?}");
+            assert!(rt; page.place_of(number)? == Some(at), "of {number}");
+            assert!(rt; page.name_of(number) == name, "of {number}");
+            assert_eq!(rt; page.parent_of(number), parent, "of {number}");
+            assert_eq!(rt; page.elements_before(number), before.0, "of {number}");
+            assert_eq!(rt; page.same_before(number), before.1, "of {number}");
+            assert_eq!(rt; page.children_of(number), children, "of {number}");
+            let found = page.nodes_under(number);
+            assert_eq!(rt; (found.start, found.end), under, "of {number}");
+        }
+    }
+    Ok(())
+}
+
+#[test]
+fn joins_texts_by_number(rt: HostRuntime) -> Result<(), Fail> {
+    let alloc = rt.alloc();
+    let page = read(
+        alloc,
+        r#"{"n":"p","c":["x",{"n":"b","c":["y",{"n":"i","c":["z"]}]},{"n":"b"},"w"]}"#,
+    )?;
+    let texts = ["xyzw", "x", "yz", "y", "z", "z", "", "w", "", ""];
+    for number in 0..10 {
+        let text = page.text_of(number)?;
+        assert!(rt; text.as_str() == texts[number as usize], "of {number}");
+    }
+    Ok(())
+}
+
+#[test]
+fn finds_no_node_past_the_last_number(rt: HostRuntime) -> Result<(), Fail> {
+    let alloc = rt.alloc();
+    let page = read(alloc, NESTED)?;
+    for number in [9, 10, 4096, u32::MAX] {
+        assert!(rt; page.place_of(number)?.is_none(), "of {number}");
+        assert!(rt; page.name_of(number).is_none(), "of {number}");
+        assert!(rt; page.attribute_of(number, "href").is_none(), "of {number}");
+        assert_eq!(rt; page.parent_of(number), None, "of {number}");
+        assert_eq!(rt; page.elements_before(number), 0, "of {number}");
+        assert_eq!(rt; page.same_before(number), 0, "of {number}");
+        assert_eq!(rt; page.children_of(number), 0, "of {number}");
+        let under = page.nodes_under(number);
+        assert_eq!(rt; (under.start, under.end), (number, number));
+        assert_eq!(rt; page.control_of(number), Control::Other, "of {number}");
+        assert!(rt; page.start_text_of(number)?.is_none(), "of {number}");
+        assert!(rt; !page.start_checked_of(number), "of {number}");
+    }
+    let nowhere: [&[u32]; 6] = [
+        &[1],
+        &[7],
+        &[0, 3],
+        &[0, 1, 0],
+        &[0, 0, 0, 0, 0],
+        &[u32::MAX],
+    ];
+    for positions in nowhere {
+        assert_eq!(rt;
+            page.number_of(&place(alloc, positions)?),
+            None,
+            "at {positions:?}"
+        );
+    }
+    Ok(())
+}
+
+#[test]
+fn numbers_the_nodes_of_a_broad_page(rt: HostRuntime) -> Result<(), Fail> {
+    let alloc = rt.alloc();
+    let most = repeated(
+        alloc,
+        r#"{"n":"a","c":[{"n":"a"}"#,
+        r#",{"n":"a"}"#,
+        4094,
+        "]}",
+    )?;
+    let page = read(alloc, most.as_str())?;
+    assert_eq!(rt; page.node_count(), 4096);
+    assert_eq!(rt; page.children_of(0), 4095);
+    let under = page.nodes_under(0);
+    assert_eq!(rt; (under.start, under.end), (1, 4096));
+    // A child's number, and its position.
+    for (number, position) in [(1, 0), (2048, 2047), (4095, 4094)] {
+        let at = place(alloc, &[position])?;
+        assert_eq!(rt; page.number_of(&at), Some(number));
+        assert!(rt; page.place_of(number)? == Some(at), "of {number}");
+        assert_eq!(rt; page.parent_of(number), Some(0));
+        assert_eq!(rt; page.elements_before(number), position);
+        assert_eq!(rt; page.same_before(number), position);
+    }
+    assert_eq!(rt; page.number_of(&place(alloc, &[4095])?), None);
+    assert!(rt; page.name_of(4096).is_none());
+    Ok(())
+}
+
+#[test]
+fn finds_attributes_by_number(rt: HostRuntime) -> Result<(), Fail> {
+    let alloc = rt.alloc();
+    let page = read(
+        alloc,
+        r#"{"n":"p","a":{"":"0","B":"1","a":"2","c":"3","ca":"4","e":"5","é":"6"},"c":["x",{"n":"b"}]}"#,
+    )?;
+    let cases = [
+        ("", Some("0")),
+        ("A", None),
+        ("B", Some("1")),
+        ("a", Some("2")),
+        ("b", None),
+        ("c", Some("3")),
+        ("ca", Some("4")),
+        ("cab", None),
+        ("d", None),
+        ("e", Some("5")),
+        ("z", None),
+        ("é", Some("6")),
+        ("éé", None),
+    ];
+    for (name, value) in cases {
+        assert!(rt; page.attribute_of(0, name) == value, "of {name}");
+        // A text has none, nor has an element that was given none.
+        assert!(rt; page.attribute_of(1, name).is_none(), "of {name}");
+        assert!(rt; page.attribute_of(2, name).is_none(), "of {name}");
+    }
+    Ok(())
+}
+
+const CONTROLS: &str =
+    r#"{"n":"form","c":[{"n":"input","a":{"checked":"","type":"checkbox"}},{"n":"input","a":{"type":"radio"}},"x",{"n":"input","a":{"value":"v"}},{"n":"textarea","a":{"value":"no"},"c":["a",{"n":"i","c":["x"]},"b"]},{"n":"textarea","c":[{"n":"i"},"","c"]},{"n":"button"},{"n":"a","a":{"href":"/b"}},{"n":"select"},{"n":"textarea"}]}"#;
+
+// A node's number, what it is to a form, whether it starts on, and the text that it starts with, which is borrowed or not.
+const STARTS: &[(u32, Control, bool, Option<(&str, bool)>)] = &[
+    (0, Control::Form, false, None),
+    (1, Control::Check, true, None),
+    (2, Control::Radio, false, None),
+    (3, Control::Other, false, None),
+    (4, Control::Text, false, Some(("v", true))),
+    (5, Control::Text, false, Some(("ab", false))),
+    (6, Control::Other, false, None),
+    (7, Control::Other, false, None),
+    (8, Control::Other, false, None),
+    (9, Control::Other, false, None),
+    (10, Control::Text, false, Some(("c", true))),
+    (11, Control::Other, false, None),
+    (12, Control::Other, false, None),
+    (13, Control::Other, false, None),
+    (14, Control::Submit, false, None),
+    (15, Control::Link, false, None),
+    (16, Control::Text, false, Some(("", true))),
+    (17, Control::Text, false, Some(("", true))),
+];
+
+fn is_start(rt: &impl Abort, started: Option<CowStr<'_, Global>>, want: Option<(&str, bool)>) {
+    match (started, want) {
+        (None, None) => {}
+        (Some(start), Some((text, borrowed))) => {
+            assert!(rt; start.as_str() == text, "for {text}");
+            assert_eq!(rt;
+                matches!(start, CowStr::Borrowed(_)),
+                borrowed,
+                "for {text}"
+            );
+        }
+        _ => assert!(rt; false, "a start text for {want:?}"),
+    }
+}
+
+#[test]
+fn tells_controls_by_number_and_by_place(rt: HostRuntime) -> Result<(), Fail> {
+    let alloc = rt.alloc();
+    let page = read(alloc, CONTROLS)?;
+    assert_eq!(rt; page.node_count() as usize, STARTS.len());
+    for &(number, control, checked, start) in STARTS {
+        assert_eq!(rt; page.control_of(number), control, "of {number}");
+        assert_eq!(rt; page.start_checked_of(number), checked, "of {number}");
+        is_start(&rt, page.start_text_of(number)?, start);
+        let Some(at) = page.place_of(number)? else {
+            assert!(rt; false, "no place of {number}");
+            continue;
+        };
+        assert_eq!(rt; page.control(&at), control, "of {number}");
+        assert_eq!(rt; page.start_checked(&at), checked, "of {number}");
+        match (page.start_text(&at)?, start) {
+            (None, None) => {}
+            (Some(started), Some((text, _))) => assert_eq!(rt; started.as_str(), text),
+            _ => assert!(rt; false, "a start text of {number}"),
+        }
+    }
+    Ok(())
+}
