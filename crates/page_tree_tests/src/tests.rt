@@ -81,40 +81,41 @@ fn names_the_first_fault_of_a_value(rt: HostRuntime) -> Result<(), Fail> {
     Ok(())
 }
 
+fn has_fault(
+    rt: &impl Abort,
+    alloc: Global,
+    text: &str,
+    want: Option<PageFault>,
+) -> Result<(), Fail> {
+    assert_eq!(rt; fault_of(alloc, text)?, want);
+    Ok(())
+}
+
 #[test]
 fn has_limits(rt: HostRuntime) -> Result<(), Fail> {
     let alloc = rt.alloc();
-    assert_eq!(rt; fault_of(alloc, chain(alloc, 47)?.as_str())?, None);
-    assert_eq!(rt;
-        fault_of(alloc, chain(alloc, 48)?.as_str())?,
-        Some(PageFault::TooDeep)
-    );
+    has_fault(&rt, alloc, chain(alloc, 47)?.as_str(), None)?;
+    let deep = chain(alloc, 48)?;
+    has_fault(&rt, alloc, deep.as_str(), Some(PageFault::TooDeep))?;
 
     let most = repeated(alloc, r#"{"n":"a","c":["""#, r#","""#, 4094, "]}")?;
-    assert_eq!(rt; fault_of(alloc, most.as_str())?, None);
+    has_fault(&rt, alloc, most.as_str(), None)?;
     let more = repeated(alloc, r#"{"n":"a","c":["""#, r#","""#, 4095, "]}")?;
-    assert_eq!(rt; fault_of(alloc, more.as_str())?, Some(PageFault::TooMany));
+    has_fault(&rt, alloc, more.as_str(), Some(PageFault::TooMany))?;
 
     // One node too many comes before what is wrong with that node, and after what is wrong with an earlier one.
     let late = repeated(alloc, r#"{"n":"a","c":["""#, r#","""#, 4094, ",7]}")?;
-    assert_eq!(rt; fault_of(alloc, late.as_str())?, Some(PageFault::TooMany));
+    has_fault(&rt, alloc, late.as_str(), Some(PageFault::TooMany))?;
     let early = repeated(alloc, r#"{"n":"a","c":[7"#, r#","""#, 4095, "]}")?;
-    assert_eq!(rt;
-        fault_of(alloc, early.as_str())?,
-        Some(PageFault::BadChildren)
-    );
+    has_fault(&rt, alloc, early.as_str(), Some(PageFault::BadChildren))?;
 
     // Too deep comes before a bad name; a text has no depth.
     let nameless = repeated(alloc, "", r#"{"n":"a","c":["#, 48, "{}")?;
     let nameless = repeated(alloc, nameless.as_str(), "]}", 48, "")?;
-    assert_eq!(rt;
-        fault_of(alloc, nameless.as_str())?,
-        Some(PageFault::TooDeep)
-    );
+    has_fault(&rt, alloc, nameless.as_str(), Some(PageFault::TooDeep))?;
     let worded = repeated(alloc, "", r#"{"n":"a","c":["#, 48, r#""x""#)?;
     let worded = repeated(alloc, worded.as_str(), "]}", 48, "")?;
-    assert_eq!(rt; fault_of(alloc, worded.as_str())?, None);
-    Ok(())
+    has_fault(&rt, alloc, worded.as_str(), None)
 }
 
 #[test]
@@ -586,31 +587,41 @@ const MIXED_NODES: &[Known<'static>] = &[
     (6, &[5], None, Some(0), (0, 0), 0, (7, 7)),
 ];
 
+fn is_known(page: &Page, at: &Place, known: &Known<'_>) -> Result<bool, Fail> {
+    let &(number, _, name, parent, before, children, under) = known;
+    let found = page.nodes_under(number);
+    let is_there = match page.place_of(number)? {
+        Some(place) => place == *at,
+        None => false,
+    };
+    Ok(
+        is_there
+            && page.number_of(at) == Some(number)
+            && page.name_of(number) == name
+            && page.parent_of(number) == parent
+            && page.elements_before(number) == before.0
+            && page.same_before(number) == before.1
+            && page.children_of(number) == children
+            && (found.start, found.end) == under,
+    )
+}
+
+fn knows(rt: &impl Abort, alloc: Global, text: &str, nodes: &[Known<'static>]) -> Result<(), Fail> {
+    let page = read(alloc, text)?;
+    assert_eq!(rt; page.node_count() as usize, nodes.len());
+    for known in nodes {
+        let at = place(alloc, known.1)?;
+        assert!(rt; is_known(&page, &at, known)?, "of {}", known.0);
+    }
+    Ok(())
+}
+
 #[test]
 fn looks_at_each_node_by_its_number(rt: HostRuntime) -> Result<(), Fail> {
     let alloc = rt.alloc();
-    let pages = [
-        (NESTED, NESTED_NODES),
-        (FIELD, FIELD_NODES),
-        (MIXED, MIXED_NODES),
-    ];
-    for (text, nodes) in pages {
-        let page = read(alloc, text)?;
-        assert_eq!(rt; page.node_count() as usize, nodes.len());
-        for &(number, positions, name, parent, before, children, under) in nodes {
-            let at = place(alloc, positions)?;
-            assert_eq!(rt; page.number_of(&at), Some(number), "at {positions:?}");
-            assert!(rt; page.place_of(number)? == Some(at), "of {number}");
-            assert!(rt; page.name_of(number) == name, "of {number}");
-            assert_eq!(rt; page.parent_of(number), parent, "of {number}");
-            assert_eq!(rt; page.elements_before(number), before.0, "of {number}");
-            assert_eq!(rt; page.same_before(number), before.1, "of {number}");
-            assert_eq!(rt; page.children_of(number), children, "of {number}");
-            let found = page.nodes_under(number);
-            assert_eq!(rt; (found.start, found.end), under, "of {number}");
-        }
-    }
-    Ok(())
+    knows(&rt, alloc, NESTED, NESTED_NODES)?;
+    knows(&rt, alloc, FIELD, FIELD_NODES)?;
+    knows(&rt, alloc, MIXED, MIXED_NODES)
 }
 
 #[test]
@@ -628,23 +639,29 @@ fn joins_texts_by_number(rt: HostRuntime) -> Result<(), Fail> {
     Ok(())
 }
 
+fn is_no_node(page: &Page, number: u32) -> Result<bool, Fail> {
+    let under = page.nodes_under(number);
+    Ok(
+        page.place_of(number)?.is_none()
+            && page.name_of(number).is_none()
+            && page.attribute_of(number, "href").is_none()
+            && page.parent_of(number).is_none()
+            && page.elements_before(number) == 0
+            && page.same_before(number) == 0
+            && page.children_of(number) == 0
+            && (under.start, under.end) == (number, number)
+            && page.control_of(number) == Control::Other
+            && page.start_text_of(number)?.is_none()
+            && !page.start_checked_of(number),
+    )
+}
+
 #[test]
 fn finds_no_node_past_the_last_number(rt: HostRuntime) -> Result<(), Fail> {
     let alloc = rt.alloc();
     let page = read(alloc, NESTED)?;
     for number in [9, 10, 4096, u32::MAX] {
-        assert!(rt; page.place_of(number)?.is_none(), "of {number}");
-        assert!(rt; page.name_of(number).is_none(), "of {number}");
-        assert!(rt; page.attribute_of(number, "href").is_none(), "of {number}");
-        assert_eq!(rt; page.parent_of(number), None, "of {number}");
-        assert_eq!(rt; page.elements_before(number), 0, "of {number}");
-        assert_eq!(rt; page.same_before(number), 0, "of {number}");
-        assert_eq!(rt; page.children_of(number), 0, "of {number}");
-        let under = page.nodes_under(number);
-        assert_eq!(rt; (under.start, under.end), (number, number));
-        assert_eq!(rt; page.control_of(number), Control::Other, "of {number}");
-        assert!(rt; page.start_text_of(number)?.is_none(), "of {number}");
-        assert!(rt; !page.start_checked_of(number), "of {number}");
+        assert!(rt; is_no_node(&page, number)?, "of {number}");
     }
     let nowhere: [&[u32]; 6] = [
         &[1],

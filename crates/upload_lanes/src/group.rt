@@ -13,13 +13,12 @@ use crate::gathered::{LaneResult, Stop};
 use crate::halt::Halt;
 use crate::recorder::{Duty, Recorded, Records, start_record};
 use crate::sent::Sent;
-use crate::starter::Starter;
 use crate::uploader::{Uploaded, Uploads, start_upload};
 use byte_streams::Source;
 use lane_queue::{Lanes, Putter, Taker, reckon};
 use std::alloc::{AllocError, Global};
 use std::sync::Wait;
-use std::thread::{PromisedHandle, Threads};
+use std::thread::{PromisedHandle, Scope, Threads};
 use upload_reader::{Client, Upload};
 
 /// A recorder's lanes, for which nothing was started.
@@ -53,7 +52,7 @@ pub(crate) struct Running<H: Halt, R: Source> {
 
 /// Starts the uploaders.
 pub(crate) fn start_party<'s, E, R: Source + Drop + Send + 's, W: Wait + Sync>(
-    starter: &Starter<'_, 's, E>,
+    scope: &Scope<'s, E>,
     rt: &'s W,
     alloc: Global,
     queue: &'s Lanes<Sent>,
@@ -67,13 +66,13 @@ pub(crate) fn start_party<'s, E, R: Source + Drop + Send + 's, W: Wait + Sync>(
         putters,
         uploads,
     } = party;
-    let uploads = start_uploads(starter, rt, alloc, queue, putters, uploads)?;
+    let uploads = start_uploads(scope, rt, alloc, queue, putters, uploads)?;
     Ok(Uploading { duty, uploads })
 }
 
 /// Starts the recorder.
 pub(crate) fn start_recorder<'s, E, H: Halt + 's, R: Source + Drop + Send + 's, W: Wait + Sync>(
-    starter: &Starter<'_, 's, E>,
+    scope: &Scope<'s, E>,
     rt: &'s W,
     queue: &'s Lanes<Sent>,
     uploading: Uploading<R>,
@@ -84,7 +83,7 @@ pub(crate) fn start_recorder<'s, E, H: Halt + 's, R: Source + Drop + Send + 's, 
     ensures { IfOk result (λ running. IsRunning queue.now halt.now uploading running) }
 {
     let Uploading { duty, uploads } = uploading;
-    let recorder = start_record(starter, rt, queue, duty, halt)?;
+    let recorder = start_record(scope, rt, queue, duty, halt)?;
     Ok(Running { recorder, uploads })
 }
 
@@ -112,7 +111,7 @@ pub(crate) fn join_group<H: Halt, R: Source + Drop, T: Threads + Wait>(
 
 // Starts an uploader for each upload, at its own end of the queue.
 fn start_uploads<'s, E, R: Source + Drop + Send + 's, W: Wait + Sync>(
-    starter: &Starter<'_, 's, E>,
+    scope: &Scope<'s, E>,
     rt: &'s W,
     alloc: Global,
     queue: &'s Lanes<Sent>,
@@ -129,7 +128,7 @@ fn start_uploads<'s, E, R: Source + Drop + Send + 's, W: Wait + Sync>(
     let mut putters = putters.into_iter();
     for upload in uploads {
         let putter = putters.next().unwrap();
-        handles.push_reserved(start_upload(starter, rt, queue, putter, upload)?);
+        handles.push_reserved(start_upload(scope, rt, queue, putter, upload)?);
     }
     Ok(handles)
 }

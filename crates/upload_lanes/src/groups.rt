@@ -13,17 +13,16 @@ ghost use Rattle.upload_lanes.specs.declared.group.Group.{Group};
 use crate::group::{Group, Party, Running, Uploading, join_group, start_party, start_recorder};
 use crate::halt::Halt;
 use crate::sent::Sent;
-use crate::starter::Starter;
 use byte_streams::Source;
 use lane_queue::Lanes;
 use std::alloc::{AllocError, Global};
 use std::sync::Wait;
 use std::thread;
-use std::thread::Threads;
+use std::thread::{Scope, Threads};
 
 // Starts the uploaders of all parties.
 fn start_parties<'s, E, R: Source + Drop + Send + 's, W: Wait + Sync>(
-    starter: &Starter<'_, 's, E>,
+    scope: &Scope<'s, E>,
     rt: &'s W,
     alloc: Global,
     queues: &'s [Lanes<Sent>],
@@ -36,14 +35,14 @@ fn start_parties<'s, E, R: Source + Drop + Send + 's, W: Wait + Sync>(
     let mut started = Vec::with_capacity(alloc, parties.len())?;
     for party in parties {
         let queue = &queues[started.len()];
-        started.push_reserved(start_party(starter, rt, alloc, queue, party)?);
+        started.push_reserved(start_party(scope, rt, alloc, queue, party)?);
     }
     Ok(started)
 }
 
 // Starts all recorders. Where one can't be, the lanes of it and of those behind it are closed, so that their uploaders end; those before it go on.
 fn start_recorders<'s, E, H: Halt + 's, R: Source + Drop + Send + 's, W: Wait + Sync>(
-    starter: &Starter<'_, 's, E>,
+    scope: &Scope<'s, E>,
     rt: &'s W,
     queues: &'s [Lanes<Sent>],
     uploading: Vec<Uploading<R>>,
@@ -60,7 +59,7 @@ fn start_recorders<'s, E, H: Halt + 's, R: Source + Drop + Send + 's, W: Wait + 
     let mut running = running;
     for one in uploading {
         let at = running.len();
-        match start_recorder(starter, rt, &queues[at], one, halt) {
+        match start_recorder(scope, rt, &queues[at], one, halt) {
             Ok(started) => running.push_reserved(started),
             Err(refused) => {
                 close_from(rt, queues, at);
@@ -100,7 +99,7 @@ fn join_groups<H: Halt, R: Source + Drop, T: Threads + Wait>(
 
 // Starts all uploaders, then all recorders, and joins them. Where a thread can't be started, the lanes that no recorder takes from are closed.
 fn run_all<'s, E, H: Halt + 's, R: Source + Drop + Send + 's, T: Threads + Wait + Sync>(
-    starter: &Starter<'_, 's, E>,
+    scope: &Scope<'s, E>,
     rt: &'s T,
     alloc: Global,
     queues: &'s [Lanes<Sent>],
@@ -115,13 +114,13 @@ fn run_all<'s, E, H: Halt + 's, R: Source + Drop + Send + 's, T: Threads + Wait 
     requires halt { (n : ℕ) → n ≤ 2 ^ 61 → H.may halt.now n }
     ensures { IfOk result (λ all. AreGroups (H.allows halt.now) parties.items all.items) }
 {
-    match start_parties(starter, rt, alloc, queues, parties) {
+    match start_parties(scope, rt, alloc, queues, parties) {
         Err(refused) => {
             close_from(rt, queues, 0);
             Err(refused)
         }
         Ok(uploading) => {
-            let running = start_recorders(starter, rt, queues, uploading, running, halt)?;
+            let running = start_recorders(scope, rt, queues, uploading, running, halt)?;
             Ok(join_groups(rt, queues, running, groups))
         }
     }
@@ -134,7 +133,6 @@ pub(crate) fn run_groups<H: Halt, R: Source + Drop + Send, T: Threads + Wait + S
     queues: &[Lanes<Sent>],
     parties: Vec<Party<R>>,
     halt: &H,
-    refused: Option<u32>,
 ) -> Result<Vec<Group<R>>, AllocError>
     requires parties { ArePlaced IsParty queues.now parties.items }
     requires halt { (n : ℕ) → n ≤ 2 ^ 61 → H.may halt.now n }
@@ -148,17 +146,6 @@ pub(crate) fn run_groups<H: Halt, R: Source + Drop + Send, T: Threads + Wait + S
         move |scope| -> Result<Vec<Group<R>>, AllocError>
             requires { ((running.items ≡ []) × (length parties.items ≤ vec_capacity running)) × ((groups.items ≡ []) × (length parties.items ≤ vec_capacity groups)) × ArePlaced IsParty queues.now parties.items × ((n : ℕ) → n ≤ 2 ^ 61 → H.may halt.now n) }
             ensures { IfOk result (λ all. AreGroups (H.allows halt.entry.now) parties.items all.items) }
-        {
-            run_all(
-                &Starter::over(scope, refused),
-                rt,
-                alloc,
-                queues,
-                parties,
-                running,
-                groups,
-                halt,
-            )
-        },
+        { run_all(scope, rt, alloc, queues, parties, running, groups, halt) },
     )
 }

@@ -24,7 +24,6 @@ mod heap;
 mod parties;
 mod recorder;
 mod sent;
-mod starter;
 mod threads;
 mod uploader;
 
@@ -33,10 +32,3 @@ pub use fault::{Again, GatherFault};
 pub use gathered::{Gathered, LaneResult, Stop};
 pub use in_turn::{gather_again_in_order, gather_in_order};
 pub use threads::{gather, gather_again};
-
-#[cfg(test)]
-mod stress_tests;
-#[cfg(test)]
-mod tests;
-#[cfg(test)]
-mod thread_tests;

@@ -76,28 +76,6 @@ pub fn gather_again<
     ensures ok { IfOk result (λ gathered. Gathers (H.post halt.now) earlier uploads.items quota gathered) }
     ensures refused { IfErr result (λ again. RefusesRound earlier uploads.items again.fault again.earlier) }
 {
-    gather_again_but(rt, earlier, uploads, quota, room, halt, None)
-}
-
-/// The same, for a test: the start of the thread of that number is refused. The uploaders start first, recorder by recorder, and then the recorders.
-pub(crate) fn gather_again_but<
-    H: Fn(u64) -> bool + Sync,
-    R: Source + Drop + Send,
-    T: AllocGlobal + Threads + Wait + Sync,
->(
-    rt: &T,
-    earlier: Gathered<R>,
-    uploads: Vec<Upload<R>>,
-    quota: Quota,
-    room: Room,
-    halt: &H,
-    refused: Option<u32>,
-) -> Result<Gathered<R>, Again<R>>
-    requires untouched { AllByRecursion IsUntouched uploads.items }
-    requires halt { (n : ℕ) → n ≤ 2 ^ 61 → H.pre halt.now n }
-    ensures ok { IfOk result (λ gathered. Gathers (H.post halt.now) earlier uploads.items quota gathered) }
-    ensures refused { IfErr result (λ again. RefusesRound earlier uploads.items again.fault again.earlier) }
-{
     let mut earlier = earlier;
     match take_round(
         rt,
@@ -107,7 +85,6 @@ pub(crate) fn gather_again_but<
         quota,
         room,
         &Asks { halt },
-        refused,
     ) {
         Err(fault) => Err(Again { fault, earlier }),
         Ok((lanes, stop)) => {
@@ -128,7 +105,6 @@ fn take_round<H: Halt, R: Source + Drop + Send, T: Threads + Wait + Sync>(
     quota: Quota,
     room: Room,
     halt: &H,
-    refused: Option<u32>,
 ) -> Result<(Vec<(Client, LaneResult<R>)>, Stop), GatherFault>
     requires untouched { AllByRecursion IsUntouched uploads.items }
     requires halt { (n : ℕ) → n ≤ 2 ^ 61 → H.may halt.now n }
@@ -137,7 +113,7 @@ fn take_round<H: Halt, R: Source + Drop + Send, T: Threads + Wait + Sync>(
     ensures refused { IfErr result (IsNoRound uploads.items) }
 {
     let lanes = begin_round(alloc, clients, uploads, quota)?;
-    Ok(take_lanes(rt, alloc, lanes, room, halt, refused)?)
+    Ok(take_lanes(rt, alloc, lanes, room, halt)?)
 }
 
 // Takes these lanes, of which nothing was taken.
@@ -147,7 +123,6 @@ fn take_lanes<H: Halt, R: Source + Drop + Send, T: Threads + Wait + Sync>(
     lanes: Vec<(Client, LaneResult<R>)>,
     room: Room,
     halt: &H,
-    refused: Option<u32>,
 ) -> Result<(Vec<(Client, LaneResult<R>)>, Stop), AllocError>
     requires fresh { AllByRecursion IsFresh lanes.items }
     requires lanes { AreLanes (length lanes.items) }
@@ -157,7 +132,7 @@ fn take_lanes<H: Halt, R: Source + Drop + Send, T: Threads + Wait + Sync>(
     if lanes.len() == 1 {
         return Ok(take_only(rt, lanes, halt));
     }
-    take_beside(rt, alloc, lanes, room, halt, refused)
+    take_beside(rt, alloc, lanes, room, halt)
 }
 
 // Takes them side by side.
@@ -167,7 +142,6 @@ fn take_beside<H: Halt, R: Source + Drop + Send, T: Threads + Wait + Sync>(
     lanes: Vec<(Client, LaneResult<R>)>,
     room: Room,
     halt: &H,
-    refused: Option<u32>,
 ) -> Result<(Vec<(Client, LaneResult<R>)>, Stop), AllocError>
     requires fresh { AllByRecursion IsFresh lanes.items }
     requires lanes { AreLanes (length lanes.items) }
@@ -179,7 +153,7 @@ fn take_beside<H: Halt, R: Source + Drop + Send, T: Threads + Wait + Sync>(
     let collected = Vec::with_capacity(alloc, count)?;
     let hands = Vec::with_capacity(alloc, recorders)?;
     let (queues, parties) = make_parties(alloc, lanes, recorders, room)?;
-    let groups = run_groups(rt, alloc, queues.as_slice(), parties, halt, refused)?;
+    let groups = run_groups(rt, alloc, queues.as_slice(), parties, halt)?;
     Ok(collect_groups(groups, hands, collected, count))
 }
 

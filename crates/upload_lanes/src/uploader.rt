@@ -10,13 +10,12 @@ ghost use Rattle.upload_lanes.specs.declared.sent.Sent.TheVariants.{One, Last};
 
 use crate::heap::{Heap, READ};
 use crate::sent::{Priced, Sent};
-use crate::starter::Starter;
 use byte_streams::Source;
 use lane_queue::{Lanes, Put, Putter};
 use std::alloc::AllocError;
 use std::snapshot::Snapshot;
 use std::sync::Wait;
-use std::thread::{Promise, PromisedHandle};
+use std::thread::{Promise, PromisedHandle, Scope};
 use upload_reader::{Ending, Next, Upload};
 
 /// What an uploader hands back.
@@ -43,7 +42,7 @@ impl<R: Source> Promise<Uploaded<R>> for Uploads<R> {
 
 /// Starts an uploader on a thread of its own.
 pub(crate) fn start_upload<'s, E, R: Source + Drop + Send + 's, W: Wait + Sync>(
-    starter: &Starter<'_, 's, E>,
+    scope: &Scope<'s, E>,
     rt: &'s W,
     queue: &'s Lanes<Sent>,
     putter: Putter<Sent>,
@@ -62,7 +61,7 @@ pub(crate) fn start_upload<'s, E, R: Source + Drop + Send + 's, W: Wait + Sync>(
         requires { IsFreshOf queue.now putter × IsUntouched upload }
         ensures { IsUploaded queue.entry.now (view putter).lane upload result }
     { upload_all(rt, queue, putter, upload) };
-    Ok(starter.spawn_with(promise, run)?)
+    Ok(scope.spawn_with(promise, run)?)
 }
 
 // Reads the upload to its end, or until the lane is closed.

@@ -41,6 +41,3 @@ pub use refused::Refused;
 pub use session::Session;
 pub use session_fault::SessionFault;
 pub use upload::Upload;
-
-#[cfg(test)]
-mod reading_tests;

@@ -6,6 +6,8 @@ mod hello_tests;
 #[cfg(test)]
 mod limit_tests;
 #[cfg(test)]
+mod reading_tests;
+#[cfg(test)]
 mod session_tests;
 #[cfg(test)]
 mod test_uploads;

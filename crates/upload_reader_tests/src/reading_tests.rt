@@ -1,8 +1,5 @@
-use crate::hello_reading::read_hello;
-use crate::line::Line;
-use crate::line_reading::{is_blank, read_line};
-use crate::unread::Unread;
-use crate::{Client, Event, HelloFault, LaneFault, LineFault, Message, SessionFault};
+//! What single lines say, behind those of two visits.
+use crate::test_uploads::{open, repeated};
 use page_tree::{NoMemory, Page, PageFault, Place};
 use serde_json::Value;
 use std::alloc::Global;
@@ -10,6 +7,10 @@ use std::collections::HashSet;
 use std::fmt::Display;
 use std::process::Abort;
 use std::test::Fail;
+use upload_reader::{
+    Client, Event, Fed, HelloFault, LaneEnd, LaneFault, LineFault, Lines, Message, Next,
+    SessionFault, Upload,
+};
 use xpath_child::{Path, PathFault, PathFaultKind};
 
 const PAGE: &str = r#"{"n":"html","c":[{"n":"p","a":{"id":"x"},"c":["go"]}]}"#;
@@ -80,55 +81,60 @@ fn message_text(alloc: Global, message: &Message) -> Result<String, Fail> {
     }
 }
 
+// Two visits, and five requests of the second one.
+const BEFORE: &str = r#"{"t":"load","visit":1,"at":1,"path":"/a","page":{"n":"html"}}
+{"t":"load","visit":2,"at":1,"path":"/a","page":{"n":"html"}}
+{"t":"click","visit":2,"at":2,"target":"/html","req":1}
+{"t":"click","visit":2,"at":2,"target":"/html","req":2}
+{"t":"click","visit":2,"at":2,"target":"/html","req":3}
+{"t":"click","visit":2,"at":2,"target":"/html","req":4}
+{"t":"click","visit":2,"at":2,"target":"/html","req":5}
+"#;
+
+const MESSAGES_BEFORE: u32 = 7;
+
+// What comes at a line behind those. The line behind it is no JSON.
+fn read_line(alloc: Global, line: &[u8]) -> Result<Next, Fail> {
+    let text = repeated(alloc, BEFORE.as_bytes(), line, 1, b"\n{\n")?;
+    let mut upload = open(alloc, Lines::over(alloc, Fed::new(&text[..]))?)?;
+    for _ in 0..MESSAGES_BEFORE {
+        let Next::Got(_, _) = upload.next() else {
+            return Err(Fail::new("a lane ended before its line"));
+        };
+    }
+    Ok(upload.next())
+}
+
 // What a line says, in words, or its fault.
 fn line_text(alloc: Global, line: &[u8]) -> Result<String, Fail> {
-    if is_blank(line) {
-        return Ok(String::from_str(alloc, "blank")?);
-    }
-    match read_line(alloc, line) {
-        Ok(Line::Bye) => Ok(String::from_str(alloc, "bye")?),
-        Ok(Line::Says(message)) => message_text(alloc, &message),
-        Err(Unread::Fault(fault)) => Ok(fault.to_string(alloc)?),
-        Err(Unread::NoMemory) => Err(Fail::new("no memory")),
+    match read_line(alloc, line)? {
+        Next::Got(message, _) => message_text(alloc, &message),
+        Next::Over(LaneEnd::Bye) => Ok(String::from_str(alloc, "bye")?),
+        Next::Over(LaneEnd::Fault { line: 8, kind }) => Ok(kind.to_string(alloc)?),
+        Next::Over(LaneEnd::Fault { line: 9, .. }) => Ok(String::from_str(alloc, "blank")?),
+        _ => Err(Fail::new("another end")),
     }
 }
 
 fn fault_of(alloc: Global, line: &str) -> Result<LaneFault, Fail> {
-    match read_line(alloc, line.as_bytes()) {
-        Ok(_) => Err(Fail::new("no fault")),
-        Err(Unread::Fault(fault)) => Ok(fault),
-        Err(Unread::NoMemory) => Err(Fail::new("no memory")),
+    match read_line(alloc, line.as_bytes())? {
+        Next::Over(LaneEnd::Fault { line: 8, kind }) => Ok(kind),
+        _ => Err(Fail::new("no fault")),
     }
-}
-
-// The first text, the second so many times, and the third.
-fn repeated(
-    alloc: Global,
-    before: &str,
-    again: &str,
-    times: u32,
-    after: &str,
-) -> Result<String, NoMemory> {
-    let mut text = String::from_str(alloc, before)?;
-    for _ in 0..times {
-        text.push_str(again)?;
-    }
-    text.push_str(after)?;
-    Ok(text)
 }
 
 // Three parts, the middle one so many times and closed as often.
 fn nested(
     alloc: Global,
-    before: &str,
-    open: &str,
+    before: &[u8],
+    open: &[u8],
     times: u32,
-    inner: &str,
-    close: &str,
-    after: &str,
-) -> Result<String, NoMemory> {
+    inner: &[u8],
+    close: &[u8],
+    after: &[u8],
+) -> Result<Vec<u8>, NoMemory> {
     let opened = repeated(alloc, before, open, times, inner)?;
-    repeated(alloc, opened.as_str(), close, times, after)
+    repeated(alloc, &opened, close, times, after)
 }
 
 // Lines, and what each says.
@@ -154,8 +160,8 @@ const MESSAGES: [(&str, &str); 17] = [
         "click 1 4 /a 0",
     ),
     (
-        r#"{"t":"click","visit":1,"at":4,"target":"/a","req":6}"#,
-        "click 1 4 /a 6",
+        r#"{"t":"click","visit":2,"at":4,"target":"/a","req":6}"#,
+        "click 2 4 /a 6",
     ),
     (
         r#"{"t":"submit","visit":1,"at":4,"target":"/a"}"#,
@@ -170,8 +176,8 @@ const MESSAGES: [(&str, &str); 17] = [
         "submit 1 4 /a 0",
     ),
     (
-        r#"{"req":8,"by":"/b","target":"/a","at":4,"visit":1,"t":"submit"}"#,
-        "submit 1 4 /a by /b 8",
+        r#"{"req":6,"by":"/b","target":"/a","at":4,"visit":2,"t":"submit"}"#,
+        "submit 2 4 /a by /b 6",
     ),
     (r#"{"t":"end","visit":1,"at":2}"#, "end 1 2"),
     (r#"{"t":"bye"}"#, "bye"),
@@ -183,24 +189,24 @@ const MESSAGES: [(&str, &str); 17] = [
     (r#"{"t":"bye","visit":0}"#, "bye"),
     // The last of equal members counts.
     (
-        r#"{"t":"bye","visit":0,"t":"end","visit":4,"at":2}"#,
-        "end 4 2",
+        r#"{"t":"bye","visit":0,"t":"end","visit":2,"at":2}"#,
+        "end 2 2",
     ),
     (r#"{"t":7,"\u0074":"b\u0079e"}"#, "bye"),
     // Spaces round the text.
     (" {\"t\" :\t\"bye\"}\r", "bye"),
 ];
 
-fn says(rt: &impl Abort, alloc: Global, line: &str, want: &str) -> Result<(), Fail> {
-    let said = line_text(alloc, line.as_bytes())?;
-    assert_eq!(rt; said.as_str(), want, "at {line}");
+fn says(rt: &impl Abort, alloc: Global, line: &[u8], want: &str) -> Result<(), Fail> {
+    let said = line_text(alloc, line)?;
+    assert_eq!(rt; said.as_str(), want, "at {}", line.escape_ascii());
     Ok(())
 }
 
 #[test]
 fn reads_each_kind_of_message(rt: HostRuntime) -> Result<(), Fail> {
     for (line, want) in MESSAGES {
-        says(&rt, rt.alloc(), line, want)?;
+        says(&rt, rt.alloc(), line.as_bytes(), want)?;
     }
     Ok(())
 }
@@ -213,7 +219,7 @@ fn copied_text(alloc: Global, visit: u64, event: Event) -> Result<String, Fail> 
 }
 
 fn copies(rt: &impl Abort, alloc: Global, line: &str, want: &str) -> Result<(), Fail> {
-    if let Ok(Line::Says(Message::Act { visit, event })) = read_line(alloc, line.as_bytes()) {
+    if let Next::Got(Message::Act { visit, event }, _) = read_line(alloc, line.as_bytes())? {
         let said = copied_text(alloc, visit, event)?;
         assert_eq!(rt; said.as_str(), want, "at {line}");
     }
@@ -230,8 +236,8 @@ fn copies_each_kind_of_event(rt: HostRuntime) -> Result<(), Fail> {
 
 // The page of a load.
 fn loaded(alloc: Global, line: &str) -> Result<Page, Fail> {
-    match read_line(alloc, line.as_bytes()) {
-        Ok(Line::Says(Message::Load { page, .. })) => Ok(page),
+    match read_line(alloc, line.as_bytes())? {
+        Next::Got(Message::Load { page, .. }, _) => Ok(page),
         _ => Err(Fail::new("no load")),
     }
 }
@@ -244,7 +250,7 @@ fn page_of(alloc: Global, text: &str) -> Result<Page, Fail> {
 fn keeps_the_page_of_a_load(rt: HostRuntime) -> Result<(), Fail> {
     let alloc = rt.alloc();
     let line = format!(in alloc;
-        "{{\"t\":\"load\",\"visit\":1,\"at\":0,\"path\":\"/\",\"page\":{PAGE}}}"
+        "{{\"t\":\"load\",\"visit\":3,\"at\":0,\"path\":\"/\",\"page\":{PAGE}}}"
     )?;
     let page = loaded(alloc, line.as_str())?;
     assert!(rt; page.same(&page_of(alloc, PAGE)?));
@@ -254,12 +260,10 @@ fn keeps_the_page_of_a_load(rt: HostRuntime) -> Result<(), Fail> {
 #[test]
 fn leaves_blank_lines_aside(rt: HostRuntime) -> Result<(), Fail> {
     for line in ["", " ", "\t", "\r", "  \t \r"] {
-        assert!(rt; is_blank(line.as_bytes()));
-        says(&rt, rt.alloc(), line, "blank")?;
+        says(&rt, rt.alloc(), line.as_bytes(), "blank")?;
     }
     for line in ["\x0b", "\x0c", " \0", "\u{a0}", " \x0b", "."] {
-        assert!(rt; !is_blank(line.as_bytes()));
-        says(&rt, rt.alloc(), line, "E5")?;
+        says(&rt, rt.alloc(), line.as_bytes(), "E5")?;
     }
     Ok(())
 }
@@ -274,8 +278,7 @@ fn refuses_what_is_no_json(rt: HostRuntime) -> Result<(), Fail> {
         b"{\"t\":\"bye\",}",
     ];
     for line in table {
-        let said = line_text(rt.alloc(), line)?;
-        assert_eq!(rt; said.as_str(), "E5", "at {}", line.escape_ascii());
+        says(&rt, rt.alloc(), line, "E5")?;
     }
     Ok(())
 }
@@ -317,7 +320,7 @@ const NO_MESSAGES: [&str; 30] = [
 #[test]
 fn refuses_what_is_no_message(rt: HostRuntime) -> Result<(), Fail> {
     for line in NO_MESSAGES {
-        says(&rt, rt.alloc(), line, "E6")?;
+        says(&rt, rt.alloc(), line.as_bytes(), "E6")?;
     }
     Ok(())
 }
@@ -336,36 +339,36 @@ fn refuses_a_load_of_no_page(rt: HostRuntime) -> Result<(), Fail> {
         let line = format!(in alloc;
             "{{\"t\":\"load\",\"visit\":1,\"at\":0,\"path\":\"/\",\"page\":{page}}}"
         )?;
-        says(&rt, alloc, line.as_str(), want)?;
+        says(&rt, alloc, line.as_bytes(), want)?;
     }
     Ok(())
 }
 
 // A load up to its page.
-const BEFORE_PAGE: &str = r#"{"t":"load","visit":1,"at":0,"path":"/","page":"#;
+const BEFORE_PAGE: &[u8] = br#"{"t":"load","visit":3,"at":0,"path":"/","page":"#;
 
 // A load of a page of so many levels.
-fn deep_load(alloc: Global, levels: u32) -> Result<String, NoMemory> {
-    let (open, inner) = (r#"{"n":"a","c":["#, r#"{"n":"a"}"#);
+fn deep_load(alloc: Global, levels: u32) -> Result<Vec<u8>, NoMemory> {
+    let (open, inner) = (br#"{"n":"a","c":["#, br#"{"n":"a"}"#);
     let times = levels.saturating_sub(1);
-    nested(alloc, BEFORE_PAGE, open, times, inner, "]}", "}")
+    nested(alloc, BEFORE_PAGE, open, times, inner, b"]}", b"}")
 }
 
 // A load of a page of so many texts.
-fn broad_load(alloc: Global, texts: u32) -> Result<String, NoMemory> {
-    let start = repeated(alloc, BEFORE_PAGE, r#"{"n":"a","c":["#, 1, "")?;
+fn broad_load(alloc: Global, texts: u32) -> Result<Vec<u8>, NoMemory> {
+    let start = repeated(alloc, BEFORE_PAGE, br#"{"n":"a","c":["#, 1, b"")?;
     let times = texts.saturating_sub(1);
-    repeated(alloc, start.as_str(), r#""","#, times, r#"""]}}"#)
+    repeated(alloc, &start, br#""","#, times, br#"""]}}"#)
 }
 
 #[test]
 fn refuses_a_page_past_its_limits(rt: HostRuntime) -> Result<(), Fail> {
     let alloc = rt.alloc();
-    for (levels, want) in [(48, "load 1 0 0 0 [/] a"), (49, "E7.P5")] {
-        says(&rt, alloc, deep_load(alloc, levels)?.as_str(), want)?;
+    for (levels, want) in [(48, "load 3 0 0 0 [/] a"), (49, "E7.P5")] {
+        says(&rt, alloc, &deep_load(alloc, levels)?, want)?;
     }
-    for (texts, want) in [(4095, "load 1 0 0 0 [/] a"), (4096, "E7.P6")] {
-        says(&rt, alloc, broad_load(alloc, texts)?.as_str(), want)?;
+    for (texts, want) in [(4095, "load 3 0 0 0 [/] a"), (4096, "E7.P6")] {
+        says(&rt, alloc, &broad_load(alloc, texts)?, want)?;
     }
     Ok(())
 }
@@ -374,8 +377,8 @@ fn refuses_a_page_past_its_limits(rt: HostRuntime) -> Result<(), Fail> {
 fn takes_texts_nested_127_deep(rt: HostRuntime) -> Result<(), Fail> {
     let alloc = rt.alloc();
     for (arrays, want) in [(126, "bye"), (127, "E5")] {
-        let line = nested(alloc, r#"{"t":"bye","x":"#, "[", arrays, "", "]", "}")?;
-        says(&rt, alloc, line.as_str(), want)?;
+        let line = nested(alloc, br#"{"t":"bye","x":"#, b"[", arrays, b"", b"]", b"}")?;
+        says(&rt, alloc, &line, want)?;
     }
     Ok(())
 }
@@ -455,14 +458,22 @@ const SEVERAL_FAULTS: [(&str, &str); 9] = [
 #[test]
 fn names_the_first_fault_of_a_line(rt: HostRuntime) -> Result<(), Fail> {
     for (line, want) in SEVERAL_FAULTS {
-        says(&rt, rt.alloc(), line, want)?;
+        says(&rt, rt.alloc(), line.as_bytes(), want)?;
     }
     Ok(())
 }
 
-// The client of the line, or the fault.
-fn hello_text(alloc: Global, line: &str) -> Result<String, Fail> {
-    match read_hello(alloc, 3, line.as_bytes()) {
+// The client of a hello behind two blank lines, or why it is refused.
+fn read_hello(alloc: Global, line: &[u8]) -> Result<Result<Client, HelloFault>, Fail> {
+    let text = repeated(alloc, b"\n\n", line, 1, b"\n")?;
+    match Upload::hello(alloc, Lines::over(alloc, Fed::new(&text[..]))?) {
+        Ok(upload) => Ok(Ok(upload.client().copy()?)),
+        Err(refused) => Ok(Err(refused.fault)),
+    }
+}
+
+fn hello_text(alloc: Global, line: &[u8]) -> Result<String, Fail> {
+    match read_hello(alloc, line)? {
         Ok(client) => Ok(String::from_str(alloc, client.text())?),
         Err(HelloFault::NoMemory) => Err(Fail::new("no memory")),
         Err(fault) => Ok(fault.to_string(alloc)?),
@@ -495,40 +506,39 @@ const HELLOS: [(&str, &str); 19] = [
     ("", "U3"),
 ];
 
-fn greets(rt: &impl Abort, alloc: Global, line: &str, want: &str) -> Result<(), Fail> {
+fn greets(rt: &impl Abort, alloc: Global, line: &[u8], want: &str) -> Result<(), Fail> {
     let said = hello_text(alloc, line)?;
-    assert_eq!(rt; said.as_str(), want, "at {line}");
+    assert_eq!(rt; said.as_str(), want, "at {}", line.escape_ascii());
     Ok(())
 }
 
 // What the hello of a client of so many letters says.
 fn greets_at_length(rt: &impl Abort, alloc: Global, length: u32, want: &str) -> Result<(), Fail> {
-    let line = repeated(alloc, r#"{"t":"hello","client":""#, "x", length, "\"}")?;
-    greets(rt, alloc, line.as_str(), want)
+    let line = repeated(alloc, br#"{"t":"hello","client":""#, b"x", length, b"\"}")?;
+    greets(rt, alloc, &line, want)
 }
 
 fn greets_up_to_64(rt: &impl Abort, alloc: Global) -> Result<(), Fail> {
-    let name = repeated(alloc, "", "x", 64, "")?;
+    let mut name = String::new(alloc);
+    for _ in 0..64 {
+        name.push_str("x")?;
+    }
     greets_at_length(rt, alloc, 64, name.as_str())?;
     greets_at_length(rt, alloc, 65, "U1")
-}
-
-fn hello_fault(alloc: Global, line: &[u8]) -> Option<HelloFault> {
-    read_hello(alloc, 3, line).err()
 }
 
 #[test]
 fn reads_a_hello(rt: HostRuntime) -> Result<(), Fail> {
     let alloc = rt.alloc();
     for (line, want) in HELLOS {
-        greets(&rt, alloc, line, want)?;
+        greets(&rt, alloc, line.as_bytes(), want)?;
     }
     greets_up_to_64(&rt, alloc)?;
     let fault = HelloFault::Line {
         line: 3,
         fault: LaneFault::NotJson,
     };
-    assert_eq!(rt; hello_fault(alloc, b"{"), Some(fault));
+    assert_eq!(rt; read_hello(alloc, b"{")?.err(), Some(fault));
     Ok(())
 }
 

@@ -5,7 +5,6 @@ ghost use Rattle.upload_reader.specs.Upload.{IsUntouched};
 
 use crate::tests::{Reader, add, told};
 use crate::thread_tests::{items_by_recorder, many, take_until};
-use crate::{GatherFault, Gathered, LaneResult, Stop, gather, gather_in_order};
 use byte_streams::{Fed, Lines};
 use client_log::{Quota, Visit};
 use lane_queue::Room;
@@ -15,6 +14,7 @@ use std::sync::Wait;
 use std::test::Fail;
 use std::thread::Threads;
 use stream_fakes::Drip;
+use upload_lanes::{GatherFault, Gathered, LaneResult, Stop, gather, gather_in_order};
 use upload_reader::{Ending, LaneEnd, Upload};
 
 // ---- the same in turn

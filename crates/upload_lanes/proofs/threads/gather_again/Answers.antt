@@ -1,7 +1,7 @@
 use Rattle.std.proofs.Common.{ap, bytes_eq, map, ◌∙◌}
 use Rattle.indexmap.specs.IndexMap.{insert_all}
 use Rattle.upload_lanes.specs.Round.{rested}
-use Rattle.upload_lanes.proofs.threads.gather_again_but.Goals as goal
+use Rattle.upload_lanes.proofs.threads.gather_again.Goals as goal
 
 pub returns-in-Ok-clause-ok : goal.returns-in-Ok-clause-ok
 returns-in-Ok-clause-ok g c = record {

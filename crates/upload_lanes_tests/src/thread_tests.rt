@@ -3,10 +3,6 @@ ghost use Rattle.std.specs.List.{AllByRecursion};
 ghost use Rattle.upload_reader.specs.Upload.{IsUntouched};
 
 use crate::tests::{BYE, CLICK, END, LOAD, Reader, THREE_CLICKS, add, tells, upload};
-use crate::threads::gather_again_but;
-use crate::{
-    Again, GatherFault, Gathered, LaneResult, Stop, gather, gather_again, gather_again_in_order,
-};
 use byte_streams::{Fed, Lines, Source};
 use client_log::Quota;
 use lane_queue::Room;
@@ -19,6 +15,9 @@ use std::test::Fail;
 use std::thread::Threads;
 use std::{io, thread};
 use stream_fakes::Drip;
+use upload_lanes::{
+    Again, GatherFault, Gathered, LaneResult, Stop, gather, gather_again, gather_again_in_order,
+};
 use upload_reader::{Ending, LaneEnd, Upload};
 
 const WHOLE: &str = "taken 5 end Some(Over(Bye)) visit 1 events 3 ended true";
@@ -365,54 +364,17 @@ fn a_refused_round_gives_back_what_was_gathered(rt: HostRuntime) -> Result<(), F
     )
 }
 
-// Two lanes, with two uploaders and two recorders: the start of one of these threads is refused.
-fn again_but<T: AllocGlobal + Threads + Wait + Sync>(
-    rt: &T,
-    refused: Option<u32>,
-) -> Result<Result<Gathered<Reader>, Again<Reader>>, Fail> {
+#[test]
+fn a_known_client_goes_on_beside_a_new_one(rt: HostRuntime) -> Result<(), Fail> {
     let alloc = rt.alloc();
-    let halt = |_taken: u64| -> bool { false };
-    let quota = Quota::new(1_048_576)?;
     let mut uploads = alone(alloc, "c1", &[CLICK, END, BYE])?;
     add(&mut uploads, upload(alloc, "c2", &THREE_CLICKS)?)?;
-    Ok(gather_again_but(
-        rt,
-        after_three(rt)?,
-        uploads,
-        quota,
-        Room::new(2)?,
-        &halt,
-        refused,
-    ))
-}
-
-#[test]
-fn a_thread_that_cannot_start_gives_back_what_was_gathered(rt: HostRuntime) -> Result<(), Fail> {
-    let alloc = rt.alloc();
-    for refused in 0..4 {
-        let Err(Again { fault, earlier }) = again_but(&rt, Some(refused))? else {
-            return Err(Fail::from("a round went on without one of its threads"));
-        };
-        assert_eq!(rt; fault, GatherFault::NoMemory);
-        tells(
-            &rt,
-            alloc,
-            &earlier,
-            "c1 taken 3 end None visit 1 events 2 ended false; stop Asked",
-        )?;
-    }
-    Ok(())
-}
-
-// There is no fifth thread.
-#[test]
-fn all_threads_that_start_take_the_round(rt: HostRuntime) -> Result<(), Fail> {
-    let Ok(gathered) = again_but(&rt, Some(4))? else {
-        return Err(Fail::from("a round of four threads was refused"));
+    let Ok(gathered) = take_again(&rt, after_three(&rt)?, uploads)? else {
+        return Err(Fail::from("a round of two lanes was refused"));
     };
     let want =
         "c1 taken 2 end Some(Over(Bye)) visit 1 events 3 ended true; c2 taken 5 end Some(Over(Bye)) visit 1 events 3 ended true; stop None";
-    tells(&rt, rt.alloc(), &gathered, want)
+    tells(&rt, alloc, &gathered, want)
 }
 
 // ---- threads that meet

@@ -2,13 +2,13 @@ ghost use Rattle.std.specs.Prelude.{IfOk, OnOk};
 ghost use Rattle.std.specs.List.{AllByRecursion};
 ghost use Rattle.upload_reader.specs.Upload.{IsUntouched};
 
-use crate::{Again, GatherFault, Gathered, Stop, gather_again_in_order, gather_in_order};
 use byte_streams::{Fed, Lines};
 use client_log::{ClientLog, Quota};
 use std::alloc::{AllocError, Global};
 use std::process::Abort;
 use std::test::Fail;
 use stream_fakes::Drip;
+use upload_lanes::{Again, GatherFault, Gathered, Stop, gather_again_in_order, gather_in_order};
 use upload_reader::{Ending, LaneEnd, Upload};
 
 pub(crate) type Reader = Fed<Drip>;
