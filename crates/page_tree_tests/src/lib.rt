@@ -2,4 +2,6 @@
 #![tactic(auto)]
 
 #[cfg(test)]
+mod number_tests;
+#[cfg(test)]
 mod tests;
