@@ -1,4 +1,5 @@
--- The lines of an input: this project's own rule. A line is what stands before a line feed; bytes behind the last line feed are none yet.
+-- The lines of an input: this project's own rule. A line is what stands before a line feed; bytes behind the last line
+-- feed are none yet.
 use Rattle.std.specs.Prelude.{ℕ, ◌-◌, List, [], length, take, get_or}
 use Rattle.std.specs.List.{slice_split}
 use Rattle.byte_streams.specs.Cutting.{is_line_feed}

@@ -1,4 +1,5 @@
--- How a stream of bytes is cut into lines: this project's own rule. The reads by which the bytes came don't occur in it.
+-- How a stream of bytes is cut into lines: this project's own rule. The reads by which the bytes came don't occur in
+-- it.
 use Rattle.std.specs.Prelude.{◌≡◌, ℕ, ◌+◌, ◌<◌, List, length, take, Bool, ◌==◌, if◌then◌else◌, nat_lt, nat_le, position, find, option_map, Option, Some, None, Result, Ok, Err}
 use Rattle.byte_streams.specs.Answers.{Answer, moves_nothing}
 use Rattle.byte_streams.specs.Limits.{max_reads}
@@ -16,12 +17,13 @@ abbrev pub cut_by : Option ℕ → ℕ → List ℕ → Option LineFault → Opt
 cut_by (Some n) limit bytes ending = Some (Ok (take n bytes))
 cut_by None limit bytes ending = if nat_lt limit (length bytes) then Some (Err LineTooLong) else option_map Err ending
 
--- The next line of these bytes, which end so: the bytes up to a line feed within the limit and one byte more. Else a fault: the line is too
--- long where there are more bytes than the limit, and otherwise the ending. With no ending there is no answer yet.
+-- The next line of these bytes, which end so: the bytes up to a line feed within the limit and one byte more. Else a
+-- fault: the line is too long (E4) where there are more bytes than the limit, and otherwise the ending. With no ending
+-- there is no answer yet.
 unfoldable pub cut : ℕ → List ℕ → Option LineFault → Option (Result (List ℕ) LineFault)
 cut limit bytes ending = cut_by (line_length limit bytes) limit bytes ending
 
--- what a read that gave nothing means
+-- what a read that gave nothing means: E1 where it failed, E3 where the input ended
 abbrev pub fault_of : Answer → LineFault
 fault_of None = ReadFailed
 fault_of (Some bytes) = Truncated
@@ -30,7 +32,8 @@ abbrev end_by_count : Option Answer → ℕ → Option LineFault
 end_by_count (Some answer) reads = Some (fault_of answer)
 end_by_count None reads = if nat_le max_reads reads then Some TooManyReads else None
 
--- How the input of these reads ends: with the first one that failed or gave nothing, else with the last one that may be made, else not yet.
+-- How the input of these reads ends: with the first one that failed or gave nothing, else with the last one that may be
+-- made (E2), else not yet.
 abbrev pub ending_of : List Answer → Option LineFault
 ending_of answers = end_by_count (find moves_nothing answers) (length answers)
 

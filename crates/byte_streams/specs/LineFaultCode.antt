@@ -1,4 +1,5 @@
--- The code of each reason why there is no next line: `cut` says when it is given, but for want of memory, which has none.
+-- The code of each reason why there is no next line: `cut` says when it is given, but for want of memory, which has
+-- none.
 use Rattle.std.specs.Prelude.{ℕ, List, codes}
 use Rattle.byte_streams.specs.declared.fault.LineFault.{LineFault}
 use Rattle.byte_streams.specs.declared.fault.LineFault.TheVariants.{ReadFailed, TooManyReads, Truncated, LineTooLong, NoMemory}

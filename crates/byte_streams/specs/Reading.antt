@@ -1,5 +1,6 @@
--- What was read of a source, and how far it is cut into lines: what clauses see of a Lines, and what a call does to one.
-use Rattle.std.specs.Prelude.{◌≡◌, ℕ, ◌+◌, ◌*◌, ◌<◌, ◌≤◌, List, ◌++◌, length, take, drop, Option, Some, None, Result, Ok, Err, IsNone, IfSome, IsErrOf, MatchResult}
+-- What was read of a source, and how far it is cut into lines: what clauses see of a Lines, and what a call does to
+-- one.
+use Rattle.std.specs.Prelude.{◌≡◌, ℕ, ◌+◌, ◌*◌, ◌<◌, ◌≤◌, List, ◌++◌, length, take, drop, option_map, Option, Some, None, Result, Ok, Err, IsNone, IfSome, IsErrOf, MatchResult}
 use Rattle.std.specs.Io.KnownBytes.{Consumes}
 use Rattle.byte_streams.specs.Answers.{Answer, bytes_of}
 use Rattle.byte_streams.specs.Cutting.{cut, ending_of}
@@ -29,8 +30,27 @@ uncut lines = drop lines.place (input lines)
 
 -- ---- reads
 
--- From one reader to the other: its answers go on with these, and where its bytes are known, these were the first of them.
-pub record WasRead {R : Type 0} (answers : R → List Answer) (remaining : R → Option (List ℕ)) (first now : R) (own : List Answer) : Type 0 where
+-- What a call did to its source: what the reads had answered before it and behind it, and what was left to read then,
+-- where that is known.
+pub record CallReads : Type 0 where
+  pub reads_before : List Answer
+  pub reads_after : List Answer
+  pub left_before : Option (List ℕ)
+  pub left_after : Option (List ℕ)
+
+-- of a source of which these are known, from the one to the other
+abbrev pub reads_of : {R : Type 0} → (R → List Answer) → (R → Option (List ℕ)) → R → R → CallReads
+reads_of answers remaining before after = record {
+  reads_before = answers before;
+  reads_after = answers after;
+  left_before = remaining before;
+  left_after = remaining after;
+}
+
+-- From one reader to the other: its answers go on with these, and where its bytes are known, these were the first of
+-- them.
+pub record WasRead {R : Type 0} (answers : R → List Answer) (remaining : R → Option (List ℕ)) (first now : R)
+    (own : List Answer) : Type 0 where
   pub told : answers now ≡ answers first ++ own
   pub bytes : Consumes (remaining first) (remaining now) (bytes_of own)
 
@@ -60,6 +80,10 @@ NoLineYet limit place answers = cut limit (drop place (bytes_of answers)) None �
 abbrev pub StopsLine : LineFault → Option (Result (List ℕ) LineFault) → Type 0
 StopsLine NoMemory next = next ≡ None
 StopsLine fault next = next ≡ Some (Err fault)
+
+-- no byte more came, and the fault is how the input ends, or there is no memory
+abbrev pub EndsReads : {R : Type 0} → Reading R → Reading R → LineFault → Type 0
+EndsReads old new fault = (input new ≡ input old) × StopsLine fault (option_map Err (ending_of new.answers))
 
 -- The answer is what the bytes hold next, a line or a fault.
 abbrev pub Tells : {A : Type 0} → Result A LineFault → List ℕ → Option (Result (List ℕ) LineFault) → Type 0

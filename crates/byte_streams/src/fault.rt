@@ -7,13 +7,13 @@ use std::fmt;
 /// Why there is no next line. Its text is its code, as `E1`.
 #[derive(Clone, Copy, Debug, PartialEq, Eq)]
 pub enum LineFault {
-    /// A read failed.
+    /// E1: a read failed.
     ReadFailed,
-    /// As many reads were made as may be.
+    /// E2: as many reads were made as may be.
     TooManyReads,
-    /// The input ended, and the line had no line end.
+    /// E3: the input ended, and the line had no line end.
     Truncated,
-    /// There are more bytes than the limit before a line end.
+    /// E4: there are more bytes than the limit before a line end.
     LineTooLong,
     /// An allocation was refused.
     NoMemory,

@@ -5,7 +5,7 @@ ghost use Rattle.std.specs.Borrow.{sem};
 ghost use Rattle.std.specs.Io.BufRead.{Rests};
 ghost use Rattle.byte_streams.specs.Answers.{failures_of};
 ghost use Rattle.byte_streams.specs.Cutting.{cut, line_length, ending_of, is_line_feed, StopsAtEnd};
-ghost use Rattle.byte_streams.specs.Reading.{input, uncut, WasRead, ReadsWhile, NoLineYet, StopsLine, Advances, failures_told};
+ghost use Rattle.byte_streams.specs.Reading.{input, uncut, WasRead, ReadsWhile, NoLineYet, EndsReads, StopsLine, Advances, failures_told};
 
 use crate::fault::LineFault;
 use crate::history::History;
@@ -119,13 +119,15 @@ impl<R: Source> Lines<R> {
 
     /// The next line, of at most `limit` bytes without its line end.
     pub fn next_line(&mut self, limit: usize) -> Result<&[u8], LineFault>
-        ensures* after_borrow { sem 𝓛 (Rests (the_row R.row (record { answers = R.answers; lender = R.lender }) (record { remaining = R.remaining })) self.entry (λ new. GivesNext limit self.old new result)) }
+        ensures* after_borrow { sem 𝓛 (Rests
+            (the_row R.row (record { answers = R.answers; lender = R.lender }) (record { remaining = R.remaining }))
+            self.entry (λ new. GivesNext limit self.old new result)) }
     {
         self.advance(limit)?;
         Ok(self.line())
     }
 
-    // Reads until the bytes that aren't cut hold the next line, and tells its length.
+    // Reads until the bytes that aren't cut hold the next line, and tells its length; E4 where it is longer than the limit.
     fn find_line(&mut self, limit: usize) -> Result<usize, LineFault>
         requires going { self.old.fault ≡ None }
         ensures reads { ReadsWhile (NoLineYet limit self.old.place) self.old self.new }
@@ -154,13 +156,13 @@ impl<R: Source> Lines<R> {
         self.window.kept()
     }
 
-    // One read more, behind the bytes that aren't cut.
+    // One read more, behind the bytes that aren't cut: E1, E2 or E3 where none gives bytes.
     fn fill(&mut self) -> Result<(), LineFault>
         requires going { self.old.fault ≡ None }
         ensures reads { ReadsWhile (λ answers. answers ≡ self.old.answers) self.old self.new }
         ensures place { self.new.place ≡ self.old.place }
         ensures grows { OnOk result (length self.old.answers < length self.new.answers) }
-        ensures ends { IfErr result (λ fault. (input self.new ≡ input self.old) × StopsLine fault (option_map Err (ending_of self.new.answers))) }
+        ensures ends { IfErr result (EndsReads self.old self.new) }
         ensures fault { MatchResult result (λ _. self.new.fault ≡ None) (λ fault. self.new.fault ≡ Some fault) }
     {
         if self.reads == MAX_READS {

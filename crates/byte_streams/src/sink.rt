@@ -3,7 +3,7 @@ ghost use Rattle.std.specs.Prelude.{◌≡◌, ◌<◌, length, [], ◌∷◌, �
 ghost use Rattle.std.specs.Io.{WritesAtMost};
 ghost use Rattle.std.specs.Io.KnownBytes.{WriteAppends, Keeps};
 ghost use Rattle.byte_streams.specs.Answers.{Answer, answer_of, last_moved_nothing};
-ghost use Rattle.byte_streams.specs.Writing.{WritesText};
+ghost use Rattle.byte_streams.specs.Writing.{WritesText, writes_of};
 
 use crate::history::History;
 use std::io;
@@ -119,7 +119,7 @@ pub struct WriteFailed;
 
 /// Writes the text, in as many writes as it takes. An empty text is no write.
 pub fn write_text<W: Sink>(writer: &mut W, text: &[u8]) -> Result<(), WriteFailed>
-    ensures { WritesText (W.puts writer.old) (W.puts writer.new) (W.contents writer.old) (W.contents writer.new) text.now result }
+    ensures { WritesText (writes_of W.puts W.contents writer.old writer.new) text.now result }
 {
     let mut at = 0;
     while at < text.len() {

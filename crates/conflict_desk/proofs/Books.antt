@@ -8,8 +8,8 @@ use Rattle.std.specs.List.{IsDistinct}
 use Rattle.std.specs.Cmp.Lexicographic.{nat_list_eq_equiv}
 use Rattle.indexmap.specs.IndexMap.{insert_all, set_value_at}
 use Rattle.indexmap.proofs.MapLemmas.{insert_entry-first, insert_entry-absent, absent_from_lookup, Found-position}
-use Rattle.conflict_desk.specs.Book.{Book, opened, is_decided, is_cancelled, standing_by, standing_in, front_visit, with_decision}
-use Rattle.conflict_desk.specs.Desk.{book_of, is_front, refusal_in, decided_on, decided_in, opened_all}
+use Rattle.conflict_desk.specs.Book.{Book, new_book, is_decided, is_cancelled, standing_by, standing_in, front_visit, with_decision}
+use Rattle.conflict_desk.specs.Desk.{book_of, is_front, refusal_in, decided_on, decided_in, new_books}
 use Rattle.conflict_desk.specs.declared.docket.Docket.{Docket}
 use Rattle.conflict_desk.specs.declared.decided.Choice.{Choice}
 use Rattle.conflict_desk.specs.declared.fault.DeskFault.TheVariants.{NotFront}
@@ -90,19 +90,19 @@ all_absent key book books (docket ∷ dockets) none others =
 
 -- with no client twice, the dockets stand behind one another
 insert_behind : (books : List (List ℕ × Book)) (dockets : List Docket) → AllByRecursion (λ docket. lookup (bytes_eq docket.client) books ≡ None) dockets → IsDistinct bytes_eq (map (λ docket. docket.client) dockets)
-    → insert_all bytes_eq books (opened_all dockets) ≡ books ++ opened_all dockets
+    → insert_all bytes_eq books (new_books dockets) ≡ books ++ new_books dockets
 unfolding IsDistinct
 insert_behind books [] none distinct = sym (append-nil books)
 insert_behind books (docket ∷ dockets) none distinct =
-    ap (λ es. insert_all bytes_eq es (opened_all dockets)) (insert_entry-absent bytes_eq docket.client (opened docket.cases) books (absent_from_lookup (bytes_eq docket.client) books none.0))
-    ∙ insert_behind (books ++ (docket.client, opened docket.cases) ∷ []) dockets (all_absent docket.client (opened docket.cases) books dockets none.1 distinct.0) distinct.1
-    ∙ append_assoc books ((docket.client, opened docket.cases) ∷ []) (opened_all dockets)
+    ap (λ es. insert_all bytes_eq es (new_books dockets)) (insert_entry-absent bytes_eq docket.client (new_book docket.cases) books (absent_from_lookup (bytes_eq docket.client) books none.0))
+    ∙ insert_behind (books ++ (docket.client, new_book docket.cases) ∷ []) dockets (all_absent docket.client (new_book docket.cases) books dockets none.1 distinct.0) distinct.1
+    ∙ append_assoc books ((docket.client, new_book docket.cases) ∷ []) (new_books dockets)
 
 none_yet : (dockets : List Docket) → AllByRecursion (λ docket. lookup {X = Book} (bytes_eq docket.client) [] ≡ None) dockets
 none_yet [] = tt
 none_yet (docket ∷ dockets) = (refl, none_yet dockets)
 
-pub all_inserted : (dockets : List Docket) → IsDistinct bytes_eq (map (λ docket. docket.client) dockets) → insert_all bytes_eq [] (opened_all dockets) ≡ opened_all dockets
+pub all_inserted : (dockets : List Docket) → IsDistinct bytes_eq (map (λ docket. docket.client) dockets) → insert_all bytes_eq [] (new_books dockets) ≡ new_books dockets
 all_inserted dockets distinct = insert_behind [] dockets (none_yet dockets) distinct
 
 -- ---- cancelled visits stand cancelled, and no others
@@ -123,7 +123,7 @@ stands_below book c stands = below_cancelled book c (only_by book c (is_cancelle
 pub below_stands : (book : Book) (c : Case) → IsBelowCancelled book c → standing_in book c ≡ standing.Cancelled
 below_stands book c below = cond-true (is_cancelled book c) standing.Cancelled (standing_by c.outcome (is_decided book.decisions c.visit)) (cancelled_below book c below)
 
-pub all_opened : (books : List (List ℕ × Book)) (rest first dockets : List Docket) → insert_all bytes_eq books (opened_all rest) ≡ insert_all bytes_eq [] (opened_all first) → length rest ≡ 0 → first ≡ dockets
-    → IsDistinct bytes_eq (map (λ docket. docket.client) dockets) → books ≡ opened_all dockets
-all_opened books [] first dockets so_far none same distinct = so_far ∙ ap (λ ds. insert_all bytes_eq [] (opened_all ds)) same ∙ all_inserted dockets distinct
+pub all_opened : (books : List (List ℕ × Book)) (rest first dockets : List Docket) → insert_all bytes_eq books (new_books rest) ≡ insert_all bytes_eq [] (new_books first) → length rest ≡ 0 → first ≡ dockets
+    → IsDistinct bytes_eq (map (λ docket. docket.client) dockets) → books ≡ new_books dockets
+all_opened books [] first dockets so_far none same distinct = so_far ∙ ap (λ ds. insert_all bytes_eq [] (new_books ds)) same ∙ all_inserted dockets distinct
 all_opened books (docket ∷ rest) first dockets so_far none same distinct = absurd (omega (arith, none))

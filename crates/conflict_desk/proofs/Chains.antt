@@ -1,8 +1,9 @@
 -- Chains of parents, and what goes with a cancelled visit.
-use Rattle.std.proofs.Common.{◌≡◌, ◌≢◌, ℕ, zero, suc, ◌<◌, List, [], ◌∷◌, ◌++◌, Bool, true, false, ◌||◌, ◌&&◌, ◌==◌, Option, Some, None, ◌⊎◌, inl, inr, ap, sym, refl, ◌∙◌, arith}
+use Rattle.std.proofs.Common.{◌≡◌, ◌≢◌, ℕ, zero, suc, ◌<◌, List, [], ◌∷◌, ◌++◌, true, false, ◌||◌, ◌&&◌, ◌==◌, Option, Some, None, inl, inr, ap, sym, refl, ◌∙◌, arith}
 use Rattle.std.specs.List.{list_any}
 use Rattle.std.specs.Option.{option_map_or}
-use Rattle.std.proofs.lemmas.Bool.{eq-eqb, ne_eqb, or_parts, or_left, or_right, or_from, and_left, false≢true}
+use Rattle.std.proofs.lemmas.Bool.{eq-eqb, ne_eqb, or_cases, or_parts, or_left, or_right, or_from, and_left, false≢true}
+use Rattle.std.proofs.Math.Bool.{or-false}
 use Rattle.std.proofs.lemmas.List.Folds.{list_any-append}
 use Rattle.conflict_desk.specs.Docket.{parent_of}
 use Rattle.conflict_desk.specs.Book.{Book, chain, is_cancel, is_decided, was_cancelled, is_cancelled, with_decision}
@@ -37,10 +38,6 @@ module _ (book : Book) where
 
 -- ---- the chain of parents in other words
 
-either_of : (a b : Bool) → (a || b) ≡ true → (a ≡ true) ⊎ (b ≡ true)
-either_of true b holds = inl refl
-either_of false b holds = inr holds
-
 module _ (book : Book) where
   parent_cancelled : (c : Case) (o : Option Case) → parent_of book.cases c ≡ o → option_map_or (is_cancelled book) o false ≡ true → ((p : Case) → p.visit < c.visit → is_cancelled book p ≡ true → IsBelowCancelled book p) → IsBelowCancelled book c
   parent_cancelled c None is went rest = absurd (false≢true went)
@@ -48,7 +45,7 @@ module _ (book : Book) where
 
   below_by : (n : ℕ) (c : Case) → c.visit < n → is_cancelled book c ≡ true → IsBelowCancelled book c
   below_by zero c less went = absurd (omega (arith, less))
-  below_by (suc n) c less went = elim (either_of _ _ (sym (cancelled_is book c) ∙ went)) [
+  below_by (suc n) c less went = elim (or_cases _ _ (sym (cancelled_is book c) ∙ went)) [
     | inl own ↦ (c.visit, itself c refl, own)
     | inr up ↦ parent_cancelled c (parent_of book.cases c) refl up (λ p below parent_went. below_by n p (omega (arith, below, less)) parent_went)
   ]
@@ -65,10 +62,6 @@ module _ (book : Book) where
 
 -- ---- one decision more
 
-or_nothing : (b : Bool) → (b || false) ≡ b
-or_nothing true = refl
-or_nothing false = refl
-
 pub undecided_stays : (decisions : List Decided) (visit : ℕ) → is_decided decisions visit ≡ false → was_cancelled decisions visit ≡ false
 undecided_stays [] visit none = refl
 undecided_stays (d ∷ decisions) visit none =
@@ -77,10 +70,10 @@ undecided_stays (d ∷ decisions) visit none =
 
 module _ (decisions : List Decided) (visit : ℕ) (choice : Choice) where
   pub decided_more : (other : ℕ) → is_decided (decisions ++ record { visit = visit; choice = choice } ∷ []) other ≡ (is_decided decisions other || visit == other)
-  decided_more other = list_any-append (λ d. d.visit == other) decisions (record { visit = visit; choice = choice } ∷ []) ∙ ap (λ b. is_decided decisions other || b) (or_nothing _)
+  decided_more other = list_any-append (λ d. d.visit == other) decisions (record { visit = visit; choice = choice } ∷ []) ∙ ap (λ b. is_decided decisions other || b) (or-false _)
 
   pub decided_other : (other : ℕ) → visit ≢ other → is_decided (decisions ++ record { visit = visit; choice = choice } ∷ []) other ≡ is_decided decisions other
-  decided_other other differ = decided_more other ∙ ap (λ b. is_decided decisions other || b) (ne_eqb _ _ differ) ∙ or_nothing _
+  decided_other other differ = decided_more other ∙ ap (λ b. is_decided decisions other || b) (ne_eqb _ _ differ) ∙ or-false _
 
   pub decided_now : is_decided (decisions ++ record { visit = visit; choice = choice } ∷ []) visit ≡ true
   decided_now = decided_more visit ∙ or_right _ _ (eq-eqb visit visit refl)
@@ -89,10 +82,10 @@ module _ (decisions : List Decided) (visit : ℕ) (choice : Choice) where
   decided_still other was = decided_more other ∙ or_left _ _ was
 
   went_more : (other : ℕ) → was_cancelled (decisions ++ record { visit = visit; choice = choice } ∷ []) other ≡ (was_cancelled decisions other || (visit == other && is_cancel choice))
-  went_more other = list_any-append (λ d. d.visit == other && is_cancel d.choice) decisions (record { visit = visit; choice = choice } ∷ []) ∙ ap (λ b. was_cancelled decisions other || b) (or_nothing _)
+  went_more other = list_any-append (λ d. d.visit == other && is_cancel d.choice) decisions (record { visit = visit; choice = choice } ∷ []) ∙ ap (λ b. was_cancelled decisions other || b) (or-false _)
 
   pub went_other : (other : ℕ) → visit ≢ other → was_cancelled (decisions ++ record { visit = visit; choice = choice } ∷ []) other ≡ was_cancelled decisions other
-  went_other other differ = went_more other ∙ ap (λ b. was_cancelled decisions other || b) (and_left _ _ (ne_eqb _ _ differ)) ∙ or_nothing _
+  went_other other differ = went_more other ∙ ap (λ b. was_cancelled decisions other || b) (and_left _ _ (ne_eqb _ _ differ)) ∙ or-false _
 
   pub went_now : was_cancelled decisions visit ≡ false → was_cancelled (decisions ++ record { visit = visit; choice = choice } ∷ []) visit ≡ is_cancel choice
   went_now none = went_more visit ∙ ap (λ b. b || (visit == visit && is_cancel choice)) none ∙ ap (λ b. b && is_cancel choice) (eq-eqb visit visit refl)
@@ -131,6 +124,6 @@ module _ (book : Book) (visit : ℕ) (choice : Choice) where
       cancelled_is (with_decision visit choice book) c
       ∙ ap (λ b. was_cancelled (book.decisions ++ record { visit = visit; choice = choice } ∷ []) c.visit || b)
       (parent_before c (parent_of book.cases c) refl (λ p less. cancelled_before p (omega (arith, less, is))) ∙ up.1)
-      ∙ or_nothing _
+      ∙ or-false _
       ∙ ap (was_cancelled (book.decisions ++ record { visit = visit; choice = choice } ∷ [])) is
       ∙ went_now book.decisions visit choice (undecided_stays book.decisions visit none)

@@ -1,17 +1,17 @@
 -- What an open docket keeps.
-use Rattle.std.proofs.Common.{◌≡◌, ℕ, ◌+◌, ◌<◌, ◌≤◌, List, [], ◌∷◌, ◌++◌, length, get_or, Bool, true, false, not, ◌&&◌, Some, None, slice_get, option_map, nat_lt, cond, ◌⊎◌, inl, inr, ap, sym, refl, subst, ◌∙◌, length-append, arith}
+use Rattle.std.proofs.Common.{◌≡◌, ℕ, ◌+◌, ◌<◌, ◌≤◌, List, [], ◌∷◌, ◌++◌, length, get_or, Bool, true, false, not, Some, None, slice_get, option_map, nat_lt, cond, ◌⊎◌, inl, inr, ap, sym, refl, subst, ◌∙◌, length-append, arith}
 use Rattle.std.proofs.Math.ListN.{set}
 use Rattle.std.specs.Option.{option_map_or}
-use Rattle.std.proofs.lemmas.Bool.{cases_lt, true≢false, and_from, and_left, and_right, and_cases, cond-true, cond-false, ltb-true, ltb-false}
+use Rattle.std.proofs.lemmas.Bool.{cases_lt, true≢false, not-true, not-false, and_parts, and_from, and_left, and_right, and_cases, cond-true, cond-false, ltb-true, ltb-false}
 use Rattle.std.proofs.lemmas.List.{length-set}
 use Rattle.std.proofs.lemmas.Option.{slice_get-get_or}
 use Rattle.visit_replay.specs.declared.outcome.Outcome.{Outcome}
 use Rattle.visit_replay.specs.declared.outcome.Outcome.TheVariants.{Untouched, Done, Conflict}
 use Rattle.conflict_desk.specs.Docket.{AreAscending, is_conflict}
-use Rattle.conflict_desk.specs.Book.{Book, opened, is_cancel, is_decided, is_cancelled, waits, front_visit, with_decision, standing_by, standing_in}
+use Rattle.conflict_desk.specs.Book.{Book, new_book, is_cancel, is_decided, is_cancelled, waits, front_visit, with_decision, standing_by, standing_in}
 use Rattle.conflict_desk.specs.declared.decided.Standing.TheVariants as standing
 use Rattle.conflict_desk.specs.inside.Links.{Follows, AreLinks}
-use Rattle.conflict_desk.specs.inside.Settling.{Tell, IsSettled}
+use Rattle.conflict_desk.specs.inside.Settling.{Tell, IsSettled, Settles}
 use Rattle.conflict_desk.specs.inside.Kept.{cancelled_at, IsKept}
 use Rattle.conflict_desk.specs.declared.docket.Case.{Case}
 use Rattle.conflict_desk.specs.declared.decided.Choice.{Choice}
@@ -24,27 +24,15 @@ use Rattle.conflict_desk.proofs.Fronts.{tell_more}
 
 -- ---- who waits
 
-pub not_false : (b : Bool) → not b ≡ false → b ≡ true
-not_false true is = refl
-not_false false is = absurd (true≢false is)
-
-pub not_true : (b : Bool) → not b ≡ true → b ≡ false
-not_true true is = absurd (true≢false (sym is))
-not_true false is = refl
-
-pub both : (a b : Bool) → (a && b) ≡ true → (a ≡ true) × (b ≡ true)
-both true b is = (refl, is)
-both false b is = absurd (true≢false (sym is))
-
 module _ (book : Book) (c : Case) where
   -- why a case doesn't wait
   pub why : waits book c ≡ false → (is_conflict c.outcome ≡ false) ⊎ ((is_decided book.decisions c.visit ≡ true) ⊎ (is_cancelled book c ≡ true))
   why none = elim (and_cases _ _ none) [
     | inl left ↦ elim (and_cases _ _ left) [
       | inl quiet ↦ inl quiet
-      | inr done ↦ inr (inl (not_false _ done))
+      | inr done ↦ inr (inl (not-false _ done))
     ]
-    | inr went ↦ inr (inr (not_false _ went))
+    | inr went ↦ inr (inr (not-false _ went))
   ]
 
   pub no_wait : (is_conflict c.outcome ≡ false) ⊎ ((is_decided book.decisions c.visit ≡ true) ⊎ (is_cancelled book c ≡ true)) → waits book c ≡ false
@@ -56,7 +44,7 @@ module _ (book : Book) (c : Case) where
   it_waits conflict undecided stays = and_from _ _ (and_from _ _ conflict (ap not undecided)) (ap not stays)
 
   pub waiting_parts : waits book c ≡ true → (is_conflict c.outcome ≡ true) × (is_decided book.decisions c.visit ≡ false) × (is_cancelled book c ≡ false)
-  waiting_parts is = let outer = both _ _ is in let inner = both _ _ outer.0 in (inner.0, not_true _ inner.1, not_true _ outer.1)
+  waiting_parts is = let outer = and_parts _ _ is in let inner = and_parts _ _ outer.0 in (inner.0, not-true _ inner.1, not-true _ outer.1)
 
   quiet_or : (b : Bool) → is_conflict c.outcome ≡ b → (is_conflict c.outcome ≡ true → is_cancelled book c ≡ true) → waits book c ≡ false
   quiet_or true is went = no_wait (inr (inr (went is)))
@@ -86,15 +74,15 @@ module _ (book : Book) (links : List Link) (flags : List Bool) (next : ℕ) (kep
   front_none items same past =
       sym (ap (option_map (λ case. case.visit)) (find_none (waits book) book.cases (λ j y here. kept.passed j y (omega (arith, is_within book.cases j y here, ap length same, past)) here)))
 
--- ---- an opened docket
+-- ---- an new_book docket
 
 at_case : (book : Book) (k : ℕ) (c : Case) → slice_get book.cases k ≡ Some c → cancelled_at book k ≡ is_cancelled book c
 at_case book k c at = ap (λ o. option_map_or (is_cancelled book) o false) at
 
 pub opened_kept : (cases : List Case) (links : List Link) (before after : List Bool) (next : ℕ) → AreAscending cases → AreLinks cases links → length links ≡ length cases → length after ≡ length cases → next ≤ length cases
-    → ((said : ℕ → Bool) → Follows 0 links said → Tell said 0 before → IsSettled said cases 0 next after) → IsKept (opened cases) links after next
+    → Settles cases links before 0 next after → IsKept (new_book cases) links after next
 opened_kept cases links before after next up are links_count flags_count within settled =
-    let s = settled (cancelled_at (opened cases)) (cancelled_follows (opened cases) links are 0 (λ k c le at. refl)) (λ k less. absurd (omega (arith, less))) in
+    let s = settled (cancelled_at (new_book cases)) (cancelled_follows (new_book cases) links are 0 (λ k c le at. refl)) (λ k less. absurd (omega (arith, less))) in
     record {
       ascending = up;
       links_are = are;
@@ -102,9 +90,9 @@ opened_kept cases links before after next up are links_count flags_count within 
       flags_count = flags_count;
       within = within;
       tell = s.tell;
-      passed = λ k c less at. no_wait_where (opened cases) c (λ conflict. sym (at_case (opened cases) k c at) ∙ s.passed k c (omega arith) less at conflict);
+      passed = λ k c less at. no_wait_where (new_book cases) c (λ conflict. sym (at_case (new_book cases) k c at) ∙ s.passed k c (omega arith) less at conflict);
       undecided = λ k c le at. refl;
-      front = λ c at. let stop = s.stops c at in it_waits (opened cases) c stop.0 refl (sym (at_case (opened cases) next c at) ∙ stop.1);
+      front = λ c at. let stop = s.stops c at in it_waits (new_book cases) c stop.0 refl (sym (at_case (new_book cases) next c at) ∙ stop.1);
       few = omega arith;
     }
 
@@ -168,14 +156,13 @@ module _ (book : Book) (links : List Link) (flags : List Bool) (next : ℕ) (kep
 -- ---- what is settled, of equal lists
 
 pub settled_as : (cases shown : List Case) (links listed : List Link) (before after : List Bool) (from next : ℕ) → shown ≡ cases → listed ≡ links
-    → ((said : ℕ → Bool) → Follows from listed said → Tell said from before → IsSettled said shown from next after)
-    → (said : ℕ → Bool) → Follows from links said → Tell said from before → IsSettled said cases from next after
+    → Settles shown listed before from next after → Settles cases links before from next after
 settled_as cases shown links listed before after from next same_cases same_links settled said follows tell =
     subst (λ cs. IsSettled said cs from next after) same_cases (settled said (subst (λ ls. Follows from ls said) (sym same_links) follows) tell)
 
 module _ (book : Book) (links : List Link) (flags : List Bool) (next : ℕ) (kept : IsKept book links flags next) (choice : Choice) where
   decide_at : (c : Case) (written after : List Bool) (then : ℕ) → slice_get book.cases next ≡ Some c → written ≡ set flags next (is_cancel choice) → length after ≡ length written → next + 1 ≤ then → then ≤ length book.cases
-      → ((said : ℕ → Bool) → Follows (next + 1) links said → Tell said (next + 1) written → IsSettled said book.cases (next + 1) then after)
+      → Settles book.cases links written (next + 1) then after
       → IsKept (with_decision c.visit choice book) links after then
   decide_at c written after then at is count later within settled =
       let said = cancelled_at (with_decision c.visit choice book) in
@@ -185,7 +172,7 @@ module _ (book : Book) (links : List Link) (flags : List Bool) (next : ℕ) (kep
 
   pub decide_kept : (items : List Case) (d : Case) (visit : ℕ) (written after : List Bool) (then : ℕ) → items ≡ book.cases → next < length items → (get_or items next d).visit ≡ visit
       → written ≡ set flags next (is_cancel choice) → length after ≡ length written → next + 1 ≤ then → then ≤ length book.cases
-      → ((said : ℕ → Bool) → Follows (next + 1) links said → Tell said (next + 1) written → IsSettled said book.cases (next + 1) then after)
+      → Settles book.cases links written (next + 1) then after
       → IsKept (with_decision visit choice book) links after then
   decide_kept items d visit written after then same there is written_is count later within settled =
       subst (λ v. IsKept (with_decision v choice book) links after then) is

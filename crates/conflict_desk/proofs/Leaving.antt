@@ -1,16 +1,17 @@
 -- Conflicts leave in order, each once.
-use Rattle.std.proofs.Common.{◌≡◌, ℕ, zero, suc, ◌+◌, ◌<◌, List, [], ◌∷◌, ◌++◌, length, map, get_or, Bool, true, false, ◌||◌, cond, bytes_eq, Option, Some, None, slice_get, option_map, ◌⊎◌, inl, inr, ap, sym, refl, subst, ◌∙◌, length-append, arith}
+use Rattle.std.proofs.Common.{◌≡◌, ℕ, zero, suc, ◌+◌, ◌<◌, List, [], ◌∷◌, ◌++◌, length, map, get_or, Bool, true, false, cond, bytes_eq, Option, Some, None, slice_get, option_map, inl, inr, ap, sym, refl, subst, ◌∙◌, length-append, arith}
 use Rattle.std.specs.Map.{lookup}
 use Rattle.std.specs.List.{find, AllByRecursion}
 use Rattle.std.specs.Option.{option_map_or}
 use Rattle.std.specs.List.Sorted.{IsStrictlyIncreasing}
-use Rattle.std.proofs.lemmas.Bool.{cases_lt, cond-true, cond-false, true≢false, false≢true, eq-eqb, eqb-true, or_left, or_right, or_parts}
+use Rattle.std.proofs.lemmas.Bool.{cases_lt, cond-true, cond-false, true≢false, false≢true, eq-eqb, eqb-true, or_left, or_right, or_parts, or_cases}
 use Rattle.std.proofs.lemmas.List.{map-append, get_or_append_left}
 use Rattle.std.proofs.Math.Seq.{get_or-append_seam}
 use Rattle.indexmap.specs.IndexMap.{insert_entry}
 use Rattle.conflict_desk.specs.Docket.{AreAscending, case_of_visit, parent_of}
-use Rattle.conflict_desk.specs.Book.{Book, opened, is_decided, is_cancelled, waits, front_visit, with_decision}
-use Rattle.conflict_desk.specs.Desk.{opened_all, book_of, is_front, refusal_in, decided_in, Call, unless_refused, after_call, after_calls}
+use Rattle.conflict_desk.specs.Book.{Book, new_book, is_decided, is_cancelled, waits, front_visit, with_decision}
+use Rattle.conflict_desk.specs.Desk.{new_books, book_of, is_front, refusal_in, decided_in, unless_refused, after_call, after_calls}
+use Rattle.conflict_desk.specs.declared.decision.Decision.{Decision}
 use Rattle.conflict_desk.specs.Laws.{IsConflictOf, IsSpared, HasLeft, LeaveInOrder, AllLeaveInOrder}
 use Rattle.conflict_desk.specs.declared.docket.Case.{Case}
 use Rattle.conflict_desk.specs.declared.docket.Docket.{Docket}
@@ -88,12 +89,8 @@ pub record Goes (book : Book) : Type 0 where
   pub none_above : AllByRecursion (HasNoneAbove book) book.decisions
   pub ahead : (k : ℕ) (c : Case) → slice_get book.cases k ≡ Some c → waits book c ≡ true → (visit : ℕ) → is_decided book.decisions visit ≡ true → visit < c.visit
 
-pub goes_opened : (cases : List Case) → AreAscending cases → Goes (opened cases)
+pub goes_opened : (cases : List Case) → AreAscending cases → Goes (new_book cases)
 goes_opened cases up = record { ascending = up; ascend = λ k within. absurd (omega (arith, within)); conflicts = tt; none_above = tt; ahead = λ k c at waiting visit done. absurd (false≢true done) }
-
-either_of : (a b : Bool) → (a || b) ≡ true → (a ≡ true) ⊎ (b ≡ true)
-either_of true b holds = inl refl
-either_of false b holds = inr holds
 
 decided_each : (decisions : List Decided) (v : ℕ) → ((visit : ℕ) → is_decided decisions visit ≡ true → visit < v) → AllByRecursion (λ x. x < v) (map (λ decided. decided.visit) decisions)
 decided_each [] v below = tt
@@ -135,7 +132,7 @@ module _ (book : Book) (goes : Goes book) (choice : Choice) (c : Case) (found : 
             (record { case = c; is_case = here; conflict = parts.0 });
         none_above = all_push (HasNoneAbove (with_decision c.visit choice book)) book.decisions (record { visit = c.visit; choice = choice })
             (none_still_all book c.visit choice book.decisions below goes.none_above) (none_now book choice c here parts.2);
-        ahead = λ k d at still visit done. elim (either_of _ _ (sym (decided_more book.decisions c.visit choice visit) ∙ done)) [
+        ahead = λ k d at still visit done. elim (or_cases _ _ (sym (decided_more book.decisions c.visit choice visit) ∙ done)) [
           | inl before ↦ goes.ahead k d at (waits_before book c.visit choice d (waits book d) refl still) visit before
           | inr now ↦ let same : c.visit ≡ visit = eqb-true _ _ now in subst (λ v. v < d.visit) same (not_before k d at still)
         ];
@@ -195,7 +192,7 @@ pub is_the_front : (visit : ℕ) (o : Option ℕ) → is_front visit o ≡ true 
 is_the_front visit None is = absurd (false≢true is)
 is_the_front visit (Some front) is = ap (λ v. Some v) (eqb-true _ _ is)
 
-module _ (books : List (List ℕ × Book)) (all : AllByRecursion (λ entry. Goes entry.1) books) (call : Call) where
+module _ (books : List (List ℕ × Book)) (all : AllByRecursion (λ entry. Goes entry.1) books) (call : Decision) where
   by_test : (book : Book) → book_of call.client books ≡ Some book → (b : Bool) → is_front call.visit (front_visit book) ≡ b
       → AllByRecursion (λ entry. Goes entry.1) (unless_refused (cond b None (Some (NotFront (front_visit book)))) (insert_entry bytes_eq books call.client (with_decision call.visit call.choice book)) books)
   by_test book is true front = all_insert call.client (with_decision call.visit call.choice book) books all (goes_decided book (of_client call.client book books all is) call.choice call.visit (is_the_front call.visit (front_visit book) front))
@@ -208,14 +205,14 @@ module _ (books : List (List ℕ × Book)) (all : AllByRecursion (λ entry. Goes
   pub all_call : AllByRecursion (λ entry. Goes entry.1) (after_call books call)
   all_call = by_book (book_of call.client books) refl
 
-pub all_calls : (calls : List Call) (books : List (List ℕ × Book)) → AllByRecursion (λ entry. Goes entry.1) books → AllByRecursion (λ entry. Goes entry.1) (after_calls books calls)
+pub all_calls : (calls : List Decision) (books : List (List ℕ × Book)) → AllByRecursion (λ entry. Goes entry.1) books → AllByRecursion (λ entry. Goes entry.1) (after_calls books calls)
 all_calls [] books all = all
 all_calls (call ∷ calls) books all = all_calls calls (after_call books call) (all_call books all call)
 
-pub all_opened : (dockets : List Docket) → AllByRecursion (λ docket. AreAscending docket.cases) dockets → AllByRecursion (λ entry. Goes entry.1) (opened_all dockets)
+pub all_opened : (dockets : List Docket) → AllByRecursion (λ docket. AreAscending docket.cases) dockets → AllByRecursion (λ entry. Goes entry.1) (new_books dockets)
 all_opened [] up = tt
 all_opened (docket ∷ dockets) up = (goes_opened docket.cases up.0, all_opened dockets up.1)
 
--- whatever calls are made on opened dockets
-pub all_leave : (dockets : List Docket) → AllByRecursion (λ docket. AreAscending docket.cases) dockets → (calls : List Call) → AllLeaveInOrder (after_calls (opened_all dockets) calls)
-all_leave dockets up calls = all_more (λ entry. Goes entry.1) (λ entry. LeaveInOrder entry.1) (λ entry goes. leave_in_order entry.1 goes) _ (all_calls calls (opened_all dockets) (all_opened dockets up))
+-- whatever calls are made on new_book dockets
+pub all_leave : (dockets : List Docket) → AllByRecursion (λ docket. AreAscending docket.cases) dockets → (calls : List Decision) → AllLeaveInOrder (after_calls (new_books dockets) calls)
+all_leave dockets up calls = all_more (λ entry. Goes entry.1) (λ entry. LeaveInOrder entry.1) (λ entry goes. leave_in_order entry.1 goes) _ (all_calls calls (new_books dockets) (all_opened dockets up))

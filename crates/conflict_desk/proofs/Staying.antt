@@ -8,7 +8,8 @@ use Rattle.visit_replay.specs.declared.outcome.Outcome.{Outcome}
 use Rattle.visit_replay.specs.declared.outcome.Outcome.TheVariants as outcome
 use Rattle.conflict_desk.specs.Docket.{AreAscending, case_of_visit}
 use Rattle.conflict_desk.specs.Book.{Book, is_decided, is_cancelled, waits, front_visit, with_decision, standing_by, standing_in}
-use Rattle.conflict_desk.specs.Desk.{book_of, is_front, refusal_in, decided_in, opened_all, Call, unless_refused, after_call, after_calls}
+use Rattle.conflict_desk.specs.Desk.{book_of, is_front, refusal_in, decided_in, new_books, unless_refused, after_call, after_calls}
+use Rattle.conflict_desk.specs.declared.decision.Decision.{Decision}
 use Rattle.conflict_desk.specs.Laws.{StayAsTheyLeft}
 use Rattle.conflict_desk.specs.declared.docket.Case.{Case}
 use Rattle.conflict_desk.specs.declared.docket.Docket.{Docket}
@@ -101,7 +102,7 @@ module _ (s : Standing) (visit : ℕ) where
     inserted (e ∷ books) found = inserted_by e books (bytes_eq key e.0) refl found (λ below. inserted books below)
 
   module _ (over : StaysOver s) (client : List ℕ) where
-    module _ (books : List (List ℕ × Book)) (all : AllByRecursion (λ entry. Goes entry.1) books) (call : Call) where
+    module _ (books : List (List ℕ × Book)) (all : AllByRecursion (λ entry. Goes entry.1) books) (call : Decision) where
       by_test : (book : Book) → book_of call.client books ≡ Some book → (b : Bool) → is_front call.visit (front_visit book) ≡ b
           → Stays s visit (book_of client books) (book_of client (unless_refused (cond b None (Some (NotFront (front_visit book)))) (insert_entry bytes_eq books call.client (with_decision call.visit call.choice book)) books))
       by_test book is true front =
@@ -115,17 +116,17 @@ module _ (s : Standing) (visit : ℕ) where
       by_book None is = λ same. same
       by_book (Some book) is = by_test book is (is_front call.visit (front_visit book)) refl
 
-    calls_stay : (calls : List Call) (books : List (List ℕ × Book)) → AllByRecursion (λ entry. Goes entry.1) books → Stays s visit (book_of client books) (book_of client (after_calls books calls))
+    calls_stay : (calls : List Decision) (books : List (List ℕ × Book)) → AllByRecursion (λ entry. Goes entry.1) books → Stays s visit (book_of client books) (book_of client (after_calls books calls))
     calls_stay [] books all stands = stands
     calls_stay (call ∷ calls) books all stands =
         calls_stay calls (after_call books call) (all_call books all call) (by_book books all call (book_of call.client books) refl stands)
 
--- whatever calls are made on opened dockets, and whatever further ones
-pub all_stay : (dockets : List Docket) → AllByRecursion (λ docket. AreAscending docket.cases) dockets → (calls more : List Call)
-    → StayAsTheyLeft (after_calls (opened_all dockets) calls) (after_calls (after_calls (opened_all dockets) calls) more)
+-- whatever calls are made on new_book dockets, and whatever further ones
+pub all_stay : (dockets : List Docket) → AllByRecursion (λ docket. AreAscending docket.cases) dockets → (calls more : List Decision)
+    → StayAsTheyLeft (after_calls (new_books dockets) calls) (after_calls (after_calls (new_books dockets) calls) more)
 all_stay dockets up calls more =
-    let books = after_calls (opened_all dockets) calls in
-    let all = all_calls calls (opened_all dockets) (all_opened dockets up) in
+    let books = after_calls (new_books dockets) calls in
+    let all = all_calls calls (new_books dockets) (all_opened dockets up) in
     record {
       kept = λ client visit. calls_stay standing.Kept visit kept_stays client more books all;
       cancelled = λ client visit. calls_stay standing.Cancelled visit cancelled_stays client more books all;

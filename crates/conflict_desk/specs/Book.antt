@@ -5,7 +5,7 @@ use Rattle.std.specs.Option.{option_map_or}
 use Rattle.visit_replay.specs.declared.outcome.Outcome.{Outcome}
 use Rattle.visit_replay.specs.declared.outcome.Outcome.TheVariants as outcome
 use Rattle.visit_replay.specs.declared.requests.Request.{Request}
-use Rattle.conflict_desk.specs.Docket.{parent_of, is_conflict, requests_in}
+use Rattle.conflict_desk.specs.Docket.{case_of_visit, parent_of, is_conflict, requests_in}
 use Rattle.conflict_desk.specs.declared.docket.Case.{Case}
 use Rattle.conflict_desk.specs.declared.decided.Choice.{Choice}
 use Rattle.conflict_desk.specs.declared.decided.Choice.TheVariants.{Cancel, Keep}
@@ -18,8 +18,9 @@ pub record Book : Type 0 where
   pub cases : List Case
   pub decisions : List Decided
 
-abbrev pub opened : List Case → Book
-opened cases = record { cases = cases; decisions = [] }
+-- with nothing decided yet
+abbrev pub new_book : List Case → Book
+new_book cases = record { cases = cases; decisions = [] }
 
 -- ---- what was decided
 
@@ -60,7 +61,8 @@ abbrev pub front_visit : Book → Option ℕ
 front_visit book = option_map (λ case. case.visit) (find (waits book) book.cases)
 
 abbrev pub with_decision : ℕ → Choice → Book → Book
-with_decision visit choice book = record book { decisions = book.decisions ++ record { visit = visit; choice = choice } ∷ [] }
+with_decision visit choice book =
+    record book { decisions = book.decisions ++ record { visit = visit; choice = choice } ∷ [] }
 
 -- ---- how a visit stands
 
@@ -70,8 +72,14 @@ standing_by (outcome.Done requests) decided = standing.Done
 standing_by (outcome.Conflict requests at kind) decided = if decided then standing.Kept else standing.Waiting
 
 abbrev pub standing_in : Book → Case → Standing
-standing_in book case = if is_cancelled book case then standing.Cancelled else standing_by case.outcome (is_decided book.decisions case.visit)
+standing_in book case =
+    if is_cancelled book case then standing.Cancelled
+    else standing_by case.outcome (is_decided book.decisions case.visit)
 
 -- those of its outcome, and none of a cancelled visit
 abbrev pub standing_requests : Book → Case → List Request
 standing_requests book case = if is_cancelled book case then [] else requests_in case.outcome
+
+-- what is said of the case of that visit, where the docket has it
+abbrev pub at_visit : {T : Type 0} → (Book → Case → T) → Book → ℕ → Option T
+at_visit f book visit = option_map (f book) (case_of_visit book.cases visit)

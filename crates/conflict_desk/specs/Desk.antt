@@ -1,16 +1,17 @@
 -- What a desk answers and what a decision does: this project's own rule.
-use Rattle.std.specs.Prelude.{ℕ, List, Bool, false, ◌==◌, if◌then◌else◌, bytes_eq, map, fold, Option, Some, None, option_map, option_and_then, Result, Ok, Err}
+use Rattle.std.specs.Prelude.{ℕ, List, Bool, false, ◌==◌, if◌then◌else◌, bytes_eq, map, fold, Option, Some, None, option_and_then, Result, Ok, Err}
 use Rattle.std.specs.Option.{option_map_or}
 use Rattle.std.specs.List.{IsDistinct, AllByRecursion}
 use Rattle.std.specs.Map.{lookup}
 use Rattle.indexmap.specs.IndexMap.{insert_entry}
 use Rattle.visit_replay.specs.declared.outcome.Outcome.{Outcome}
 use Rattle.visit_replay.specs.declared.requests.Request.{Request}
-use Rattle.conflict_desk.specs.Docket.{AreAscending, case_of_visit}
-use Rattle.conflict_desk.specs.Book.{Book, opened, front_visit, with_decision, standing_in, standing_requests}
+use Rattle.conflict_desk.specs.Docket.{AreAscending}
+use Rattle.conflict_desk.specs.Book.{Book, new_book, at_visit, front_visit, with_decision, standing_in, standing_requests}
 use Rattle.conflict_desk.specs.declared.docket.Case.{Case}
 use Rattle.conflict_desk.specs.declared.docket.Docket.{Docket}
 use Rattle.conflict_desk.specs.declared.decided.Choice.{Choice}
+use Rattle.conflict_desk.specs.declared.decision.Decision.{Decision}
 use Rattle.conflict_desk.specs.declared.decided.Standing.{Standing}
 use Rattle.conflict_desk.specs.declared.fault.DeskFault.{DeskFault}
 use Rattle.conflict_desk.specs.declared.fault.DeskFault.TheVariants.{NoClient, NotFront}
@@ -26,8 +27,8 @@ pub record AreDockets (dockets : List Docket) : Type 0 where
   pub visits : AllByRecursion (λ docket. AreAscending docket.cases) dockets
 
 -- nothing is decided yet
-abbrev pub opened_all : List Docket → Books
-opened_all dockets = map (λ docket. (docket.client, opened docket.cases)) dockets
+abbrev pub new_books : List Docket → Books
+new_books dockets = map (λ docket. (docket.client, new_book docket.cases)) dockets
 
 -- ---- what it answers
 
@@ -39,7 +40,7 @@ abbrev pub front_on : List ℕ → Books → Result (Option ℕ) DeskFault
 front_on client books = option_map_or (λ book. Ok (front_visit book)) (book_of client books) (Err NoClient)
 
 abbrev pub by_case : {T : Type 0} → (Book → Case → T) → List ℕ → ℕ → Books → Option T
-by_case f client visit books = option_and_then (λ book. option_map (f book) (case_of_visit book.cases visit)) (book_of client books)
+by_case f client visit books = option_and_then (λ book. at_visit f book visit) (book_of client books)
 
 abbrev pub standing_on : List ℕ → ℕ → Books → Option Standing
 standing_on client visit books = by_case standing_in client visit books
@@ -74,18 +75,14 @@ decided_on client visit choice books = decided_in client visit choice books (boo
 
 -- ---- any calls
 
--- a call of `decide`
-pub record Call : Type 0 where
-  pub client : List ℕ
-  pub visit : ℕ
-  pub choice : Choice
-
 abbrev pub unless_refused : Option DeskFault → Books → Books → Books
 unless_refused None new old = new
 unless_refused (Some fault) new old = old
 
-abbrev pub after_call : Books → Call → Books
-after_call books call = unless_refused (refusal call.client call.visit books) (decided_on call.client call.visit call.choice books) books
+abbrev pub after_call : Books → Decision → Books
+after_call books call =
+    let new = decided_on call.client call.visit call.choice books in
+    unless_refused (refusal call.client call.visit books) new books
 
-abbrev pub after_calls : Books → List Call → Books
+abbrev pub after_calls : Books → List Decision → Books
 after_calls books calls = fold after_call books calls

@@ -15,9 +15,11 @@ AreAscending cases = IsStrictlyIncreasing (map (λ case. case.visit) cases)
 abbrev pub case_of_visit : List Case → ℕ → Option Case
 case_of_visit cases visit = find (λ case. case.visit == visit) cases
 
--- The visit that opened a visit: that of the number `parent`, where this isn't 0 and is below its own number. So it stands before it in the docket.
+-- The visit that opened a visit: that of the number `parent`, where this isn't 0 and is below its own number. So it
+-- stands before it in the docket.
 abbrev pub parent_of : List Case → Case → Option Case
-parent_of cases case = if nat_lt 0 case.parent && nat_lt case.parent case.visit then case_of_visit cases case.parent else None
+parent_of cases case =
+    if nat_lt 0 case.parent && nat_lt case.parent case.visit then case_of_visit cases case.parent else None
 
 abbrev pub is_conflict : Outcome → Bool
 is_conflict Untouched = false

@@ -1,12 +1,14 @@
 -- What holds of every book on a desk, whatever calls were made.
-use Rattle.std.specs.Prelude.{◌≡◌, ℕ, List, map, true, None, Some, ◌⊎◌}
+use Rattle.std.specs.Prelude.{◌≡◌, ◌↔◌, ℕ, List, map, true, Option, None, Some, ◌⊎◌}
 use Rattle.std.specs.List.{AllByRecursion}
 use Rattle.std.specs.List.Sorted.{IsStrictlyIncreasing}
 use Rattle.conflict_desk.specs.Docket.{case_of_visit, parent_of, is_conflict}
 use Rattle.conflict_desk.specs.Book.{Book, is_decided, was_cancelled, front_visit}
-use Rattle.conflict_desk.specs.Desk.{Books, standing_on}
+use Rattle.conflict_desk.specs.Desk.{Books, book_of, standing_on, after_calls}
+use Rattle.conflict_desk.specs.declared.decision.Decision.{Decision}
 use Rattle.conflict_desk.specs.declared.docket.Case.{Case}
 use Rattle.conflict_desk.specs.declared.decided.Decided.{Decided}
+use Rattle.conflict_desk.specs.declared.decided.Standing.{Standing}
 use Rattle.conflict_desk.specs.declared.decided.Standing.TheVariants.{Kept, Cancelled}
 
 -- ---- the chain of parents
@@ -14,7 +16,8 @@ use Rattle.conflict_desk.specs.declared.decided.Standing.TheVariants.{Kept, Canc
 -- that visit is this case's own, or its parent's, or the parent's of that, and so on
 pub data IsOnChain (cases : List Case) (visit : ℕ) : Case → Type 0 where
   itself : (case : Case) → case.visit ≡ visit → IsOnChain cases visit case
-  above : (case parent : Case) → parent_of cases case ≡ Some parent → IsOnChain cases visit parent → IsOnChain cases visit case
+  above : (case parent : Case) → parent_of cases case ≡ Some parent
+      → IsOnChain cases visit parent → IsOnChain cases visit case
 
 -- it, or a visit on its chain of parents, was cancelled by a decision
 abbrev pub IsBelowCancelled : Book → Case → Type 0
@@ -29,14 +32,17 @@ pub record IsConflictOf (cases : List Case) (decided : Decided) : Type 0 where
 
 -- no visit above the decided one on its chain of parents was cancelled by a decision, be it an earlier or a later one
 abbrev pub IsSpared : Book → Decided → Type 0
-IsSpared book decided = (case parent : Case) → case_of_visit book.cases decided.visit ≡ Some case → parent_of book.cases case ≡ Some parent → ¬ IsBelowCancelled book parent
+IsSpared book decided =
+    (case parent : Case) → case_of_visit book.cases decided.visit ≡ Some case
+    → parent_of book.cases case ≡ Some parent → ¬ IsBelowCancelled book parent
 
 -- a conflict that left: it was decided, or a visit above it was cancelled
 abbrev pub HasLeft : Book → Case → Type 0
-HasLeft book case = is_conflict case.outcome ≡ true → (is_decided book.decisions case.visit ≡ true) ⊎ IsBelowCancelled book case
+HasLeft book case =
+    is_conflict case.outcome ≡ true → (is_decided book.decisions case.visit ≡ true) ⊎ IsBelowCancelled book case
 
--- The visits that were decided ascend, so none was decided twice; each is a conflict, and none is below a cancelled visit; and where no front is left, every
--- conflict has left.
+-- The visits that were decided ascend, so none was decided twice; each is a conflict, and none is below a cancelled
+-- visit; and where no front is left, every conflict has left.
 pub record LeaveInOrder (book : Book) : Type 0 where
   pub ascend : IsStrictlyIncreasing (map (λ decided. decided.visit) book.decisions)
   pub conflicts : AllByRecursion (IsConflictOf book.cases) book.decisions
@@ -50,5 +56,24 @@ AllLeaveInOrder books = AllByRecursion (λ entry. LeaveInOrder entry.1) books
 
 -- A conflict that left stands kept or cancelled. A visit that stands so before some calls stands so after them.
 pub record StayAsTheyLeft (before after : Books) : Type 0 where
-  pub kept : (client : List ℕ) (visit : ℕ) → standing_on client visit before ≡ Some Kept → standing_on client visit after ≡ Some Kept
-  pub cancelled : (client : List ℕ) (visit : ℕ) → standing_on client visit before ≡ Some Cancelled → standing_on client visit after ≡ Some Cancelled
+  pub kept : (client : List ℕ) (visit : ℕ)
+      → standing_on client visit before ≡ Some Kept → standing_on client visit after ≡ Some Kept
+  pub cancelled : (client : List ℕ) (visit : ℕ)
+      → standing_on client visit before ≡ Some Cancelled → standing_on client visit after ≡ Some Cancelled
+
+-- ---- of every desk
+
+-- whatever calls follow, each client's conflicts are decided in order, none twice, and none below a cancelled visit
+abbrev pub IsInOrder : Books → Type 0
+IsInOrder books = (calls : List Decision) → AllLeaveInOrder (after_calls books calls)
+
+-- and a visit that stands kept or cancelled after some calls stands so after any more
+abbrev pub IsSteady : Books → Type 0
+IsSteady books =
+    (calls more : List Decision) → StayAsTheyLeft (after_calls books calls) (after_calls (after_calls books calls) more)
+
+-- a visit stands cancelled exactly where it, or a visit on its chain of parents, was cancelled by a decision
+abbrev pub TellsCancelled : List ℕ → ℕ → Books → Option Standing → Type 0
+TellsCancelled client visit books standing =
+    (book : Book) (case : Case) → book_of client books ≡ Some book → case_of_visit book.cases visit ≡ Some case
+    → (standing ≡ Some Cancelled) ↔ IsBelowCancelled book case

@@ -10,7 +10,7 @@ pub enum Choice {
     Keep,
 }
 
-/// A decision on the visit of that number.
+/// What a docket keeps of a decision on its visit of that number.
 #[derive(Clone, Copy, Debug, PartialEq, Eq)]
 pub struct Decided {
     pub visit: u64,

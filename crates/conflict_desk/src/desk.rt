@@ -1,13 +1,11 @@
 //! A desk with the dockets of several clients.
-ghost use Rattle.std.specs.Prelude.{ℕ, ◌≡◌, ◌≢◌, ◌<◌, ◌+◌, ◌≤◌, List, length, option_map, Option, Some, None, bytes_eq, ◌↔◌, slice_get, IfOk, IfErr, IfSome, OnOk};
-ghost use Rattle.indexmap.specs.IndexMap.{values, spare, insert_entry, set_value_at};
-ghost use Rattle.conflict_desk.specs.Book.{Book, front_visit, with_decision};
-ghost use Rattle.conflict_desk.specs.Desk.{AreDockets, opened_all, book_of, standing_on, outcome_on, requests_on, refusal, front_on, decided_on, Call, after_calls};
-ghost use Rattle.conflict_desk.specs.Laws.{AllLeaveInOrder, StayAsTheyLeft, IsBelowCancelled};
-ghost use Rattle.conflict_desk.specs.Docket.{AreAscending, case_of_visit};
-ghost use Rattle.conflict_desk.specs.declared.docket.Case.{Case as OneCase};
-ghost use Rattle.conflict_desk.specs.declared.decided.Standing.TheVariants.{Cancelled};
-ghost use Rattle.conflict_desk.specs.declared.fault.DeskFault.TheVariants.{NotFront, NoMemory};
+ghost use Rattle.std.specs.Prelude.{◌≡◌, ◌<◌, ◌+◌, ◌≤◌, length, option_map, Some, None, bytes_eq, IfOk, IfErr, IfSome, OnOk};
+ghost use Rattle.indexmap.specs.IndexMap.{spare, insert_entry};
+ghost use Rattle.conflict_desk.specs.Desk.{AreDockets, new_books, book_of, standing_on, outcome_on, requests_on, refusal, front_on, decided_on};
+ghost use Rattle.conflict_desk.specs.Laws.{IsInOrder, IsSteady, TellsCancelled};
+ghost use Rattle.conflict_desk.specs.Docket.{AreAscending};
+ghost use Rattle.conflict_desk.specs.inside.Deciding.{DecidesAt};
+ghost use Rattle.conflict_desk.specs.declared.fault.DeskFault.TheVariants.{NoMemory};
 
 use crate::decided::{Choice, Standing};
 use crate::docket::{Case, Docket};
@@ -39,14 +37,14 @@ impl Desk {
     /// refused; the dockets are gone then.
     pub fn open(alloc: Global, dockets: Vec<Docket>) -> Result<Desk, DeskFault>
         requires { AreDockets dockets.items }
-        ensures opened { IfOk result (λ desk. desk ≡ opened_all dockets.items) }
+        ensures opened { IfOk result (λ desk. desk ≡ new_books dockets.items) }
         ensures refused { IfErr result (λ fault. fault ≡ NoMemory) }
 
         // Whatever calls follow, each client's conflicts are decided in order, none twice, and none below a cancelled visit.
-        ensures leave { IfOk result (λ desk. (calls : List Call) → AllLeaveInOrder (after_calls desk calls)) }
+        ensures leave { IfOk result IsInOrder }
 
         // And a visit that stands kept or cancelled after some calls stands so after any more.
-        ensures stay { IfOk result (λ desk. (calls more : List Call) → StayAsTheyLeft (after_calls desk calls) (after_calls (after_calls desk calls) more)) }
+        ensures stay { IfOk result IsSteady }
     {
         let mut open = IndexMap::new(alloc);
         open.reserve(dockets.len())?;
@@ -85,7 +83,7 @@ impl Desk {
         ensures standing { result ≡ standing_on client.now visit self.now }
 
         // A visit stands cancelled exactly where it, or a visit on its chain of parents, was cancelled by a decision.
-        ensures chain { (book : Book) (case : OneCase) → book_of client.now self.now ≡ Some book → case_of_visit book.cases visit ≡ Some case → (result ≡ Some Cancelled) ↔ IsBelowCancelled book case }
+        ensures chain { TellsCancelled client.now visit self.now result }
     {
         self.dockets.get(client)?.standing(visit)
     }
@@ -103,6 +101,13 @@ impl Desk {
         ensures { option_map (λ requests. requests.now) result ≡ requests_on client.now visit self.now }
     {
         self.dockets.get(client)?.requests(visit)
+    }
+
+    /// A client's docket, with each of its cases and how it stands, by place.
+    pub fn docket(&self, client: &Client) -> Option<&OpenDocket>
+        ensures { option_map (λ docket. docket.now) result ≡ book_of client.now self.now }
+    {
+        self.dockets.get(client)
     }
 
     /// A client's cases, as they were opened.
@@ -131,9 +136,7 @@ fn decide_at(
     choice: Choice,
 ) -> Result<(), DeskFault>
     requires { place < length dockets.old.entries }
-    ensures front { (book : Book) → slice_get (values dockets.old) place ≡ Some book → OnOk result (front_visit book ≡ Some visit) }
-    ensures decided { (book : Book) → slice_get (values dockets.old) place ≡ Some book → OnOk result (dockets.new.entries ≡ set_value_at dockets.old.entries place (with_decision visit choice book)) }
-    ensures refused { (book : Book) → slice_get (values dockets.old) place ≡ Some book → IfErr result (λ fault. (fault ≡ NotFront (front_visit book)) × (front_visit book ≢ Some visit) × (dockets.new.entries ≡ dockets.old.entries)) }
+    ensures { DecidesAt dockets.old.entries dockets.new.entries place visit choice result }
 {
     match dockets.get_index_mut(place) {
         Some(docket) => docket.decide(visit, choice),

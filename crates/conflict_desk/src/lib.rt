@@ -12,6 +12,7 @@
 #![tactic(auto)]
 
 mod decided;
+mod decision;
 mod desk;
 mod docket;
 mod fault;
@@ -19,6 +20,8 @@ mod links;
 mod open_docket;
 
 pub use decided::{Choice, Standing};
+pub use decision::Decision;
 pub use desk::Desk;
 pub use docket::{Case, Cases, Docket, are_dockets};
 pub use fault::DeskFault;
+pub use open_docket::OpenDocket;

@@ -1,15 +1,12 @@
 //! A docket on the desk.
-ghost use Rattle.std.specs.Prelude.{ℕ, ◌≡◌, ◌≢◌, ◌+◌, ◌≤◌, ◌<◌, Bool, List, length, slice_get, Some, false, option_map, IfSome, IfOk, IfErr, OnOk};
-ghost use Rattle.std.specs.Option.{option_map_or};
-ghost use Rattle.std.specs.List.{slice_index_or};
+ghost use Rattle.std.specs.Prelude.{◌≡◌, ◌≤◌, ◌<◌, length, slice_get, Some, option_map, IfOk, IfErr, OnOk};
 ghost use Rattle.conflict_desk.specs.declared.links.Link.{Link as Linked};
 ghost use Rattle.conflict_desk.specs.Docket.{AreAscending, case_of_visit};
-ghost use Rattle.conflict_desk.specs.Book.{opened, is_cancel, is_cancelled, front_visit, with_decision, standing_by, standing_in, standing_requests};
+ghost use Rattle.conflict_desk.specs.Book.{new_book, at_visit, is_cancel, is_cancelled, front_visit, with_decision, standing_by, standing_in, standing_requests};
 ghost use Rattle.conflict_desk.specs.declared.docket.Case.{Case as OneCase};
-ghost use Rattle.conflict_desk.specs.Laws.{LeaveInOrder};
-ghost use Rattle.conflict_desk.specs.declared.fault.DeskFault.TheVariants.{NotFront};
-ghost use Rattle.conflict_desk.specs.inside.Links.{AreLinks, Follows};
-ghost use Rattle.conflict_desk.specs.inside.Settling.{Tell, IsSettled};
+ghost use Rattle.conflict_desk.specs.inside.Deciding.{IsRefusal};
+ghost use Rattle.conflict_desk.specs.inside.Links.{AreLinks, IsParentBelow, flag_above};
+ghost use Rattle.conflict_desk.specs.inside.Settling.{Settles};
 
 use crate::decided::{Choice, Decided, Standing};
 use crate::docket::{Case, Cases, place_of};
@@ -20,9 +17,10 @@ use std::alloc::Global;
 use std::marker::Model;
 use visit_replay::{Outcome, Request};
 
-/// A client's docket with the decisions made on it. Contracts see it as a book.
+/// A client's docket with the decisions made on it. Contracts see it as a book. Its cases stand in the order of their visits' numbers, and by a case's
+/// place among them it tells how it stands.
 #[derive(Drop)]
-pub(crate) struct OpenDocket {
+pub struct OpenDocket {
     cases: Cases,
     // with room for a decision on each case
     decisions: Vec<Decided>,
@@ -49,7 +47,7 @@ impl OpenDocket {
     /// With nothing decided yet.
     pub(crate) fn open(alloc: Global, cases: Cases) -> Result<OpenDocket, NoMemory>
         requires { AreAscending cases }
-        ensures { IfOk result (λ book. book ≡ opened cases) }
+        ensures { IfOk result (λ book. book ≡ new_book cases) }
     {
         let count = cases.as_slice().len();
         let links = links_of(alloc, cases.as_slice())?;
@@ -65,7 +63,8 @@ impl OpenDocket {
         })
     }
 
-    pub(crate) fn cases(&self) -> &[Case]
+    /// The cases, as they were opened.
+    pub fn cases(&self) -> &[Case]
         ensures cases { result.now ≡ self.now.cases }
         ensures ascend { AreAscending result.now }
     {
@@ -84,11 +83,11 @@ impl OpenDocket {
         }
     }
 
-    /// Decides the front. Another visit is refused, with the front.
+    /// Decides the front. C2 with the front for any other visit.
     pub(crate) fn decide(&mut self, visit: u64, choice: Choice) -> Result<(), DeskFault>
         ensures front { OnOk result (front_visit self.old ≡ Some visit) }
         ensures decided { OnOk result (self.new ≡ with_decision visit choice self.old) }
-        ensures refused { IfErr result (λ fault. (fault ≡ NotFront (front_visit self.old)) × (front_visit self.old ≢ Some visit) × (self.new ≡ self.old)) }
+        ensures refused { IfErr result (λ fault. IsRefusal self.old visit fault × (self.new ≡ self.old)) }
     {
         let next = self.next;
         if next >= self.cases.as_slice().len() {
@@ -111,7 +110,7 @@ impl OpenDocket {
 
     /// How the visit of that number stands.
     pub(crate) fn standing(&self, visit: u64) -> Option<Standing>
-        ensures { result ≡ option_map (standing_in self.now) (case_of_visit self.now.cases visit) }
+        ensures { result ≡ at_visit standing_in self.now visit }
     {
         let place = place_of(self.cases.as_slice(), visit)?;
         Some(self.standing_at(place))
@@ -127,7 +126,7 @@ impl OpenDocket {
 
     /// The requests of the visit of that number: none where it is cancelled.
     pub(crate) fn requests(&self, visit: u64) -> Option<&[Request]>
-        ensures { option_map (λ requests. requests.now) result ≡ option_map (standing_requests self.now) (case_of_visit self.now.cases visit) }
+        ensures { option_map (λ requests. requests.now) result ≡ at_visit standing_requests self.now visit }
     {
         let place = place_of(self.cases.as_slice(), visit)?;
         Some(self.requests_at(place))
@@ -145,7 +144,8 @@ impl OpenDocket {
         )
     }
 
-    fn standing_at(&self, place: usize) -> Standing
+    /// How the visit of the case at that place stands.
+    pub fn standing_at(&self, place: usize) -> Standing
         requires { place < length self.now.cases }
         ensures { (case : OneCase) → slice_get self.now.cases place ≡ Some case → result ≡ standing_in self.now case }
     {
@@ -155,7 +155,8 @@ impl OpenDocket {
         standing_by(&self.cases.as_slice()[place].outcome, place < self.next)
     }
 
-    fn requests_at(&self, place: usize) -> &[Request]
+    /// The requests of the visit of the case at that place: none where it is cancelled.
+    pub fn requests_at(&self, place: usize) -> &[Request]
         requires { place < length self.now.cases }
         ensures { (case : OneCase) → slice_get self.now.cases place ≡ Some case → result.now ≡ standing_requests self.now case }
     {
@@ -200,7 +201,7 @@ fn settle(cases: &[Case], links: &[Link], gone: &mut [bool], from: usize) -> usi
     requires from { from ≤ length cases.now }
     ensures from { from ≤ result }
     ensures within { result ≤ length cases.now }
-    ensures settled { (said : ℕ → Bool) → Follows from links.now said → Tell said from gone.old → IsSettled said cases.now from result gone.new }
+    ensures settled { Settles cases.now links.now gone.old from result gone.new }
 {
     let mut place = from;
     while place < cases.len() {
@@ -216,8 +217,8 @@ fn settle(cases: &[Case], links: &[Link], gone: &mut [bool], from: usize) -> usi
 // Whether the visit at that place has a parent that is marked.
 fn is_below_gone(links: &[Link], gone: &[bool], place: usize) -> bool
     requires place { place < length links.now }
-    requires parent { (link : Linked) → slice_get links.now place ≡ Some link → IfSome link.parent (λ parent. parent < length gone.now) }
-    ensures { (link : Linked) → slice_get links.now place ≡ Some link → result ≡ option_map_or (λ parent. slice_index_or gone.now parent false) link.parent false }
+    requires parent { (link : Linked) → slice_get links.now place ≡ Some link → IsParentBelow (length gone.now) link }
+    ensures { (link : Linked) → slice_get links.now place ≡ Some link → result ≡ flag_above gone.now link }
 {
     match links[place].parent {
         Some(parent) => gone[parent],

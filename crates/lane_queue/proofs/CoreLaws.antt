@@ -3,7 +3,7 @@ use Rattle.std.proofs.Common.{◌≡◌, ℕ, suc, ◌+◌, ◌<◌, ◌≤◌, 
 use Rattle.std.proofs.lemmas.Bool.Decides.{eqb_tells, Decides-ltb}
 use Rattle.std.proofs.lemmas.List.{get_or-set_same, get_or-set_other, length-set, length-replicate, get_or-replicate, take-append-drop}
 use Rattle.lane_queue.specs.declared.item.Item.{Item}
-use Rattle.lane_queue.specs.Items.{of_lane, has_last, IsLane}
+use Rattle.lane_queue.specs.Items.{of_lane, has_last, AreNumbered}
 use Rattle.lane_queue.specs.Core.{Machine, may_put, IsFifo, HasWhole}
 use Rattle.lane_queue.specs.inside.Core.{machine_of, IsMachine}
 use Rattle.lane_queue.proofs.Lists.{of_append, of_one, of_other, of_more, of_same}
@@ -45,8 +45,8 @@ put_one items taken counts over x is there number open_ = record {
     | inl same ↦
         let n : x.number ≡ length (of_lane lane items) = number ∙ ap (λ k. length (of_lane k items)) same.1 in
         let o : has_last (of_lane lane items) ≡ false = ap (λ k. has_last (of_lane k items)) (sym same.1) ∙ open_ in
-        subst IsLane (sym (of_more lane items x same.1)) (one_put (of_lane lane items) x (is.lanes lane) n o)
-    | inr other ↦ subst IsLane (sym (of_same lane items x other.1)) (is.lanes lane)
+        subst AreNumbered (sym (of_more lane items x same.1)) (one_put (of_lane lane items) x (is.lanes lane) n o)
+    | inr other ↦ subst AreNumbered (sym (of_same lane items x other.1)) (is.lanes lane)
   ];
   long = length-set over x.lane x.last ∙ is.long ∙ sym (length-set counts x.lane (x.number + 1));
   counted = λ lane less. elim (eqb_tells lane x.lane) [

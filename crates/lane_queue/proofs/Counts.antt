@@ -6,12 +6,13 @@ use Rattle.std.proofs.lemmas.List.Elements.{All-push}
 use Rattle.std.specs.List.{range_with_len}
 use Rattle.crossbeam_queue.specs.Passes.{Pass, view}
 use Rattle.lane_queue.specs.declared.item.Item.{Item}
-use Rattle.lane_queue.specs.declared.view.View.{View}
+use Rattle.lane_queue.specs.declared.view.QueueView.{QueueView}
 use Rattle.lane_queue.specs.Items.{of_lane, has_last}
 use Rattle.lane_queue.specs.Answers.{AreEnded}
-use Rattle.lane_queue.specs.Opened.{fresh_taker, fresh_putter, ArePutters, IsFreshOf}
-use Rattle.lane_queue.specs.Queue.{Queue, IsOf}
-use Rattle.lane_queue.specs.Rule.{with_put, with_putter, Takes}
+use Rattle.lane_queue.specs.Opened.{fresh_taker, fresh_putter, ArePutters, IsNewPutterOf}
+use Rattle.lane_queue.specs.Queue.{Queue, IsPassOf}
+use Rattle.lane_queue.specs.Rule.{with_put, TakesItem}
+use Rattle.lane_queue.specs.inside.Passes.{with_putter}
 use Rattle.lane_queue.specs.inside.Passes.{IsPutter, IsTaker, running_lanes}
 use Rattle.lane_queue.proofs.Lists.{of_more, of_same}
 
@@ -39,16 +40,16 @@ module _ {T : Type 0} where
       by false rest none = rest none
 
   -- a putter that put an item more
-  pub put_more : (old new : Pass (Item T) (View T)) (lane next : ℕ) (over : Bool) (x : Item T) → IsPutter old lane next over → has_last (view old).put ≡ false
+  pub put_more : (old new : Pass (Item T) (QueueView T)) (lane next : ℕ) (over : Bool) (x : Item T) → IsPutter old lane next over → has_last (view old).put ≡ false
       → view new ≡ with_put (view old) x → new.me.1 ≡ old.me.1 → IsPutter new lane (next + 1) x.last
   put_more old new lane next over x is open_ put whole = record {
     whole = whole ∙ is.whole;
-    puts = ap (λ (v : View T). v.puts) put ∙ is.puts;
-    lane_is = is.lane_is ∙ ap (λ (v : View T). v.lane) (sym put);
+    puts = ap (λ (v : QueueView T). v.puts) put ∙ is.puts;
+    lane_is = is.lane_is ∙ ap (λ (v : QueueView T). v.lane) (sym put);
     next_is =
-        let more : length (view new).put ≡ length ((view old).put ++ x ∷ []) = ap (λ (v : View T). length v.put) put in
+        let more : length (view new).put ≡ length ((view old).put ++ x ∷ []) = ap (λ (v : QueueView T). length v.put) put in
         omega (arith, is.next_is, more, length-append (view old).put (x ∷ []));
-    over_is = sym (last_more (view old).put x open_) ∙ ap (λ (v : View T). has_last v.put) (sym put);
+    over_is = sym (last_more (view old).put x open_) ∙ ap (λ (v : QueueView T). has_last v.put) (sym put);
   }
 
   -- ---- the taker
@@ -122,10 +123,10 @@ module _ {T : Type 0} where
 
   -- ---- what the taker answers
 
-  pub ended : (pass : Pass (Item T) (View T)) (counts : List ℕ) (running : ℕ) → IsTaker pass counts running → running ≡ 0 → AreEnded (view pass)
+  pub ended : (pass : Pass (Item T) (QueueView T)) (counts : List ℕ) (running : ℕ) → IsTaker pass counts running → running ≡ 0 → AreEnded (view pass)
   ended pass counts running is none = running_zero (view pass).got (view pass).made (sym is.running_is ∙ none)
 
-  pub unended : (pass : Pass (Item T) (View T)) (counts : List ℕ) (running : ℕ) → IsTaker pass counts running → running ≢ 0 → ¬ AreEnded (view pass)
+  pub unended : (pass : Pass (Item T) (QueueView T)) (counts : List ℕ) (running : ℕ) → IsTaker pass counts running → running ≢ 0 → ¬ AreEnded (view pass)
   unended pass counts running is some all = some (is.running_is ∙ running_some (view pass).got (view pass).made all)
 
   -- ---- an item that was taken
@@ -143,25 +144,25 @@ module _ {T : Type 0} where
         ∙ ap length (sym (of_same lane got x (λ e. other.1 (sym e))))
   ]
 
-  took_any : (old new : Pass (Item T) (View T)) (counts : List ℕ) (running next : ℕ) (x : Item T) → IsTaker old counts running → Takes (view old) x (view new)
+  took_any : (old new : Pass (Item T) (QueueView T)) (counts : List ℕ) (running next : ℕ) (x : Item T) → IsTaker old counts running → TakesItem (view old) x (view new)
       → new.me.1 ≡ old.me.1 → next ≡ running_lanes ((view old).got ++ x ∷ []) (view old).made → IsTaker new (set counts x.lane (get_or counts x.lane 0 + 1)) next
   took_any old new counts running next x is takes whole runs = record {
     whole = whole ∙ is.whole;
-    takes = ap (λ (v : View T). v.takes) takes.after ∙ is.takes;
-    long = length-set counts x.lane (get_or counts x.lane 0 + 1) ∙ is.long ∙ ap (λ (v : View T). v.made) (sym takes.after);
+    takes = ap (λ (v : QueueView T). v.takes) takes.after ∙ is.takes;
+    long = length-set counts x.lane (get_or counts x.lane 0 + 1) ∙ is.long ∙ ap (λ (v : QueueView T). v.made) (sym takes.after);
     counted = λ lane less.
-        let got : (view new).got ≡ (view old).got ++ x ∷ [] = ap (λ (v : View T). v.got) takes.after in
-        let made : (view new).made ≡ (view old).made = ap (λ (v : View T). v.made) takes.after in
+        let got : (view new).got ≡ (view old).got ++ x ∷ [] = ap (λ (v : QueueView T). v.got) takes.after in
+        let made : (view new).made ≡ (view old).made = ap (λ (v : QueueView T). v.made) takes.after in
         counts_more (view old).got x counts (view old).made is.long takes.lane is.counted lane (omega (arith, less, made)) ∙ ap (λ l. length (of_lane lane l)) (sym got);
-    running_is = runs ∙ ap (λ (v : View T). running_lanes v.got v.made) (sym takes.after);
+    running_is = runs ∙ ap (λ (v : QueueView T). running_lanes v.got v.made) (sym takes.after);
   }
 
-  pub took : (old new : Pass (Item T) (View T)) (counts : List ℕ) (running : ℕ) (x : Item T) → IsTaker old counts running → Takes (view old) x (view new)
+  pub took : (old new : Pass (Item T) (QueueView T)) (counts : List ℕ) (running : ℕ) (x : Item T) → IsTaker old counts running → TakesItem (view old) x (view new)
       → new.me.1 ≡ old.me.1 → x.last ≡ false → IsTaker new (set counts x.lane (get_or counts x.lane 0 + 1)) running
   took old new counts running x is takes whole more =
       took_any old new counts running running x is takes whole (is.running_is ∙ sym (running_more (view old).got x (view old).made takes.unended more))
 
-  pub took_last : (old new : Pass (Item T) (View T)) (counts : List ℕ) (running : ℕ) (x : Item T) → IsTaker old counts running → Takes (view old) x (view new)
+  pub took_last : (old new : Pass (Item T) (QueueView T)) (counts : List ℕ) (running : ℕ) (x : Item T) → IsTaker old counts running → TakesItem (view old) x (view new)
       → new.me.1 ≡ old.me.1 → x.last ≡ true → IsTaker new (set counts x.lane (get_or counts x.lane 0 + 1)) (running - 1)
   took_last old new counts running x is takes whole last =
       let fewer : suc (running_lanes ((view old).got ++ x ∷ []) (view old).made) ≡ running_lanes (view old).got (view old).made =
@@ -170,42 +171,42 @@ module _ {T : Type 0} where
 
   -- ---- a putter that is taken in
 
-  pub joined : (old new : Pass (Item T) (View T)) (putter : View T) (counts : List ℕ) (running : ℕ) → IsTaker old counts running
+  pub joined : (old new : Pass (Item T) (QueueView T)) (putter : QueueView T) (counts : List ℕ) (running : ℕ) → IsTaker old counts running
       → view new ≡ with_putter (view old) putter → new.me.1 ≡ old.me.1 → IsTaker new counts running
   joined old new putter counts running is both whole = record {
     whole = whole ∙ is.whole;
-    takes = ap (λ (v : View T). v.takes) both ∙ is.takes;
-    long = is.long ∙ ap (λ (v : View T). v.made) (sym both);
+    takes = ap (λ (v : QueueView T). v.takes) both ∙ is.takes;
+    long = is.long ∙ ap (λ (v : QueueView T). v.made) (sym both);
     counted = λ lane less.
-        let got : (view new).got ≡ (view old).got = ap (λ (v : View T). v.got) both in
-        let made : (view new).made ≡ (view old).made = ap (λ (v : View T). v.made) both in
+        let got : (view new).got ≡ (view old).got = ap (λ (v : QueueView T). v.got) both in
+        let made : (view new).made ≡ (view old).made = ap (λ (v : QueueView T). v.made) both in
         is.counted lane (omega (arith, less, made)) ∙ ap (λ l. length (of_lane lane l)) (sym got);
-    running_is = is.running_is ∙ ap (λ (v : View T). running_lanes v.got v.made) (sym both);
+    running_is = is.running_is ∙ ap (λ (v : QueueView T). running_lanes v.got v.made) (sym both);
   }
 
   -- ---- a taker of lanes of which nothing was taken
 
-  pub fresh : (pass : Pass (Item T) (View T)) (lanes : ℕ) → pass.me.1 ≡ [] → view pass ≡ fresh_taker lanes → IsTaker pass (replicate lanes 0) lanes
+  pub fresh : (pass : Pass (Item T) (QueueView T)) (lanes : ℕ) → pass.me.1 ≡ [] → view pass ≡ fresh_taker lanes → IsTaker pass (replicate lanes 0) lanes
   fresh pass lanes whole is = record {
     whole = whole;
-    takes = ap (λ (v : View T). v.takes) is;
-    long = length-replicate lanes 0 ∙ ap (λ (v : View T). v.made) (sym is);
-    counted = λ lane less. get_or-replicate lanes lane 0 0 (omega (arith, less, ap (λ (v : View T). v.made) is)) ∙ ap (λ (v : View T). length (of_lane lane v.got)) (sym is);
-    running_is = sym (none_ended T lanes) ∙ ap (λ (v : View T). running_lanes v.got v.made) (sym is);
+    takes = ap (λ (v : QueueView T). v.takes) is;
+    long = length-replicate lanes 0 ∙ ap (λ (v : QueueView T). v.made) (sym is);
+    counted = λ lane less. get_or-replicate lanes lane 0 0 (omega (arith, less, ap (λ (v : QueueView T). v.made) is)) ∙ ap (λ (v : QueueView T). length (of_lane lane v.got)) (sym is);
+    running_is = sym (none_ended T lanes) ∙ ap (λ (v : QueueView T). running_lanes v.got v.made) (sym is);
   }
 
   -- a putter more
-  pub putter_more : (queue : Queue) (lanes : ℕ) (putters : List (Pass (Item T) (View T))) (p : Pass (Item T) (View T)) → ArePutters queue lanes putters
-      → IsOf queue p → view p ≡ fresh_putter lanes → ArePutters queue (lanes + 1) (putters ++ p ∷ [])
+  pub putter_more : (queue : Queue) (lanes : ℕ) (putters : List (Pass (Item T) (QueueView T))) (p : Pass (Item T) (QueueView T)) → ArePutters queue lanes putters
+      → IsPassOf queue p → view p ≡ fresh_putter lanes → ArePutters queue (lanes + 1) (putters ++ p ∷ [])
   putter_more queue lanes putters p are of_queue is =
       let one : lanes + 1 ≡ suc lanes = omega arith in
       let zeroth : 0 + lanes ≡ lanes = omega arith in
-      let fresh : ℕ → View T = fresh_putter in
+      let fresh : ℕ → QueueView T = fresh_putter in
       let more : range_with_len 0 (lanes + 1) ≡ range_with_len 0 lanes ++ lanes ∷ [] =
       ap (range_with_len 0) one ∙ range_more 0 lanes ∙ ap (λ k. range_with_len 0 lanes ++ k ∷ []) zeroth in
       let all : map fresh (range_with_len 0 (lanes + 1)) ≡ map fresh (range_with_len 0 lanes) ++ fresh lanes ∷ [] =
       ap (map fresh) more ∙ map-append fresh (range_with_len 0 lanes) (lanes ∷ []) in
       record {
         views = map-append view putters (p ∷ []) ∙ ap (λ l. l ++ view p ∷ []) are.views ∙ ap (λ v. map fresh (range_with_len 0 lanes) ++ v ∷ []) is ∙ sym all;
-        fresh = All-push (IsFreshOf queue) putters p are.fresh (of_queue, ap (λ (v : View T). v.put) is);
+        fresh = All-push (IsNewPutterOf queue) putters p are.fresh (of_queue, ap (λ (v : QueueView T). v.put) is);
       }

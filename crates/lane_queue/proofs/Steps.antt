@@ -7,15 +7,16 @@ use Rattle.std.proofs.lemmas.Bool.Decides.{eqb_tells}
 use Rattle.crossbeam_queue.specs.Fifo.{Pushes, Pops, Forks, Merges, Learns}
 use Rattle.crossbeam_queue.proofs.Lists.{at_set}
 use Rattle.lane_queue.specs.declared.item.Item.{Item}
-use Rattle.lane_queue.specs.declared.view.View.{View}
-use Rattle.lane_queue.specs.Items.{of_lane, has_last, IsLane}
-use Rattle.lane_queue.specs.Rule.{Knows, AreApart, IsSound, IsKept, first_view, with_lane, of_new_lane, with_put, with_got, with_putter, spent, Takes, IsSeen, IsTold}
+use Rattle.lane_queue.specs.declared.view.QueueView.{QueueView}
+use Rattle.lane_queue.specs.Items.{of_lane, has_last, AreNumbered}
+use Rattle.lane_queue.specs.Rule.{KnowsItems, AreApart, IsSound, KeepsOrder, with_put, with_got, TakesItem, IsSeen}
+use Rattle.lane_queue.specs.inside.Passes.{taker_at_first, with_lane, of_new_lane, with_putter, spent_pass, IsTold}
 use Rattle.lane_queue.proofs.Lists.{cut_at_end, of_append, of_one, of_unmade, of_more, of_same, EachPass, each_set, at_more}
 
 module _ {T : Type 0} where
   -- ---- one lane
 
-  pub none_put : IsLane {T = T} []
+  pub none_put : AreNumbered {T = T} []
   none_put = record {
     numbered = λ before after x is. cut_of_none before after x is;
     unended = λ before after x is. cut_of_none before after x is;
@@ -25,7 +26,7 @@ module _ {T : Type 0} where
       cut_of_none [] after x is = cc
       cut_of_none (b ∷ before) after x is = cc
 
-  pub one_put : (items : List (Item T)) (x : Item T) → IsLane items → x.number ≡ length items → has_last items ≡ false → IsLane (items ++ x ∷ [])
+  pub one_put : (items : List (Item T)) (x : Item T) → AreNumbered items → x.number ≡ length items → has_last items ≡ false → AreNumbered (items ++ x ∷ [])
   one_put items x lane number open_ = record {
     numbered = λ before after y is. ⊎_elim (λ (e : (rest : List (Item T)) × (items ≡ before ++ y ∷ rest)). lane.numbered before e.0 y e.1)
         (λ (e : (before ≡ items) × (y ≡ x)). ap (λ (z : Item T). z.number) e.1 ∙ number ∙ ap length (sym e.0)) (cut_at_end items before after x y is);
@@ -48,21 +49,21 @@ module _ {T : Type 0} where
   -- ---- a push
 
   -- the passes stay apart where one changes that was its lane's putter before
-  apart_set : (views : List (View T)) (pass : ℕ) (v w : View T) → get_elem? views pass ≡ some v → (w.puts ≡ true → (v.puts ≡ true) × (v.lane ≡ w.lane))
+  apart_set : (views : List (QueueView T)) (pass : ℕ) (v w : QueueView T) → get_elem? views pass ≡ some v → (w.puts ≡ true → (v.puts ≡ true) × (v.lane ≡ w.lane))
       → AreApart views → AreApart (set views pass w)
   apart_set views pass v w at same apart p q a b at_p at_q puts_a puts_b lanes =
       let x = was p a at_p puts_a in
       let y = was q b at_q puts_b in
       apart p q x.0 y.0 x.1 y.1 x.2 y.2 (x.3 ∙ lanes ∙ sym y.3)
     where
-      was : (j : ℕ) (u : View T) → get_elem? (set views pass w) j ≡ some u → u.puts ≡ true
-          → (t : View T) × (get_elem? views j ≡ some t) × (t.puts ≡ true) × (t.lane ≡ u.lane)
+      was : (j : ℕ) (u : QueueView T) → get_elem? (set views pass w) j ≡ some u → u.puts ≡ true
+          → (t : QueueView T) × (get_elem? views j ≡ some t) × (t.puts ≡ true) × (t.lane ≡ u.lane)
       was j u at_j puts = ⊎_elim
-          (λ (here : (j ≡ pass) × (w ≡ u)). let old = same (ap (λ (t : View T). t.puts) here.1 ∙ puts) in
-          (v, ap (get_elem? views) here.0 ∙ at, old.0, old.1 ∙ ap (λ (t : View T). t.lane) here.1))
+          (λ (here : (j ≡ pass) × (w ≡ u)). let old = same (ap (λ (t : QueueView T). t.puts) here.1 ∙ puts) in
+          (v, ap (get_elem? views) here.0 ∙ at, old.0, old.1 ∙ ap (λ (t : QueueView T). t.lane) here.1))
           (λ (else : (j ≢ pass) × (get_elem? views j ≡ some u)). (u, else.1, puts, refl)) (at_set views pass j w u at_j)
 
-  sound_put : (taker made : ℕ) (got all : List (Item T)) (views : List (View T)) (pass : ℕ) (v : View T) (x : Item T) → IsSound taker made got all views
+  sound_put : (taker made : ℕ) (got all : List (Item T)) (views : List (QueueView T)) (pass : ℕ) (v : QueueView T) (x : Item T) → IsSound taker made got all views
       → get_elem? views pass ≡ some v → v.puts ≡ true → x.lane ≡ v.lane → x.number ≡ length v.put → length v.put < 2 ^ 57 → has_last v.put ≡ false
       → IsSound taker made got (all ++ x ∷ []) (set views pass (with_put v x))
   sound_put taker made got all views pass v x sound at puts lane number few open_ =
@@ -72,8 +73,8 @@ module _ {T : Type 0} where
         lanes = λ k. elim (eqb_tells x.lane k) [
           | inl same ↦
               let put : v.put ≡ of_lane k all = own ∙ ap (λ j. of_lane j all) same.1 in
-              subst IsLane (sym (of_more k all x same.1)) (one_put (of_lane k all) x (sound.lanes k) (number ∙ ap length put) (subst (λ l. has_last l ≡ false) put open_))
-          | inr other ↦ subst IsLane (sym (of_same k all x other.1)) (sound.lanes k)
+              subst AreNumbered (sym (of_more k all x same.1)) (one_put (of_lane k all) x (sound.lanes k) (number ∙ ap length put) (subst (λ l. has_last l ≡ false) put open_))
+          | inr other ↦ subst AreNumbered (sym (of_same k all x other.1)) (sound.lanes k)
         ];
         few = λ k. elim (eqb_tells x.lane k) [
           | inl same ↦
@@ -82,7 +83,7 @@ module _ {T : Type 0} where
           | inr other ↦ subst (λ l. length l ≤ 2 ^ 57) (sym (of_same k all x other.1)) (sound.few k)
         ];
         within = all_append (λ y. y.lane < made) all (x ∷ []) sound.within (omega (arith, lane, mine.0), tt);
-        passes = each_set (Knows taker made got (all ++ x ∷ [])) views pass (with_put v x)
+        passes = each_set (KnowsItems taker made got (all ++ x ∷ [])) views pass (with_put v x)
             (record {
               taken = (sound.passes pass v at).taken;
               put = λ _. (mine.0, ap (λ l. l ++ x ∷ []) mine.1 ∙ sym (of_more v.lane all x lane));
@@ -97,8 +98,8 @@ module _ {T : Type 0} where
         apart = apart_set views pass v (with_put v x) at (λ _. (puts, refl)) sound.apart;
       }
 
-  pub pushes : (n pass : ℕ) (v : View T) (x : Item T) → v.puts ≡ true → x.lane ≡ v.lane → x.number ≡ length v.put → length v.put < 2 ^ 57 → has_last v.put ≡ false
-      → Pushes IsKept n pass v x (λ w. w ≡ with_put v x)
+  pub pushes : (n pass : ℕ) (v : QueueView T) (x : Item T) → v.puts ≡ true → x.lane ≡ v.lane → x.number ≡ length v.put → length v.put < 2 ^ 57 → has_last v.put ≡ false
+      → Pushes KeepsOrder n pass v x (λ w. w ≡ with_put v x)
   pushes n pass v x puts lane number few open_ held views short kept at = (
     with_put v x,
     record {
@@ -113,16 +114,16 @@ module _ {T : Type 0} where
 
   -- ---- a pop
 
-  sound_got : (taker made : ℕ) (got held : List (Item T)) (views : List (View T)) (pass : ℕ) (v : View T) (x : Item T) → IsSound taker made got (got ++ x ∷ held) views
+  sound_got : (taker made : ℕ) (got held : List (Item T)) (views : List (QueueView T)) (pass : ℕ) (v : QueueView T) (x : Item T) → IsSound taker made got (got ++ x ∷ held) views
       → get_elem? views pass ≡ some v → v.takes ≡ true → IsSound taker made (got ++ x ∷ []) ((got ++ x ∷ []) ++ held) (set views pass (with_got v x))
   sound_got taker made got held views pass v x sound at takes =
       let mine : (pass ≡ taker) × (v.made ≡ made) × (v.got ≡ got) = (sound.passes pass v at).taken takes in
       let same : got ++ x ∷ held ≡ (got ++ x ∷ []) ++ held = sym (append_assoc got (x ∷ []) held) in
       record {
-        lanes = λ k. subst (λ all. IsLane (of_lane k all)) same (sound.lanes k);
+        lanes = λ k. subst (λ all. AreNumbered (of_lane k all)) same (sound.lanes k);
         few = λ k. subst (λ all. length (of_lane k all) ≤ 2 ^ 57) same (sound.few k);
         within = subst (AllByRecursion (λ y. y.lane < made)) same sound.within;
-        passes = each_set (Knows taker made (got ++ x ∷ []) ((got ++ x ∷ []) ++ held)) views pass (with_got v x)
+        passes = each_set (KnowsItems taker made (got ++ x ∷ []) ((got ++ x ∷ []) ++ held)) views pass (with_got v x)
             (record {
               taken = λ _. (mine.0, mine.1, ap (λ l. l ++ x ∷ []) mine.2);
               put = λ puts. let (less, is) = (sound.passes pass v at).put puts in (less, is ∙ ap (of_lane v.lane) same);
@@ -134,7 +135,7 @@ module _ {T : Type 0} where
         apart = apart_set views pass v (with_got v x) at (λ puts. (puts, refl)) sound.apart;
       }
 
-  pub pops : (pass : ℕ) (v : View T) → v.takes ≡ true → Pops IsKept pass v (Takes v)
+  pub pops : (pass : ℕ) (v : QueueView T) → v.takes ≡ true → Pops KeepsOrder pass v (TakesItem v)
   pops pass v takes x held views kept at =
       let mine : (pass ≡ kept.taker) × (v.made ≡ kept.made) × (v.got ≡ kept.got) = (kept.sound.passes pass v at).taken takes in
       let all = kept.got ++ x ∷ held in
@@ -158,11 +159,11 @@ module _ {T : Type 0} where
 
   -- ---- the first pass, and one more
 
-  only_first : (pass : ℕ) (v : View T) → get_elem? (first_view ∷ []) pass ≡ some v → (pass ≡ 0) × (v ≡ first_view)
-  only_first zero v at = (refl, sym (some-injective first_view v at))
+  only_first : (pass : ℕ) (v : QueueView T) → get_elem? (taker_at_first ∷ []) pass ≡ some v → (pass ≡ 0) × (v ≡ taker_at_first)
+  only_first zero v at = (refl, sym (some-injective taker_at_first v at))
   only_first (suc pass) v at = absurd (some-ne-none v (sym at))
 
-  pub begins : IsKept {T = T} [] (first_view ∷ [])
+  pub begins : KeepsOrder {T = T} [] (taker_at_first ∷ [])
   begins = record {
     taker = 0;
     made = 0;
@@ -177,14 +178,14 @@ module _ {T : Type 0} where
   }
 
   -- each pass is that of an old one, which may know of one lane more, or the new one
-  pub forks : (pass : ℕ) (v : View T) → v.takes ≡ true → Forks IsKept pass v (with_lane v) (of_new_lane v)
+  pub forks : (pass : ℕ) (v : QueueView T) → v.takes ≡ true → Forks KeepsOrder pass v (with_lane v) (of_new_lane v)
   forks pass v takes held views kept at =
       let all = kept.got ++ held in
       let s = kept.sound in
       let mine : (pass ≡ kept.taker) × (v.made ≡ kept.made) × (v.got ≡ kept.got) = (s.passes pass v at).taken takes in
       let old = set views pass (with_lane v) in
       let fresh = of_new_lane v in
-      let more : EachPass (Knows kept.taker (kept.made + 1) kept.got all) old = each_set (Knows kept.taker (kept.made + 1) kept.got all) views pass (with_lane v)
+      let more : EachPass (KnowsItems kept.taker (kept.made + 1) kept.got all) old = each_set (KnowsItems kept.taker (kept.made + 1) kept.got all) views pass (with_lane v)
       (record {
         taken = λ _. (mine.0, ap (λ n. n + 1) mine.1, mine.2);
         put = λ puts. let (less, is) = (s.passes pass v at).put puts in (omega (arith, less), is);
@@ -206,7 +207,7 @@ module _ {T : Type 0} where
           few = s.few;
           within = all_more kept.made all s.within;
           passes = λ j u at_j. ⊎_elim (λ was. more j u was)
-              (λ (is : (j ≡ length old) × (fresh ≡ u)). subst (Knows kept.taker (kept.made + 1) kept.got all j) is.1 (record {
+              (λ (is : (j ≡ length old) × (fresh ≡ u)). subst (KnowsItems kept.taker (kept.made + 1) kept.got all j) is.1 (record {
                 taken = λ none. absurd (true≢false (sym none));
                 put = λ _. (omega (arith, mine.1), unmade);
               })) (at_more old fresh u j at_j);
@@ -218,19 +219,19 @@ module _ {T : Type 0} where
         };
       }
     where
-      fresh_is_else : (j : ℕ) (u w : View T) → get_elem? (set views pass (with_lane v)) j ≡ some u → of_new_lane v ≡ w → u.puts ≡ true → u.lane ≡ w.lane
+      fresh_is_else : (j : ℕ) (u w : QueueView T) → get_elem? (set views pass (with_lane v)) j ≡ some u → of_new_lane v ≡ w → u.puts ≡ true → u.lane ≡ w.lane
           → EachPass (λ _ t. t.puts ≡ true → t.lane < kept.made) (set views pass (with_lane v)) → v.made ≡ kept.made → ⊥
       fresh_is_else j u w was is puts lanes below made =
           let less : u.lane < kept.made = below j u was puts in
-          let lane : v.made ≡ w.lane = ap (λ (t : View T). t.lane) is in
+          let lane : v.made ≡ w.lane = ap (λ (t : QueueView T). t.lane) is in
           omega (arith, less, lane, lanes, made)
 
   -- ---- what a pass learns
 
-  pub sees : (pass : ℕ) (v : View T) → Learns IsKept pass v (IsSeen v)
+  pub sees : (pass : ℕ) (v : QueueView T) → Learns KeepsOrder pass v (IsSeen v)
   sees pass v held views kept at = (views, pass, kept, at)
 
-  pub tells : (pass : ℕ) (v : View T) → v.takes ≡ true → v.puts ≡ true → Learns IsKept pass v (IsTold v)
+  pub tells : (pass : ℕ) (v : QueueView T) → v.takes ≡ true → v.puts ≡ true → Learns KeepsOrder pass v (IsTold v)
   tells pass v takes puts held views kept at =
       let mine : (pass ≡ kept.taker) × (v.made ≡ kept.made) × (v.got ≡ kept.got) = (kept.sound.passes pass v at).taken takes in
       let (less, is) = (kept.sound.passes pass v at).put puts in (
@@ -241,21 +242,21 @@ module _ {T : Type 0} where
   -- ---- the taker's pass takes in a putter's
 
   -- where a pass that puts stood before: the taker's has the role of the other, and the rest stay
-  abbrev Home : List (View T) → ℕ → ℕ → ℕ → View T → Type 0
-  Home views pass other j u = (i : ℕ) × (t : View T) × (get_elem? views i ≡ some t) × (t.puts ≡ true) × (t.lane ≡ u.lane)
+  abbrev Home : List (QueueView T) → ℕ → ℕ → ℕ → QueueView T → Type 0
+  Home views pass other j u = (i : ℕ) × (t : QueueView T) × (get_elem? views i ≡ some t) × (t.puts ≡ true) × (t.lane ≡ u.lane)
       × (((j ≡ pass) × (i ≡ other)) ⊎ ((i ≡ j) × (j ≢ other)))
 
-  home : (views : List (View T)) (pass other : ℕ) (v w : View T) → get_elem? views other ≡ some w → w.puts ≡ true → (j : ℕ) (u : View T)
-      → get_elem? (set (set views pass (with_putter v w)) other spent) j ≡ some u → u.puts ≡ true → Home views pass other j u
+  home : (views : List (QueueView T)) (pass other : ℕ) (v w : QueueView T) → get_elem? views other ≡ some w → w.puts ≡ true → (j : ℕ) (u : QueueView T)
+      → get_elem? (set (set views pass (with_putter v w)) other spent_pass) j ≡ some u → u.puts ≡ true → Home views pass other j u
   home views pass other v w was puts j u at_j puts_u =
-      ⊎_elim (λ (gone : (j ≡ other) × (spent ≡ u)). absurd (true≢false (sym (ap (λ (t : View T). t.puts) gone.1 ∙ puts_u))))
+      ⊎_elim (λ (gone : (j ≡ other) × (spent_pass ≡ u)). absurd (true≢false (sym (ap (λ (t : QueueView T). t.puts) gone.1 ∙ puts_u))))
       (λ (x : (j ≢ other) × (get_elem? (set views pass (with_putter v w)) j ≡ some u)). ⊎_elim
-      (λ (here : (j ≡ pass) × (with_putter v w ≡ u)). (other, w, was, puts, ap (λ (t : View T). t.lane) here.1, inl (here.0, refl)))
+      (λ (here : (j ≡ pass) × (with_putter v w ≡ u)). (other, w, was, puts, ap (λ (t : QueueView T). t.lane) here.1, inl (here.0, refl)))
       (λ (else : (j ≢ pass) × (get_elem? views j ≡ some u)). (j, u, else.1, puts_u, refl, inr (refl, x.0))) (at_set views pass j (with_putter v w) u x.1))
-      (at_set (set views pass (with_putter v w)) other j spent u at_j)
+      (at_set (set views pass (with_putter v w)) other j spent_pass u at_j)
 
-  apart_joined : (views : List (View T)) (pass other : ℕ) (v w : View T) → get_elem? views other ≡ some w → w.puts ≡ true → AreApart views
-      → AreApart (set (set views pass (with_putter v w)) other spent)
+  apart_joined : (views : List (QueueView T)) (pass other : ℕ) (v w : QueueView T) → get_elem? views other ≡ some w → w.puts ≡ true → AreApart views
+      → AreApart (set (set views pass (with_putter v w)) other spent_pass)
   apart_joined views pass other v w was puts apart p q a b at_p at_q puts_a puts_b lanes =
       let x = home views pass other v w was puts p a at_p puts_a in
       let y = home views pass other v w was puts q b at_q puts_b in
@@ -263,7 +264,7 @@ module _ {T : Type 0} where
       ⊎_elim (λ (hp : (p ≡ pass) × (x.0 ≡ other)). ⊎_elim (λ (hq : (q ≡ pass) × (y.0 ≡ other)). hp.0 ∙ sym hq.0) (λ (kq : (y.0 ≡ q) × (q ≢ other)). absurd (kq.1 (sym kq.0 ∙ sym same ∙ hp.1))) y.5)
       (λ (kp : (x.0 ≡ p) × (p ≢ other)). ⊎_elim (λ (hq : (q ≡ pass) × (y.0 ≡ other)). absurd (kp.1 (sym kp.0 ∙ same ∙ hq.1))) (λ (kq : (y.0 ≡ q) × (q ≢ other)). sym kp.0 ∙ same ∙ kq.0) y.5) x.5
 
-  pub merges : (pass : ℕ) (v : View T) (other : ℕ) (w : View T) → v.takes ≡ true → w.puts ≡ true → Merges IsKept pass v other w (with_putter v w) spent
+  pub merges : (pass : ℕ) (v : QueueView T) (other : ℕ) (w : QueueView T) → v.takes ≡ true → w.puts ≡ true → Merges KeepsOrder pass v other w (with_putter v w) spent_pass
   merges pass v other w takes puts held views kept at apart at_other =
       let s = kept.sound in
       let all = kept.got ++ held in
@@ -280,9 +281,9 @@ module _ {T : Type 0} where
           lanes = s.lanes;
           few = s.few;
           within = s.within;
-          passes = each_set (Knows kept.taker kept.made kept.got all) joined other spent
+          passes = each_set (KnowsItems kept.taker kept.made kept.got all) joined other spent_pass
               (record { taken = λ none. absurd (true≢false (sym none)); put = λ none. absurd (true≢false (sym none)) })
-              (λ j u _ at_j. each_set (Knows kept.taker kept.made kept.got all) views pass both (record { taken = λ _. mine; put = λ _. theirs }) (λ i t _ at_i. s.passes i t at_i) j u at_j);
+              (λ j u _ at_j. each_set (KnowsItems kept.taker kept.made kept.got all) views pass both (record { taken = λ _. mine; put = λ _. theirs }) (λ i t _ at_i. s.passes i t at_i) j u at_j);
           apart = apart_joined views pass other v w was puts s.apart;
         };
       }

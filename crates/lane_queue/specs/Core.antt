@@ -1,13 +1,14 @@
 -- The queue as a machine: what one step after another does to what was put, to the row, and to what was taken.
-use Rattle.std.specs.Prelude.{◌≡◌, ℕ, Bool, true, ◌&&◌, not, nat_lt, if◌then◌else◌, List, [], ◌∷◌, ◌++◌, length, fold}
+use Rattle.std.specs.Prelude.{◌≡◌, ◌<◌, ℕ, Bool, true, ◌&&◌, not, nat_lt, if◌then◌else◌, List, [], ◌∷◌, ◌++◌, length, take, fold}
 use Rattle.lane_queue.specs.declared.item.Item.{Item}
-use Rattle.lane_queue.specs.declared.queue_core.Step.{Step}
-use Rattle.lane_queue.specs.declared.queue_core.Step.TheVariants as step
+use Rattle.lane_queue.specs.declared.queue_core.QueueStep.{QueueStep}
+use Rattle.lane_queue.specs.declared.queue_core.QueueStep.TheVariants as step
 use Rattle.lane_queue.specs.declared.queue_core.Did.{Did}
 use Rattle.lane_queue.specs.declared.queue_core.Did.TheVariants as did
 use Rattle.lane_queue.specs.Items.{of_lane, has_last, next_item}
 
--- how many items the row has room for, how many lanes there are, and the items that were put, that wait in the row, and that were taken
+-- how many items the row has room for, how many lanes there are, and the items that were put, that wait in the row, and
+-- that were taken
 pub record Machine : Type 0 where
   pub room : ℕ
   pub lanes : ℕ
@@ -34,16 +35,21 @@ abbrev pub front_of : List (Item ℕ) → Did
 front_of [] = did.Empty
 front_of (x ∷ rest) = did.Took x
 
-abbrev pub after_step : Machine → Step → Machine
-after_step m (step.Put lane item last) = if may_put m lane then with_item m (next_item lane (of_lane lane m.put) last item) else m
+abbrev pub after_step : Machine → QueueStep → Machine
+after_step m (step.Put lane item last) =
+    if may_put m lane then with_item m (next_item lane (of_lane lane m.put) last item) else m
 after_step m step.Take = with_front m m.row
 
-abbrev pub answer : Machine → Step → Did
+abbrev pub answer : Machine → QueueStep → Did
 answer m (step.Put lane item last) = if may_put m lane then did.Put else did.Refused
 answer m step.Take = front_of m.row
 
-abbrev pub after_steps : Machine → List Step → Machine
+abbrev pub after_steps : Machine → List QueueStep → Machine
 after_steps m steps = fold after_step m steps
+
+-- so many of the steps were taken, and no further one
+abbrev pub StopsAt : Machine → List QueueStep → ℕ → Machine → Type 0
+StopsAt old steps done new = (done < length steps) × (new ≡ after_steps old (take done steps))
 
 -- first in, first out, lane by lane: what was taken, and then the row, is what was put
 abbrev pub IsFifo : Machine → Type 0

@@ -1,23 +1,21 @@
 //! The queue itself, which putters and the taker share.
-ghost use Rattle.std.specs.Prelude.{◌≡◌, ◌≢◌, ◌<◌, ◌≤◌, List, [], ◌++◌, true, IfOk, IfErr, MatchResult, MatchOption};
+ghost use Rattle.std.specs.Prelude.{◌≡◌, ◌≢◌, ◌<◌, ◌≤◌, List, [], ◌++◌, true, IfOk, IfErr};
 ghost use Rattle.std.specs.Vec.{vec_capacity};
-ghost use Rattle.crossbeam_queue.specs.Fifo.{Held};
 ghost use Rattle.crossbeam_queue.specs.Passes.{view, IsSamePass};
 ghost use Rattle.lane_queue.specs.Items.{of_lane};
-ghost use Rattle.lane_queue.specs.Rule.{first_view, with_put, with_putter, Takes, IsSeen};
 ghost use Rattle.lane_queue.specs.Limits.{AreLanes};
-ghost use Rattle.lane_queue.specs.Opened.{fresh_taker, ArePutters, AreOpened};
+ghost use Rattle.lane_queue.specs.Opened.{fresh_taker, ArePutters, IsOpenedQueue};
 ghost use Rattle.lane_queue.specs.declared.fault.QueueFault.TheVariants.{BadLanes, NoMemory};
-ghost use Rattle.lane_queue.specs.inside.Passes.{IsWhole, MayPut};
+ghost use Rattle.lane_queue.specs.inside.Passes.{IsWholePass, MayPut, PutsItem, PushesItem, PopsItem, taker_at_first, with_putter};
 
 use crate::fault::QueueFault;
 use crate::item::Item;
 use crate::limits::MAX_LANES;
 use crate::putter::Putter;
 use crate::room::Room;
-use crate::rule::{Gets, InLanes, Opens, Reckons, Sends};
+use crate::rule::{Gets, InLanes, OpensLane, Reckons, Sends};
 use crate::taker::Taker;
-use crate::view::View;
+use crate::view::QueueView;
 use crate::waiting::{Turns, rest};
 use crossbeam_queue::{Pass, RuledArrayQueue};
 use crossbeam_utils::Backoff;
@@ -29,8 +27,8 @@ use std::sync::atomic::{AtomicBool, Ordering};
 
 /// A bounded queue of the items of some lanes, to be shared by reference. Contracts see which queue it is, and how many items it holds at the most.
 #[derive(Drop)]
-pub struct Lanes<T> {
-    queue: RuledArrayQueue<Item<T>, View<T>, InLanes>,
+pub struct LaneQueue<T> {
+    queue: RuledArrayQueue<Item<T>, QueueView<T>, InLanes>,
     closed: AtomicBool,
     // told by a step that finds putters at rest, and at the close
     room: EventCount,
@@ -42,7 +40,7 @@ pub struct Lanes<T> {
     taker_at_rest: AtomicBool,
 }
 
-impl<T> Model for Lanes<T> {
+impl<T> Model for LaneQueue<T> {
     ghost use Rattle.crossbeam_queue.specs.Passes.{ruled_capacity};
     ghost use Rattle.lane_queue.specs.Queue.{Queue, queue_coded};
 
@@ -53,15 +51,16 @@ impl<T> Model for Lanes<T> {
     ghost view = { λ l. record { table_id = l.queue.table.shared.table_id; room = ruled_capacity l.queue } };
 }
 
-impl<T> Lanes<T> {
+impl<T> LaneQueue<T> {
     #[tactic(auto, using(crate::proofs::Steps::begins))]
-    /// A queue for so many lanes, 1 to `MAX_LANES`, that holds as many items as the room says, with its taker and a putter for each lane.
+    /// A queue for so many lanes, 1 to `MAX_LANES`, that holds as many items as the room says, with its taker and a putter for each lane;
+    /// Q1 for another number of lanes, Q3 where memory is refused.
     pub fn open(
         alloc: Global,
         lanes: u32,
         room: Room,
-    ) -> Result<(Lanes<T>, Taker<T>, Vec<Putter<T>>), QueueFault>
-        ensures opened { IfOk result (λ made. AreLanes lanes × AreOpened lanes room made.0 made.1 made.2.items) }
+    ) -> Result<(LaneQueue<T>, Taker<T>, Vec<Putter<T>>), QueueFault>
+        ensures opened { IfOk result (λ made. AreLanes lanes × IsOpenedQueue lanes room made.0 made.1 made.2.items) }
         ensures refused { IfErr result (λ fault. fault ≢ NoMemory → (fault ≡ BadLanes) × ¬ AreLanes lanes) }
     {
         if lanes == 0 || lanes > MAX_LANES {
@@ -70,7 +69,7 @@ impl<T> Lanes<T> {
         let counts = Vec::from_elem(alloc, 0, lanes as usize)?;
         let putters = Vec::with_capacity(alloc, lanes as usize)?;
         let (queue, pass) = RuledArrayQueue::ruled(alloc, room.items())?;
-        let opened = Lanes {
+        let opened = LaneQueue {
             queue,
             closed: AtomicBool::new(false),
             room: EventCount::new(),
@@ -85,22 +84,22 @@ impl<T> Lanes<T> {
     // The taker's pass, and a putter for each lane. There is room for them.
     fn split(
         &self,
-        pass: Pass<Item<T>, View<T>>,
+        pass: Pass<Item<T>, QueueView<T>>,
         lanes: u32,
         putters: Vec<Putter<T>>,
-    ) -> (Pass<Item<T>, View<T>>, Vec<Putter<T>>)
-        requires queue { IsWhole self.now pass }
-        requires first { view pass ≡ first_view }
+    ) -> (Pass<Item<T>, QueueView<T>>, Vec<Putter<T>>)
+        requires queue { IsWholePass self.now pass }
+        requires first { view pass ≡ taker_at_first }
         requires none { putters.items ≡ [] }
         requires fits { lanes ≤ vec_capacity putters }
-        ensures queue { IsWhole self.now result.0 }
+        ensures queue { IsWholePass self.now result.0 }
         ensures taker { view result.0 ≡ fresh_taker lanes }
         ensures putters { ArePutters self.now lanes result.1.items }
     {
         let mut pass = pass;
         let mut putters = putters;
         for lane in 0..lanes {
-            let own = self.queue.another::<Opens>(&mut pass);
+            let own = self.queue.another::<OpensLane>(&mut pass);
             putters.push_reserved(Putter::of_lane(own, lane));
         }
         (pass, putters)
@@ -148,8 +147,8 @@ impl<T> Lanes<T> {
     // A putter that announced a sleep, and then put its item, wakes another where there is room. So no putter sleeps on at a queue with room, though the pops
     // that made it woke but one.
     #[tactic(auto, using(crate::proofs::Steps::sees))]
-    fn wake_next(&self, pass: &mut Pass<Item<T>, View<T>>)
-        requires { IsWhole self.now pass.old }
+    fn wake_next(&self, pass: &mut Pass<Item<T>, QueueView<T>>)
+        requires { IsWholePass self.now pass.old }
         ensures pass { IsSamePass pass.old pass.new }
         ensures view { view pass.new ≡ view pass.old }
     {
@@ -163,13 +162,13 @@ impl<T> Lanes<T> {
     pub(crate) fn push<R: Wait>(
         &self,
         rt: &R,
-        pass: &mut Pass<Item<T>, View<T>>,
+        pass: &mut Pass<Item<T>, QueueView<T>>,
         item: Item<T>,
     ) -> Result<(), Item<T>>
-        requires queue { IsWhole self.now pass.old }
+        requires queue { IsWholePass self.now pass.old }
         requires may { MayPut (view pass.old) item }
         ensures pass { IsSamePass pass.old pass.new }
-        ensures answer { MatchResult result (λ _. view pass.new ≡ with_put (view pass.old) item) (λ back. (back ≡ item) × (view pass.new ≡ view pass.old) × Held self.now.room (IsSeen (view pass.old))) }
+        ensures answer { PushesItem self.now.room (view pass.old) item (view pass.new) result }
     {
         let pushed = self.queue.push_as::<Sends, R>(rt, pass, item);
         if pushed.is_ok() {
@@ -180,11 +179,15 @@ impl<T> Lanes<T> {
 
     /// One pop.
     #[tactic(auto, using(crate::proofs::Steps::pops, crate::proofs::Steps::sees))]
-    pub(crate) fn pop<R: Wait>(&self, rt: &R, pass: &mut Pass<Item<T>, View<T>>) -> Option<Item<T>>
-        requires queue { IsWhole self.now pass.old }
+    pub(crate) fn pop<R: Wait>(
+        &self,
+        rt: &R,
+        pass: &mut Pass<Item<T>, QueueView<T>>,
+    ) -> Option<Item<T>>
+        requires queue { IsWholePass self.now pass.old }
         requires takes { (view pass.old).takes ≡ true }
         ensures pass { IsSamePass pass.old pass.new }
-        ensures answer { MatchOption result ((view pass.new ≡ view pass.old) × Held 0 (IsSeen (view pass.old))) (λ item. Takes (view pass.old) item (view pass.new)) }
+        ensures answer { PopsItem (view pass.old) (view pass.new) result }
     {
         let popped = self.queue.pop_as::<Gets, R>(rt, pass);
         if popped.is_some() {
@@ -198,13 +201,13 @@ impl<T> Lanes<T> {
     pub(crate) fn push_or_closed<R: Wait>(
         &self,
         rt: &R,
-        pass: &mut Pass<Item<T>, View<T>>,
+        pass: &mut Pass<Item<T>, QueueView<T>>,
         item: Item<T>,
     ) -> Result<(), Item<T>>
-        requires queue { IsWhole self.now pass.old }
+        requires queue { IsWholePass self.now pass.old }
         requires may { MayPut (view pass.old) item }
         ensures pass { IsSamePass pass.old pass.new }
-        ensures answer { MatchResult result (λ _. view pass.new ≡ with_put (view pass.old) item) (λ back. (back ≡ item) × (view pass.new ≡ view pass.old)) }
+        ensures answer { PutsItem (view pass.old) item (view pass.new) result }
     {
         let mut item = item;
         let mut turns = Turns::Pauses(Backoff::new());
@@ -232,8 +235,12 @@ impl<T> Lanes<T> {
     }
 
     /// The taker's pass takes in a putter's, and learns that what was put in its lane begins with what was taken of it.
-    pub(crate) fn take_in(&self, pass: &mut Pass<Item<T>, View<T>>, putter: Pass<Item<T>, View<T>>)
-        requires queue { IsWhole self.now pass.old × IsWhole self.now putter }
+    pub(crate) fn take_in(
+        &self,
+        pass: &mut Pass<Item<T>, QueueView<T>>,
+        putter: Pass<Item<T>, QueueView<T>>,
+    )
+        requires queue { IsWholePass self.now pass.old × IsWholePass self.now putter }
         requires takes { (view pass.old).takes ≡ true }
         requires puts { (view putter).puts ≡ true }
         ensures pass { IsSamePass pass.old pass.new }

@@ -1,7 +1,7 @@
 //! The queue as a machine on one thread: its steps, and what is so after any of them.
-ghost use Rattle.std.specs.Prelude.{◌≡◌, ◌≢◌, ◌<◌, ℕ, take, length, IfOk, IfErr, OnOk, OnErr};
-ghost use Rattle.lane_queue.specs.Core.{opening, may_put, after_step, answer, after_steps, IsFifo, HasWhole};
-ghost use Rattle.lane_queue.specs.declared.queue_core.Step.TheVariants as step;
+ghost use Rattle.std.specs.Prelude.{◌≡◌, ◌≢◌, ◌<◌, ℕ, IfOk, IfErr, OnOk, OnErr};
+ghost use Rattle.lane_queue.specs.Core.{opening, may_put, after_step, answer, after_steps, StopsAt, IsFifo, HasWhole};
+ghost use Rattle.lane_queue.specs.declared.queue_core.QueueStep.TheVariants as step;
 ghost use Rattle.lane_queue.specs.Limits.{AreLanes};
 ghost use Rattle.lane_queue.specs.declared.fault.QueueFault.TheVariants.{BadLanes, NoMemory};
 
@@ -14,7 +14,7 @@ use std::marker::Model;
 
 /// One step on the queue.
 #[derive(Clone, Copy, Debug)]
-pub enum Step {
+pub enum QueueStep {
     /// An item for the back of the row, as its lane's last or not.
     Put { lane: u32, item: u64, last: bool },
     /// The front of the row is taken.
@@ -58,7 +58,7 @@ impl Model for State {
 }
 
 impl State {
-    /// With so many lanes, 1 to `MAX_LANES`, and nothing put.
+    /// With so many lanes, 1 to `MAX_LANES`, and nothing put; Q1 and Q3 likewise.
     #[tactic(auto, using(crate::proofs::CoreLaws::opened))]
     pub fn open(alloc: Global, lanes: u32, room: Room) -> Result<State, QueueFault>
         ensures ok { IfOk result (λ state. AreLanes lanes × (state ≡ opening lanes room)) }
@@ -77,7 +77,7 @@ impl State {
     }
 
     /// One step. Where memory is refused, all is as before.
-    pub fn apply(&mut self, step: Step) -> Result<Did, AllocError>
+    pub fn apply(&mut self, step: QueueStep) -> Result<Did, AllocError>
         ensures ok { OnOk result (self.new ≡ after_step self.old step) }
         ensures did { IfOk result (λ did. did ≡ answer self.old step) }
         ensures err { OnErr result (self.new ≡ self.old) }
@@ -85,17 +85,17 @@ impl State {
         ensures whole { HasWhole self.new }
     {
         let did = match step {
-            Step::Put { lane, item, last } => self.put(lane, item, last),
-            Step::Take => Ok(self.take()),
+            QueueStep::Put { lane, item, last } => self.put(lane, item, last),
+            QueueStep::Take => Ok(self.take()),
         };
         self.tell();
         did
     }
 
     /// One step after another, up to the first one for which memory is refused.
-    pub fn run(&mut self, steps: &[Step]) -> Result<(), AllocError>
+    pub fn run(&mut self, steps: &[QueueStep]) -> Result<(), AllocError>
         ensures ok { OnOk result (self.new ≡ after_steps self.old steps.now) }
-        ensures err { OnErr result ((done : ℕ) × (done < length steps.now) × (self.new ≡ after_steps self.old (take done steps.now))) }
+        ensures err { OnErr result ((done : ℕ) × StopsAt self.old steps.now done self.new) }
         ensures fifo { IsFifo self.new }
         ensures whole { HasWhole self.new }
     {

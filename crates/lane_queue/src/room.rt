@@ -6,7 +6,7 @@ use crate::fault::QueueFault;
 use crate::limits::MAX_ROOM;
 use std::marker::Model;
 
-/// How many items a queue holds at the most: 1 to 65,536.
+/// How many items a queue holds at the most: 1 to `MAX_ROOM`.
 #[derive(Clone, Copy, Debug)]
 pub struct Room {
     items: usize,
@@ -26,6 +26,7 @@ impl Model for Room {
 }
 
 impl Room {
+    /// Q2 for another number of items.
     pub fn new(items: usize) -> Result<Room, QueueFault>
         ensures ok { IfOk result (λ room. (room ≡ items) × IsRoom items) }
         ensures refused { IfErr result (λ fault. (fault ≡ BadRoom) × ¬ IsRoom items) }

@@ -1,29 +1,30 @@
 //! The rule that the queue is under, and the steps that are taken on it.
 use crate::item::Item;
-use crate::view::View;
+use crate::view::QueueView;
 use crossbeam_queue::protocol::{Join, Lesson, Outcome, Protocol, Split};
 
 pub(crate) struct InLanes;
 
-impl<T> Protocol<Item<T>, View<T>> for InLanes {
-    ghost use Rattle.lane_queue.specs.Rule.{IsKept, first_view};
+impl<T> Protocol<Item<T>, QueueView<T>> for InLanes {
+    ghost use Rattle.lane_queue.specs.Rule.{KeepsOrder};
+    ghost use Rattle.lane_queue.specs.inside.Passes.{taker_at_first};
 
-    ghost holds = { IsKept };
+    ghost holds = { KeepsOrder };
 
-    ghost first = { first_view };
+    ghost first = { taker_at_first };
 }
 
 /// A push by a putter, and what it sees where the queue is full.
 pub(crate) struct Sends;
 
-impl<T> Outcome<Item<T>, View<T>> for Sends {
+impl<T> Outcome<Item<T>, QueueView<T>> for Sends {
     ghost use Rattle.std.specs.Prelude.{◌≡◌};
     ghost use Rattle.lane_queue.specs.Rule.{with_put};
 
     ghost then = { λ v x w. w ≡ with_put v x };
 }
 
-impl<T> Lesson<Item<T>, View<T>> for Sends {
+impl<T> Lesson<Item<T>, QueueView<T>> for Sends {
     ghost use Rattle.lane_queue.specs.Rule.{IsSeen};
 
     ghost fact = { IsSeen };
@@ -32,23 +33,23 @@ impl<T> Lesson<Item<T>, View<T>> for Sends {
 /// A pop by the taker, and what it sees where the queue is empty.
 pub(crate) struct Gets;
 
-impl<T> Outcome<Item<T>, View<T>> for Gets {
-    ghost use Rattle.lane_queue.specs.Rule.{Takes};
+impl<T> Outcome<Item<T>, QueueView<T>> for Gets {
+    ghost use Rattle.lane_queue.specs.Rule.{TakesItem};
 
-    ghost then = { Takes };
+    ghost then = { TakesItem };
 }
 
-impl<T> Lesson<Item<T>, View<T>> for Gets {
+impl<T> Lesson<Item<T>, QueueView<T>> for Gets {
     ghost use Rattle.lane_queue.specs.Rule.{IsSeen};
 
     ghost fact = { IsSeen };
 }
 
 /// A lane more.
-pub(crate) struct Opens;
+pub(crate) struct OpensLane;
 
-impl<T> Split<View<T>> for Opens {
-    ghost use Rattle.lane_queue.specs.Rule.{with_lane, of_new_lane};
+impl<T> Split<QueueView<T>> for OpensLane {
+    ghost use Rattle.lane_queue.specs.inside.Passes.{with_lane, of_new_lane};
 
     ghost left = { with_lane };
 
@@ -58,16 +59,16 @@ impl<T> Split<View<T>> for Opens {
 /// The taker takes a putter in, and learns what became of its items.
 pub(crate) struct Reckons;
 
-impl<T> Join<View<T>> for Reckons {
-    ghost use Rattle.lane_queue.specs.Rule.{with_putter, spent};
+impl<T> Join<QueueView<T>> for Reckons {
+    ghost use Rattle.lane_queue.specs.inside.Passes.{with_putter, spent_pass};
 
     ghost both = { with_putter };
 
-    ghost spent = { spent };
+    ghost spent = { spent_pass };
 }
 
-impl<T> Lesson<Item<T>, View<T>> for Reckons {
-    ghost use Rattle.lane_queue.specs.Rule.{IsTold};
+impl<T> Lesson<Item<T>, QueueView<T>> for Reckons {
+    ghost use Rattle.lane_queue.specs.inside.Passes.{IsTold};
 
     ghost fact = { IsTold };
 }

@@ -1,16 +1,15 @@
 //! The end of the queue at which items are taken.
-ghost use Rattle.std.specs.Prelude.{◌≡◌, List, [], ◌++◌, length, replicate};
+ghost use Rattle.std.specs.Prelude.{◌≡◌, [], replicate};
 ghost use Rattle.crossbeam_queue.specs.Passes.{view, IsSamePass};
-ghost use Rattle.lane_queue.specs.Answers.{TakesOne, TriesToTake};
-ghost use Rattle.lane_queue.specs.Items.{of_lane};
+ghost use Rattle.lane_queue.specs.Answers.{TakesOne, TriesToTake, LeavesRest};
 ghost use Rattle.lane_queue.specs.Opened.{fresh_taker};
-ghost use Rattle.lane_queue.specs.Queue.{IsOf};
+ghost use Rattle.lane_queue.specs.Queue.{IsPassOf};
 
 use crate::answers::{Take, TryTake};
 use crate::item::Item;
-use crate::lanes::Lanes;
+use crate::lanes::LaneQueue;
 use crate::putter::Putter;
-use crate::view::View;
+use crate::view::QueueView;
 use crate::waiting::{Turns, rest};
 use crossbeam_queue::Pass;
 use std::marker::Model;
@@ -22,7 +21,7 @@ const YIELDS: u32 = 128;
 
 /// Takes the items of all lanes, on whatever thread it is. Contracts see its pass, which knows the items that were taken.
 pub struct Taker<T> {
-    pass: Pass<Item<T>, View<T>>,
+    pass: Pass<Item<T>, QueueView<T>>,
     // how many items of each lane were taken
     counts: Vec<u64>,
     // how many lanes have not ended
@@ -32,10 +31,10 @@ pub struct Taker<T> {
 impl<T> Model for Taker<T> {
     ghost use Rattle.crossbeam_queue.specs.Passes.{Pass};
     ghost use Rattle.lane_queue.specs.declared.item.Item.{Item};
-    ghost use Rattle.lane_queue.specs.declared.view.View.{View};
+    ghost use Rattle.lane_queue.specs.declared.view.QueueView.{QueueView};
     ghost use Rattle.lane_queue.specs.inside.Passes.{IsTaker};
 
-    ghost Value = { Pass (Item T) (View T) };
+    ghost Value = { Pass (Item T) (QueueView T) };
 
     ghost view = { λ t. t.pass };
 
@@ -55,7 +54,7 @@ impl<T> Drop for Taker<T> {
 impl<T> Taker<T> {
     /// The taker of so many lanes of which nothing was taken.
     #[tactic(auto, using(crate::proofs::Counts::fresh))]
-    pub(crate) fn over(pass: Pass<Item<T>, View<T>>, counts: Vec<u64>, lanes: u32) -> Taker<T>
+    pub(crate) fn over(pass: Pass<Item<T>, QueueView<T>>, counts: Vec<u64>, lanes: u32) -> Taker<T>
         requires whole { pass.me.1 ≡ [] }
         requires fresh { view pass ≡ fresh_taker lanes }
         requires counts { counts.items ≡ replicate lanes 0 }
@@ -69,17 +68,17 @@ impl<T> Taker<T> {
     }
 
     /// The pass that it holds.
-    pub fn pass(&self) -> &Pass<Item<T>, View<T>>
+    pub fn pass(&self) -> &Pass<Item<T>, QueueView<T>>
         ensures { result.now ≡ self.now }
     {
         &self.pass
     }
 
     /// The next item, once there is one, or that each lane has ended. Where a lane's putter is gone without its last item, it waits for ever.
-    pub fn take<R: Wait>(&mut self, rt: &R, lanes: &Lanes<T>) -> Take<T>
-        requires lanes { IsOf lanes.now self.old }
+    pub fn take<R: Wait>(&mut self, rt: &R, lanes: &LaneQueue<T>) -> Take<T>
+        requires lanes { IsPassOf lanes.now self.old }
         ensures pass { IsSamePass self.old self.new }
-        ensures lanes { IsOf lanes.now self.new }
+        ensures lanes { IsPassOf lanes.now self.new }
         ensures answer { TakesOne (view self.old) (view self.new) result }
     {
         let mut turns = Turns::Yields(YIELDS);
@@ -101,10 +100,10 @@ impl<T> Taker<T> {
 
     /// One try to take the next item. It waits only for another thread that is in the middle of its step.
     #[tactic(auto, using(crate::proofs::Counts::ended, crate::proofs::Counts::unended, crate::proofs::Counts::took, crate::proofs::Counts::took_last))]
-    pub fn try_take<R: Wait>(&mut self, rt: &R, lanes: &Lanes<T>) -> TryTake<T>
-        requires lanes { IsOf lanes.now self.old }
+    pub fn try_take<R: Wait>(&mut self, rt: &R, lanes: &LaneQueue<T>) -> TryTake<T>
+        requires lanes { IsPassOf lanes.now self.old }
         ensures pass { IsSamePass self.old self.new }
-        ensures lanes { IsOf lanes.now self.new }
+        ensures lanes { IsPassOf lanes.now self.new }
         ensures answer { TriesToTake (view self.old) (view self.new) result }
     {
         if self.running == 0 {
@@ -124,13 +123,18 @@ impl<T> Taker<T> {
 /// How many of the items that were put in that putter's lane weren't taken. Those that were taken are the first of them. It never waits: the handle is only
 /// that of the other calls.
 #[tactic(auto, using(crate::proofs::Counts::joined))]
-pub fn reckon<T, R: Wait>(_rt: &R, lanes: &Lanes<T>, taker: &mut Taker<T>, putter: Putter<T>) -> u64
-    requires taker { IsOf lanes.now taker.old }
-    requires putter { IsOf lanes.now putter }
+pub fn reckon<T, R: Wait>(
+    _rt: &R,
+    lanes: &LaneQueue<T>,
+    taker: &mut Taker<T>,
+    putter: Putter<T>,
+) -> u64
+    requires taker { IsPassOf lanes.now taker.old }
+    requires putter { IsPassOf lanes.now putter }
     ensures pass { IsSamePass taker.old taker.new }
-    ensures lanes { IsOf lanes.now taker.new }
+    ensures lanes { IsPassOf lanes.now taker.new }
     ensures kept { ((view taker.new).made ≡ (view taker.old).made) × ((view taker.new).got ≡ (view taker.old).got) }
-    ensures rest { (rest : List _) × ((view putter).put ≡ of_lane (view putter).lane (view taker.old).got ++ rest) × (result ≡ length rest) }
+    ensures rest { LeavesRest (view taker.old) (view putter) result }
 {
     let (pass, lane, next) = putter.into_parts();
     lanes.take_in(&mut taker.pass, pass);

@@ -2,7 +2,7 @@ use crate::item::Item;
 use std::collections::LinkedList;
 
 /// What a putter or a taker knows of the queue. It exists in proofs alone: no value of it is made.
-pub struct View<T> {
+pub struct QueueView<T> {
     /// It is the taker's: it knows how many lanes were made, and the items that were taken of all of them.
     pub takes: bool,
     pub made: u32,

@@ -1,5 +1,5 @@
-use lane_queue::queue_core::{Did, State, Step};
-use lane_queue::{Item, Lanes, Put, QueueFault, Room, Take, TryPut, TryTake, reckon};
+use lane_queue::queue_core::{Did, QueueStep, State};
+use lane_queue::{Item, LaneQueue, Put, QueueFault, Room, Take, TryPut, TryTake, reckon};
 use std::process::Abort;
 use std::test::Fail;
 
@@ -34,7 +34,7 @@ fn lanes_have_limits(rt: HostRuntime) -> Result<(), Fail> {
     let room = Room::new(1)?;
     for lanes in [0, 17, u32::MAX] {
         assert_eq!(rt;
-            Lanes::<u64>::open(alloc, lanes, room).err(),
+            LaneQueue::<u64>::open(alloc, lanes, room).err(),
             Some(QueueFault::BadLanes)
         );
         assert_eq!(rt;
@@ -43,7 +43,7 @@ fn lanes_have_limits(rt: HostRuntime) -> Result<(), Fail> {
         );
     }
     for lanes in [1, 2, 16] {
-        let (_lanes, _taker, putters) = Lanes::<u64>::open(alloc, lanes, room)?;
+        let (_lanes, _taker, putters) = LaneQueue::<u64>::open(alloc, lanes, room)?;
         assert_eq!(rt; putters.len(), lanes as usize);
         let _state = State::open(alloc, lanes, room)?;
     }
@@ -59,7 +59,7 @@ fn known(item: &Item<u64>) -> Known {
 
 #[test]
 fn passes_the_items_of_a_lane(rt: HostRuntime) -> Result<(), Fail> {
-    let (lanes, mut taker, mut putters) = Lanes::open(rt.alloc(), 1, Room::new(1)?)?;
+    let (lanes, mut taker, mut putters) = LaneQueue::open(rt.alloc(), 1, Room::new(1)?)?;
     let Some(mut putter) = putters.pop() else {
         assert!(rt; false, "no putter");
         return Ok(());
@@ -84,7 +84,7 @@ fn passes_the_items_of_a_lane(rt: HostRuntime) -> Result<(), Fail> {
 
 #[test]
 fn puts_nothing_where_it_is_closed(rt: HostRuntime) -> Result<(), Fail> {
-    let (lanes, mut taker, mut putters) = Lanes::open(rt.alloc(), 1, Room::new(2)?)?;
+    let (lanes, mut taker, mut putters) = LaneQueue::open(rt.alloc(), 1, Room::new(2)?)?;
     let Some(mut putter) = putters.pop() else {
         assert!(rt; false, "no putter");
         return Ok(());
@@ -102,7 +102,7 @@ fn puts_nothing_where_it_is_closed(rt: HostRuntime) -> Result<(), Fail> {
 
 #[test]
 fn reckons_what_was_left(rt: HostRuntime) -> Result<(), Fail> {
-    let (lanes, mut taker, mut putters) = Lanes::open(rt.alloc(), 2, Room::new(4)?)?;
+    let (lanes, mut taker, mut putters) = LaneQueue::open(rt.alloc(), 2, Room::new(4)?)?;
     let (Some(mut second), Some(mut first)) = (putters.pop(), putters.pop()) else {
         assert!(rt; false, "no putters");
         return Ok(());
@@ -123,8 +123,8 @@ fn reckons_what_was_left(rt: HostRuntime) -> Result<(), Fail> {
     Ok(())
 }
 
-fn put(item: u64, last: bool) -> Step {
-    Step::Put {
+fn put(item: u64, last: bool) -> QueueStep {
+    QueueStep::Put {
         lane: 0,
         item,
         last,
@@ -136,37 +136,37 @@ fn steps_as_a_machine(rt: HostRuntime) -> Result<(), Fail> {
     let mut state = State::open(rt.alloc(), 1, Room::new(1)?)?;
     assert!(rt; matches!(state.apply(put(5, false))?, Did::Put));
     assert!(rt; matches!(state.apply(put(6, false))?, Did::Refused));
-    match state.apply(Step::Take)? {
+    match state.apply(QueueStep::Take)? {
         Did::Took(item) => assert_eq!(rt; known(&item), (0, 0, false, 5)),
         _ => assert!(rt; false, "nothing was taken"),
     }
-    assert!(rt; matches!(state.apply(Step::Take)?, Did::Empty));
+    assert!(rt; matches!(state.apply(QueueStep::Take)?, Did::Empty));
 
     // Behind its last item a lane gets no more, and there is no other lane.
-    state.run(&[put(7, true), Step::Take, put(8, false)])?;
+    state.run(&[put(7, true), QueueStep::Take, put(8, false)])?;
     assert!(rt; matches!(state.apply(put(9, false))?, Did::Refused));
-    let elsewhere = Step::Put {
+    let elsewhere = QueueStep::Put {
         lane: 1,
         item: 9,
         last: false,
     };
     assert!(rt; matches!(state.apply(elsewhere)?, Did::Refused));
-    assert!(rt; matches!(state.apply(Step::Take)?, Did::Empty));
+    assert!(rt; matches!(state.apply(QueueStep::Take)?, Did::Empty));
     Ok(())
 }
 
 #[test]
 fn steps_with_several_items(rt: HostRuntime) -> Result<(), Fail> {
     let mut state = State::open(rt.alloc(), 2, Room::new(2)?)?;
-    let second = |item| Step::Put {
+    let second = |item| QueueStep::Put {
         lane: 1,
         item,
         last: true,
     };
-    state.run(&[put(5, false), second(6), put(7, true), Step::Take])?;
+    state.run(&[put(5, false), second(6), put(7, true), QueueStep::Take])?;
     assert!(rt; matches!(state.apply(put(7, true))?, Did::Put));
     for place in [(1, 0, true, 6), (0, 1, true, 7)] {
-        match state.apply(Step::Take)? {
+        match state.apply(QueueStep::Take)? {
             Did::Took(item) => assert_eq!(rt; known(&item), place),
             _ => assert!(rt; false, "nothing was taken"),
         }

@@ -1,9 +1,9 @@
 //! Putters on threads of their own, and the taker on this one.
 ghost use Rattle.std.specs.Prelude.{All};
-ghost use Rattle.lane_queue.specs.Opened.{IsFreshOf};
-ghost use Rattle.lane_queue.specs.Queue.{IsOf};
+ghost use Rattle.lane_queue.specs.Opened.{IsNewPutterOf};
+ghost use Rattle.lane_queue.specs.Queue.{IsPassOf};
 
-use lane_queue::{Lanes, Putter, Room, Take, Taker};
+use lane_queue::{LaneQueue, Putter, Room, Take, Taker};
 use std::alloc::{AllocError, Global};
 use std::process::Abort;
 use std::sync::Wait;
@@ -12,8 +12,8 @@ use std::thread;
 use std::thread::{Scope, Threads};
 
 // Puts the numbers below that one, and then it as the last.
-fn put_all<R: Wait>(rt: &R, lanes: &Lanes<u64>, putter: Putter<u64>, count: u32)
-    requires { IsFreshOf lanes.now putter }
+fn put_all<R: Wait>(rt: &R, lanes: &LaneQueue<u64>, putter: Putter<u64>, count: u32)
+    requires { IsNewPutterOf lanes.now putter }
 {
     let mut putter = putter;
     for body in 0..count {
@@ -23,8 +23,13 @@ fn put_all<R: Wait>(rt: &R, lanes: &Lanes<u64>, putter: Putter<u64>, count: u32)
 }
 
 // Takes all items, and counts those that each lane got in order.
-fn take_all<R: Wait>(rt: &R, lanes: &Lanes<u64>, taker: &mut Taker<u64>, counts: &mut [u64]) -> bool
-    requires { IsOf lanes.now taker.old }
+fn take_all<R: Wait>(
+    rt: &R,
+    lanes: &LaneQueue<u64>,
+    taker: &mut Taker<u64>,
+    counts: &mut [u64],
+) -> bool
+    requires { IsPassOf lanes.now taker.old }
 {
     for _ in rt.forever() {
         match taker.take(rt, lanes) {
@@ -47,15 +52,15 @@ fn take_all<R: Wait>(rt: &R, lanes: &Lanes<u64>, taker: &mut Taker<u64>, counts:
 fn start_all<'s, E, R: Wait + Sync>(
     scope: &Scope<'s, E>,
     rt: &'s R,
-    lanes: &'s Lanes<u64>,
+    lanes: &'s LaneQueue<u64>,
     putters: Vec<Putter<u64>>,
     each: u32,
 ) -> Result<(), AllocError>
-    requires { All (IsFreshOf lanes.now) putters.items }
+    requires { All (IsNewPutterOf lanes.now) putters.items }
 {
     for putter in putters {
         let run = move ||
-            requires { IsFreshOf lanes.now putter }
+            requires { IsNewPutterOf lanes.now putter }
         { put_all(rt, lanes, putter, each) };
         scope.spawn(run)?;
     }
@@ -65,20 +70,20 @@ fn start_all<'s, E, R: Wait + Sync>(
 // Whether all items came in order; how many did is counted by lane.
 fn run_all<R: Threads + Wait + Sync>(
     rt: &R,
-    lanes: &Lanes<u64>,
+    lanes: &LaneQueue<u64>,
     taker: &mut Taker<u64>,
     putters: Vec<Putter<u64>>,
     each: u32,
     counts: &mut [u64],
 ) -> Result<bool, AllocError>
-    requires putters { All (IsFreshOf lanes.now) putters.items }
-    requires taker { IsOf lanes.now taker.old }
+    requires putters { All (IsNewPutterOf lanes.now) putters.items }
+    requires taker { IsPassOf lanes.now taker.old }
 {
     thread::scope(
         thread::scope_env(),
         rt,
         move |scope| -> Result<bool, AllocError>
-            requires { All (IsFreshOf lanes.now) putters.items × IsOf lanes.now taker.now }
+            requires { All (IsNewPutterOf lanes.now) putters.items × IsPassOf lanes.now taker.now }
         {
             start_all(scope, rt, lanes, putters, each)?;
             Ok(take_all(rt, lanes, taker, counts))
@@ -93,7 +98,7 @@ fn pass_all<R: Threads + Wait + Sync>(
     room: Room,
     each: u32,
 ) -> Result<Option<Vec<u64>>, Fail> {
-    let (lanes, mut taker, putters) = Lanes::<u64>::open(alloc, count, room)?;
+    let (lanes, mut taker, putters) = LaneQueue::<u64>::open(alloc, count, room)?;
     let mut counts = Vec::from_elem(alloc, 0, count as usize)?;
     let whole = run_all(rt, &lanes, &mut taker, putters, each, counts.as_mut_slice())?;
     Ok(if whole { Some(counts) } else { None })

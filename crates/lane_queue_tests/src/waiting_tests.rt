@@ -1,9 +1,9 @@
 //! A wait burns no processor time, and is over once it can be.
 ghost use Rattle.std.specs.Prelude.{◌≤◌, length};
 ghost use Rattle.crossbeam_queue.specs.Passes.{view};
-ghost use Rattle.lane_queue.specs.Queue.{IsOf};
+ghost use Rattle.lane_queue.specs.Queue.{IsPassOf};
 
-use lane_queue::{Lanes, Put, Putter, Room, Take, Taker};
+use lane_queue::{LaneQueue, Put, Putter, Room, Take, Taker};
 use std::alloc::AllocError;
 use std::process::Abort;
 use std::sync::Wait;
@@ -18,8 +18,12 @@ const MILLIS: u64 = 20;
 // What a call answered, and the processor time that its thread used meanwhile. None where there is no such clock.
 type Timed<A> = Option<(A, Duration)>;
 
-fn take_timed<R: Wait + CpuClock>(rt: &R, lanes: &Lanes<u64>, taker: Taker<u64>) -> Timed<Take<u64>>
-    requires { IsOf lanes.now taker }
+fn take_timed<R: Wait + CpuClock>(
+    rt: &R,
+    lanes: &LaneQueue<u64>,
+    taker: Taker<u64>,
+) -> Timed<Take<u64>>
+    requires { IsPassOf lanes.now taker }
 {
     let mut taker = taker;
     let start = rt.thread_cpu_time().ok()?;
@@ -30,11 +34,11 @@ fn take_timed<R: Wait + CpuClock>(rt: &R, lanes: &Lanes<u64>, taker: Taker<u64>)
 
 fn put_timed<R: Wait + CpuClock>(
     rt: &R,
-    lanes: &Lanes<u64>,
+    lanes: &LaneQueue<u64>,
     putter: Putter<u64>,
     body: u64,
 ) -> Timed<Put<u64>>
-    requires { IsOf lanes.now putter × (length (view putter).put ≤ 1) }
+    requires { IsPassOf lanes.now putter × (length (view putter).put ≤ 1) }
 {
     let mut putter = putter;
     let start = rt.thread_cpu_time().ok()?;
@@ -46,22 +50,22 @@ fn put_timed<R: Wait + CpuClock>(
 // The taker waits for an item that is put after that time.
 fn take_after<R: Threads + Wait + Clock + CpuClock + Sync>(
     rt: &R,
-    lanes: &Lanes<u64>,
+    lanes: &LaneQueue<u64>,
     taker: Taker<u64>,
     putter: Putter<u64>,
     time: Duration,
 ) -> Result<Timed<Take<u64>>, AllocError>
-    requires taker { IsOf lanes.now taker }
-    requires putter { IsOf lanes.now putter × (length (view putter).put ≤ 1) }
+    requires taker { IsPassOf lanes.now taker }
+    requires putter { IsPassOf lanes.now putter × (length (view putter).put ≤ 1) }
 {
     thread::scope(
         thread::scope_env(),
         rt,
         move |scope| -> Result<Timed<Take<u64>>, AllocError>
-            requires { IsOf lanes.now taker × IsOf lanes.now putter × (length (view putter).put ≤ 1) }
+            requires { IsPassOf lanes.now taker × IsPassOf lanes.now putter × (length (view putter).put ≤ 1) }
         {
             let wait = move || -> Timed<Take<u64>>
-                requires { IsOf lanes.now taker }
+                requires { IsPassOf lanes.now taker }
             { take_timed(rt, lanes, taker) };
             let waiting = scope.spawn(wait)?;
             thread::sleep(rt, time);
@@ -75,23 +79,23 @@ fn take_after<R: Threads + Wait + Clock + CpuClock + Sync>(
 // The putter waits for room, which is made after that time, or for the close, which comes then.
 fn put_after<R: Threads + Wait + Clock + CpuClock + Sync>(
     rt: &R,
-    lanes: &Lanes<u64>,
+    lanes: &LaneQueue<u64>,
     taker: Taker<u64>,
     putter: Putter<u64>,
     time: Duration,
     closes: bool,
 ) -> Result<Timed<Put<u64>>, AllocError>
-    requires taker { IsOf lanes.now taker }
-    requires putter { IsOf lanes.now putter × (length (view putter).put ≤ 1) }
+    requires taker { IsPassOf lanes.now taker }
+    requires putter { IsPassOf lanes.now putter × (length (view putter).put ≤ 1) }
 {
     thread::scope(
         thread::scope_env(),
         rt,
         move |scope| -> Result<Timed<Put<u64>>, AllocError>
-            requires { IsOf lanes.now taker × IsOf lanes.now putter × (length (view putter).put ≤ 1) }
+            requires { IsPassOf lanes.now taker × IsPassOf lanes.now putter × (length (view putter).put ≤ 1) }
         {
             let wait = move || -> Timed<Put<u64>>
-                requires { IsOf lanes.now putter × (length (view putter).put ≤ 1) }
+                requires { IsPassOf lanes.now putter × (length (view putter).put ≤ 1) }
             { put_timed(rt, lanes, putter, 8) };
             let waiting = scope.spawn(wait)?;
             thread::sleep(rt, time);
@@ -106,8 +110,8 @@ fn put_after<R: Threads + Wait + Clock + CpuClock + Sync>(
     )
 }
 
-fn put_one<R: Wait>(rt: &R, lanes: &Lanes<u64>, putter: Putter<u64>) -> Put<u64>
-    requires { IsOf lanes.now putter × (length (view putter).put ≤ 1) }
+fn put_one<R: Wait>(rt: &R, lanes: &LaneQueue<u64>, putter: Putter<u64>) -> Put<u64>
+    requires { IsPassOf lanes.now putter × (length (view putter).put ≤ 1) }
 {
     let mut putter = putter;
     putter.put(rt, lanes, 8)
@@ -116,27 +120,29 @@ fn put_one<R: Wait>(rt: &R, lanes: &Lanes<u64>, putter: Putter<u64>) -> Put<u64>
 // Two putters wait for room. After that time two items are taken, one right after the other, and no more.
 fn put_both_after<R: Threads + Wait + Clock + Sync>(
     rt: &R,
-    lanes: &Lanes<u64>,
+    lanes: &LaneQueue<u64>,
     taker: Taker<u64>,
     one: Putter<u64>,
     other: Putter<u64>,
     time: Duration,
 ) -> Result<(Put<u64>, Put<u64>), AllocError>
-    requires taker { IsOf lanes.now taker }
-    requires one { IsOf lanes.now one × (length (view one).put ≤ 1) }
-    requires other { IsOf lanes.now other × (length (view other).put ≤ 1) }
+    requires taker { IsPassOf lanes.now taker }
+    requires one { IsPassOf lanes.now one × (length (view one).put ≤ 1) }
+    requires other { IsPassOf lanes.now other × (length (view other).put ≤ 1) }
 {
     thread::scope(
         thread::scope_env(),
         rt,
         move |scope| -> Result<(Put<u64>, Put<u64>), AllocError>
-            requires { IsOf lanes.now taker × (IsOf lanes.now one × (length (view one).put ≤ 1)) × (IsOf lanes.now other × (length (view other).put ≤ 1)) }
+            requires { IsPassOf lanes.now taker
+                × (IsPassOf lanes.now one × (length (view one).put ≤ 1))
+                × (IsPassOf lanes.now other × (length (view other).put ≤ 1)) }
         {
             let put_first = move || -> Put<u64>
-                requires { IsOf lanes.now one × (length (view one).put ≤ 1) }
+                requires { IsPassOf lanes.now one × (length (view one).put ≤ 1) }
             { put_one(rt, lanes, one) };
             let put_second = move || -> Put<u64>
-                requires { IsOf lanes.now other × (length (view other).put ≤ 1) }
+                requires { IsPassOf lanes.now other × (length (view other).put ≤ 1) }
             { put_one(rt, lanes, other) };
             let first = scope.spawn(put_first)?;
             let second = scope.spawn(put_second)?;
@@ -151,7 +157,7 @@ fn put_both_after<R: Threads + Wait + Clock + Sync>(
 
 #[test]
 fn a_taker_sleeps_at_an_empty_queue(rt: HostRuntime) -> Result<(), Fail> {
-    let (lanes, taker, mut putters) = Lanes::open(rt.alloc(), 1, Room::new(1)?)?;
+    let (lanes, taker, mut putters) = LaneQueue::open(rt.alloc(), 1, Room::new(1)?)?;
     let Some(putter) = putters.pop() else {
         assert!(rt; false, "no putter");
         return Ok(());
@@ -169,7 +175,7 @@ fn a_taker_sleeps_at_an_empty_queue(rt: HostRuntime) -> Result<(), Fail> {
 #[test]
 fn a_putter_sleeps_at_a_full_queue(rt: HostRuntime) -> Result<(), Fail> {
     for (closes, seconds) in [(false, 2), (true, 1)] {
-        let (lanes, taker, mut putters) = Lanes::open(rt.alloc(), 1, Room::new(1)?)?;
+        let (lanes, taker, mut putters) = LaneQueue::open(rt.alloc(), 1, Room::new(1)?)?;
         let Some(mut putter) = putters.pop() else {
             assert!(rt; false, "no putter");
             return Ok(());
@@ -193,7 +199,7 @@ fn a_putter_sleeps_at_a_full_queue(rt: HostRuntime) -> Result<(), Fail> {
 
 #[test]
 fn two_putters_go_on_where_there_is_room_for_both(rt: HostRuntime) -> Result<(), Fail> {
-    let (lanes, taker, mut putters) = Lanes::open(rt.alloc(), 2, Room::new(2)?)?;
+    let (lanes, taker, mut putters) = LaneQueue::open(rt.alloc(), 2, Room::new(2)?)?;
     let Some(mut one) = putters.pop() else {
         assert!(rt; false, "no putter");
         return Ok(());

@@ -2,13 +2,14 @@
 use Rattle.std.proofs.Common.{◌≡◌, ℕ, zero, suc, ◌+◌, ◌<◌, ◌≤◌, List, [], ◌∷◌, ◌++◌, length, get_or, drop, Bool, true, false, cond, if◌then◌else◌, Some, unwrap_or, nat_cmp, bytes_eq, Bor, Vec, rules, refl, sym, ◌∙◌, ap, arith, length-append, append_assoc}
 use Rattle.std.specs.BTreeMap.{BTreeMap, get_by}
 use Rattle.std.specs.Cmp.Lexicographic.{slice_cmp}
+use Rattle.std.proofs.lemmas.List.{at_drop_more}
 use Rattle.std.proofs.lemmas.Slice.Eq.{bytes_eq-Decides}
 use Rattle.page_tree.specs.Tree.{Attribute, Tree, element, Trees, no_trees, tree}
 use Rattle.page_tree.specs.Limits.{nodes, nodes_of_all, max_nodes}
 use Rattle.page_tree.specs.Look.{count}
 use Rattle.page_tree.specs.Number.{count_of}
 use Rattle.page_tree.specs.inside.Table.{Line, lines_of, lines_from}
-use Rattle.page_tree.specs.inside.Rows.{line_on, ended}
+use Rattle.page_tree.specs.inside.Rows.{line_on, with_line_end}
 use Rattle.page_tree.specs.inside.Building.{name_count, CountsOneMore, Passed, IsSpot}
 use Rattle.page_tree.specs.declared.siblings.Siblings.{Siblings}
 use Rattle.page_tree.specs.declared.table.Spot.{Spot}
@@ -47,24 +48,13 @@ pub seen-Element : (name : List ℕ) (attributes : List Attribute) (children : V
     → seen (code.Element name attributes children) ≡ element name attributes (all_seen children.items)
 seen-Element name attributes children = search (rules, code.the_lemmas)
 
-abbrev with_end : ℕ → Line → Line
-with_end end l = record {
-  node = l.node;
-  parent = l.parent;
-  end = end;
-  position = l.position;
-  elements_before = l.elements_before;
-  same_before = l.same_before;
-  children = l.children;
-}
-
-ended_at : (xs ys : List Line) (l : Line) (end : ℕ) → ended (length xs) end (xs ++ l ∷ ys) ≡ xs ++ with_end end l ∷ ys
-ended_at [] ys l end = refl
-ended_at (x ∷ xs) ys l end = ap (λ ls. x ∷ ls) (ended_at xs ys l end)
+with_end_at : (xs ys : List Line) (l : Line) (end : ℕ) → with_line_end (length xs) end (xs ++ l ∷ ys) ≡ xs ++ record l { end = end } ∷ ys
+with_end_at [] ys l end = refl
+with_end_at (x ∷ xs) ys l end = ap (λ ls. x ∷ ls) (with_end_at xs ys l end)
 
 element_lines : (name : List ℕ) (attributes : List Attribute) (children before : Trees) (spot : Spot) (at end : ℕ) → end ≡ suc at + nodes_of_all children
     → IsSpot spot before (element name attributes children)
-    → with_end end (line_on (element name attributes no_trees) spot 0 (count children)) ∷ lines_from at no_trees (suc at) children
+    → line_on (element name attributes no_trees) spot end (count children) ∷ lines_from at no_trees (suc at) children
     ≡ lines_of spot.parent before at (element name attributes children)
 element_lines name attributes children before spot at end is s = rw (is, s.position, s.elements, s.same) refl
 
@@ -74,7 +64,7 @@ pub element_built : {t : Tree} (name : List ℕ) (attributes : List Attribute) (
     → pushed ≡ old ++ line_on (element name attributes no_trees) spot 0 many ∷ []
     → all ≡ pushed ++ lines_from number no_trees (length pushed) children
     → (before : Trees) → IsSpot spot before t
-    → ended number (length all) all ≡ old ++ lines_of spot.parent before (length old) t
+    → with_line_end number (length all) all ≡ old ++ lines_of spot.parent before (length old) t
 element_built {t} name attributes children spot many number old pushed all is counts at push add before s =
     let line = line_on (element name attributes no_trees) spot 0 (count children) in
     let under = lines_from (length old) no_trees (suc (length old)) children in
@@ -84,9 +74,9 @@ element_built {t} name attributes children spot many number old pushed all is co
     let end : length all ≡ suc (length old) + nodes_of_all children =
     ap length whole ∙ omega (arith, length-append old (line ∷ under), lines_from-length (length old) no_trees (suc (length old)) children) in
     let stands : IsSpot spot before (element name attributes children) = rw is at s in
-    ap (λ n. ended n (length all) all) at
-    ∙ ap (ended (length old) (length all)) whole
-    ∙ ended_at old under line (length all)
+    ap (λ n. with_line_end n (length all) all) at
+    ∙ ap (with_line_end (length old) (length all)) whole
+    ∙ with_end_at old under line (length all)
     ∙ ap (λ ls. old ++ ls) (element_lines name attributes children before spot (length old) (length all) end stands)
     ∙ ap (λ u. old ++ lines_of spot.parent before (length old) u) (sym is)
 
@@ -103,11 +93,7 @@ element_size name attributes children spot many number old pushed all push add =
 -- ---- children
 
 pub seen_next : (ts : List code.Tree) (i : ℕ) (t : code.Tree) → i < length ts → t ≡ get_or ts i t → all_seen (drop i ts) ≡ tree (seen t) (all_seen (drop (i + 1) ts))
-seen_next [] i t less is = absurd (omega (arith, less))
-seen_next (u ∷ us) zero t less is = ap (λ v. tree (seen v) (all_seen us)) (sym is)
-seen_next (u ∷ us) (suc i) t less is =
-    let on : suc i + 1 ≡ suc (i + 1) = omega arith in
-    rw on (seen_next us i t (omega (arith, less)) is)
+seen_next ts i t less is = at_drop_more all_seen ts i t less ∙ ap (λ u. tree (seen u) (all_seen (drop (i + 1) ts))) (sym is)
 
 -- some children were added to a table, and those are still to come
 pub record Adding (old table : List Line) (parent : ℕ) (siblings : Siblings) (children rest : Trees) : Type 0 where

@@ -16,87 +16,60 @@ use Rattle.page_tree.specs.inside.Kept.{attributes_at, children_at, words_at}
 use Rattle.page_tree.proofs.Numbers.{has_none, has_node, node_there, parent_there, node_at_child}
 use Rattle.page_tree.proofs.LookLaws.{line_is}
 
-attribute_of_node : (name : List ℕ) (o : Option Tree)
+pub attribute_is : (name : List ℕ) (o : Option Tree)
     → option_and_then (λ m. value_of name (attributes_of m)) o ≡ value_of name (option_map_or attributes_of o [])
-attribute_of_node name None = refl
-attribute_of_node name (Some m) = refl
-
-pub attribute_is : (p name : List ℕ) (t : Tree) → attribute_at p name t ≡ value_of name (attributes_at p t)
-attribute_is p name t = attribute_of_node name (node_at p t)
+attribute_is name None = refl
+attribute_is name (Some m) = refl
 
 -- ---- the node there has a name, or none
 
 module _ (name : List ℕ) where
-  control_of_named : (o : Option Tree) → option_and_then name_of o ≡ Some name
+  pub control_named : (o : Option Tree) → option_and_then name_of o ≡ Some name
       → option_map_or control_of o Other ≡ element_control name (option_map_or attributes_of o [])
-  control_of_named None is = cc
-  control_of_named (Some (element own attributes children)) is = let same : own ≡ name = cc in ap (λ n. element_control n attributes) same
-  control_of_named (Some (words text)) is = cc
+  control_named None is = cc
+  control_named (Some (element own attributes children)) is = let same : own ≡ name = cc in ap (λ n. element_control n attributes) same
+  control_named (Some (words text)) is = cc
 
-  checked_of_named : (o : Option Tree) → option_and_then name_of o ≡ Some name
+  pub checked_named : (o : Option Tree) → option_and_then name_of o ≡ Some name
       → option_map_or start_checked_of o false ≡ (is_switch (element_control name (option_map_or attributes_of o [])) && is_some
       (value_of (codes "checked") (option_map_or attributes_of o [])))
-  checked_of_named None is = cc
-  checked_of_named (Some (element own attributes children)) is =
+  checked_named None is = cc
+  checked_named (Some (element own attributes children)) is =
       let same : own ≡ name = cc in ap (λ n. is_switch (element_control n attributes) && is_some (value_of (codes "checked") attributes)) same
-  checked_of_named (Some (words text)) is = cc
+  checked_named (Some (words text)) is = cc
 
-  start_of_named : (o : Option Tree) → option_and_then name_of o ≡ Some name
+  pub start_named : (o : Option Tree) → option_and_then name_of o ≡ Some name
       → is_text (element_control name (option_map_or attributes_of o [])) ≡ true
       → option_and_then start_text_of o ≡ Some (start_text name (option_map_or attributes_of o []) (option_map_or children_of o no_trees))
-  start_of_named None is text = cc
-  start_of_named (Some (element own attributes children)) is text =
+  start_named None is text = cc
+  start_named (Some (element own attributes children)) is text =
       let same : own ≡ name = cc in
       rw (same, text) refl
-  start_of_named (Some (words text)) is held = cc
+  start_named (Some (words text)) is held = cc
 
-  no_start_of_named : (o : Option Tree) → option_and_then name_of o ≡ Some name
+  pub start_other : (o : Option Tree) → option_and_then name_of o ≡ Some name
       → is_text (element_control name (option_map_or attributes_of o [])) ≡ false
       → option_and_then start_text_of o ≡ None
-  no_start_of_named None is text = cc
-  no_start_of_named (Some (element own attributes children)) is text =
+  start_other None is text = cc
+  start_other (Some (element own attributes children)) is text =
       let same : own ≡ name = cc in
       rw (same, text) refl
-  no_start_of_named (Some (words text)) is held = cc
+  start_other (Some (words text)) is held = cc
 
-control_of_unnamed : (o : Option Tree) → option_and_then name_of o ≡ None → option_map_or control_of o Other ≡ Other
-control_of_unnamed None is = refl
-control_of_unnamed (Some (element own attributes children)) is = cc
-control_of_unnamed (Some (words text)) is = refl
+pub control_unnamed : (o : Option Tree) → option_and_then name_of o ≡ None → option_map_or control_of o Other ≡ Other
+control_unnamed None is = refl
+control_unnamed (Some (element own attributes children)) is = cc
+control_unnamed (Some (words text)) is = refl
 
-checked_of_unnamed : (o : Option Tree) → option_and_then name_of o ≡ None → option_map_or start_checked_of o false ≡ false
-checked_of_unnamed None is = refl
-checked_of_unnamed (Some (element own attributes children)) is = cc
-checked_of_unnamed (Some (words text)) is = refl
+pub checked_unnamed : (o : Option Tree) → option_and_then name_of o ≡ None → option_map_or start_checked_of o false ≡ false
+checked_unnamed None is = refl
+checked_unnamed (Some (element own attributes children)) is = cc
+checked_unnamed (Some (words text)) is = refl
 
-start_of_unnamed : (o : Option Tree) → option_and_then name_of o ≡ None → option_and_then start_text_of o ≡ None
-start_of_unnamed None is = refl
-start_of_unnamed (Some (element own attributes children)) is = cc
-start_of_unnamed (Some (words text)) is = refl
-
-pub control_named : (p name : List ℕ) (t : Tree) → name_at p t ≡ Some name → control_at p t ≡ element_control name (attributes_at p t)
-control_named p name t is = control_of_named name (node_at p t) is
-
-pub control_unnamed : (p : List ℕ) (t : Tree) → name_at p t ≡ None → control_at p t ≡ Other
-control_unnamed p t is = control_of_unnamed (node_at p t) is
-
-pub checked_named : (p name : List ℕ) (t : Tree) → name_at p t ≡ Some name
-    → start_checked_at p t ≡ (is_switch (element_control name (attributes_at p t)) && is_some (value_of (codes "checked") (attributes_at p t)))
-checked_named p name t is = checked_of_named name (node_at p t) is
-
-pub checked_unnamed : (p : List ℕ) (t : Tree) → name_at p t ≡ None → start_checked_at p t ≡ false
-checked_unnamed p t is = checked_of_unnamed (node_at p t) is
-
-pub start_named : (p name : List ℕ) (t : Tree) → name_at p t ≡ Some name → is_text (element_control name (attributes_at p t)) ≡ true
-    → start_text_at p t ≡ Some (start_text name (attributes_at p t) (children_at p t))
-start_named p name t is text = start_of_named name (node_at p t) is text
-
-pub start_other : (p name : List ℕ) (t : Tree) → name_at p t ≡ Some name → is_text (element_control name (attributes_at p t)) ≡ false
-    → start_text_at p t ≡ None
-start_other p name t is text = no_start_of_named name (node_at p t) is text
-
-pub start_unnamed : (p : List ℕ) (t : Tree) → name_at p t ≡ None → start_text_at p t ≡ None
-start_unnamed p t is = start_of_unnamed (node_at p t) is
+pub start_unnamed : (o : Option Tree) → option_and_then name_of o ≡ None → option_and_then start_text_of o ≡ None
+start_unnamed None is = refl
+start_unnamed (Some (element own attributes children)) is = cc
+start_unnamed (Some (words text)) is = refl
 
 -- ---- texts
 
@@ -109,9 +82,6 @@ words_there ls t n is there =
     let (m, here) = node_there (node_at (place_numbered n t) t) (has_node n t there) in
     ap (λ l. words_of l.node) (line_is ls t n is there) ∙ ap (λ o. words_of (lone (unwrap_or o (words [])))) here ∙ lone_words m
     ∙ sym (ap (option_and_then words_of) here)
-
-pub words_past : (t : Tree) (n : ℕ) → nodes t ≤ n → words_at (place_numbered n t) t ≡ None
-words_past t n past = ap (option_and_then words_of) (has_none n t past)
 
 -- ---- the texts among the children of a node
 

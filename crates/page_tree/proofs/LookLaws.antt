@@ -8,8 +8,8 @@ use Rattle.page_tree.specs.Limits.{nodes, names_of, is_ascending, IsNamed, AreNa
 use Rattle.page_tree.specs.Look.{nth_child, node_at, name_of, name_at, attributes_of, attribute_at, value_of, child_count_at, count, children_of, text_of, text_at}
 use Rattle.page_tree.specs.Number.{place_numbered, elements_before_at, same_before_at}
 use Rattle.page_tree.specs.inside.Table.{Line, lines, lone, node_or_text, line_at}
-use Rattle.page_tree.specs.inside.Rows.{line_in, blank}
-use Rattle.page_tree.proofs.Numbers.{has_none, has_node, node_there, number_of_numbered}
+use Rattle.page_tree.specs.inside.Rows.{line_in, blank_line}
+use Rattle.page_tree.proofs.Numbers.{has_node, node_there, through, number_of_numbered}
 use Rattle.page_tree.proofs.TableLaws.{lines-length, line_numbered}
 
 -- a table has a line for each node
@@ -18,7 +18,7 @@ line_count ls t is = ap length is ∙ lines-length 0 no_trees 0 t
 
 -- the line of a node
 pub line_is : (ls : List Line) (t : Tree) (n : ℕ) → ls ≡ lines t → n < nodes t → line_in n ls ≡ line_at t (place_numbered n t)
-line_is ls t n is there = ap (line_in n) is ∙ line_numbered n t blank there
+line_is ls t n is there = ap (line_in n) is ∙ line_numbered n t blank_line there
 
 -- ---- looks at a node, or at none
 
@@ -50,40 +50,22 @@ or_none look (Some m) = refl
 pub name_there : (ls : List Line) (t : Tree) (n : ℕ) → ls ≡ lines t → n < nodes t → name_of (line_in n ls).node ≡ name_at (place_numbered n t) t
 name_there ls t n is there = look_there name_of ls t n None refl (λ _ _ _. refl) is there ∙ sym (or_none name_of (node_at (place_numbered n t) t))
 
-pub name_past : (t : Tree) (n : ℕ) → nodes t ≤ n → name_at (place_numbered n t) t ≡ None
-name_past t n past = ap (option_and_then name_of) (has_none n t past)
-
 pub attribute_there : (ls : List Line) (t : Tree) (n : ℕ) (name : List ℕ) → ls ≡ lines t → n < nodes t
     → value_of name (attributes_of (line_in n ls).node) ≡ attribute_at (place_numbered n t) name t
 attribute_there ls t n name is there =
     look_there (λ m. value_of name (attributes_of m)) ls t n None refl (λ _ _ _. refl) is there
     ∙ sym (or_none (λ m. value_of name (attributes_of m)) (node_at (place_numbered n t) t))
 
-pub attribute_past : (t : Tree) (n : ℕ) (name : List ℕ) → nodes t ≤ n → attribute_at (place_numbered n t) name t ≡ None
-attribute_past t n name past = ap (option_and_then (λ m. value_of name (attributes_of m))) (has_none n t past)
-
 pub children_there : (ls : List Line) (t : Tree) (n : ℕ) → ls ≡ lines t → n < nodes t
     → (line_in n ls).children ≡ child_count_at (place_numbered n t) t
 children_there ls t n is there = ap (λ l. l.children) (line_is ls t n is there)
-
-pub children_past : (t : Tree) (n : ℕ) → nodes t ≤ n → child_count_at (place_numbered n t) t ≡ 0
-children_past t n past = ap (λ o. option_map_or (λ m. count (children_of m)) o 0) (has_none n t past)
-
-pub text_past : (t : Tree) (n : ℕ) → nodes t ≤ n → text_at (place_numbered n t) t ≡ []
-text_past t n past = ap (λ o. option_map_or text_of o []) (has_none n t past)
 
 pub elements_there : (ls : List Line) (t : Tree) (n : ℕ) → ls ≡ lines t → n < nodes t
     → (line_in n ls).elements_before ≡ elements_before_at (place_numbered n t) t
 elements_there ls t n is there = ap (λ l. l.elements_before) (line_is ls t n is there)
 
-pub elements_past : (t : Tree) (n : ℕ) → nodes t ≤ n → elements_before_at (place_numbered n t) t ≡ 0
-elements_past t n past = rw (name_past t n past) refl
-
 pub same_there : (ls : List Line) (t : Tree) (n : ℕ) → ls ≡ lines t → n < nodes t → (line_in n ls).same_before ≡ same_before_at (place_numbered n t) t
 same_there ls t n is there = ap (λ l. l.same_before) (line_is ls t n is there)
-
-pub same_past : (t : Tree) (n : ℕ) → nodes t ≤ n → same_before_at (place_numbered n t) t ≡ 0
-same_past t n past = rw (name_past t n past) refl
 
 pub end_there : (ls : List Line) (t : Tree) (n : ℕ) (m : Tree) → ls ≡ lines t → n < nodes t → node_at (place_numbered n t) t ≡ Some m
     → (line_in n ls).end ≡ n + nodes m
@@ -101,10 +83,6 @@ nth_named : (ts : Trees) (i : ℕ) (c : Tree) → AreNamed ts → nth_child i ts
 nth_named no_trees i c named is = cc
 nth_named (tree t ts) zero c (first, others) is = let same : t ≡ c = cc in subst IsNamed same first
 nth_named (tree t ts) (suc i) c (first, others) is = nth_named ts i c others is
-
-pub through : {X Y : Type 0} (f : X → Option Y) (o : Option X) (y : Y) → option_and_then f o ≡ Some y → (x : X) × (o ≡ Some x) × (f x ≡ Some y)
-through f None y is = cc
-through f (Some x) y is = (x, refl, is)
 
 named_below : (p : List ℕ) (t m : Tree) → IsNamed t → node_at p t ≡ Some m → IsNamed m
 named_below [] t m named is = let same : t ≡ m = cc in subst IsNamed same named

@@ -9,7 +9,7 @@ use Rattle.page_tree.specs.Limits.{nodes}
 use Rattle.page_tree.specs.Look.{node_at, text_of, text_at}
 use Rattle.page_tree.specs.Number.{place_numbered}
 use Rattle.page_tree.specs.inside.Table.{Line, lines, lone}
-use Rattle.page_tree.specs.inside.Rows.{line_in, words_of, blank}
+use Rattle.page_tree.specs.inside.Rows.{line_in, words_of, blank_line}
 use Rattle.page_tree.specs.inside.Kept.{words_at}
 use Rattle.page_tree.proofs.Numbers.{has_node, node_there, under_numbered}
 use Rattle.page_tree.proofs.TableLaws.{lines-length, text_numbered}
@@ -49,7 +49,7 @@ texts_step t n e less within =
     let more : e - n ≡ suc (e - (n + 1)) = omega (arith, less) in
     let next : suc n ≡ n + 1 = omega arith in
     let split : drop n (lines t) ≡ line_in n (lines t) ∷ drop (n + 1) (lines t) =
-    drop-cons (lines t) n blank (omega (arith, lines-length 0 no_trees 0 t, less, within)) ∙ ap (λ k. line_in n (lines t) ∷ drop k (lines t)) next in
+    drop-cons (lines t) n blank_line (omega (arith, lines-length 0 no_trees 0 t, less, within)) ∙ ap (λ k. line_in n (lines t) ∷ drop k (lines t)) next in
     ap (texts_in t n) more ∙ ap (λ ls. flat_map (λ line. text_of line.node) (take (suc (e - (n + 1))) ls)) split
     ∙ ap (λ s. s ++ texts_in t (n + 1) (e - (n + 1))) (text_of_line t n (omega (arith, less, within)))
 

@@ -14,8 +14,8 @@ use Rattle.page_tree.specs.inside.Rows.{line_in}
 use Rattle.page_tree.proofs.Below.{node_at-append}
 use Rattle.page_tree.proofs.Counting.{nodes-positive}
 use Rattle.page_tree.proofs.Numbers.{number_of_numbered, numbered_of_number, number_child, has_node, has_none, node_there, nth_there, nth_past}
-use Rattle.page_tree.proofs.Numbers.{node_at_child, parent_there, first_numbered, next_numbered, under_numbered}
-use Rattle.page_tree.proofs.LookLaws.{line_is, end_there, through}
+use Rattle.page_tree.proofs.Numbers.{node_at_child, through, parent_there, first_numbered, next_numbered, under_numbered}
+use Rattle.page_tree.proofs.LookLaws.{line_is, end_there}
 
 abbrev places_in : Tree → ℕ → ℕ → List (List ℕ)
 places_in t start end = map (λ k. place_numbered k t) (range_with_len start (end - start))
@@ -54,12 +54,6 @@ under_past t n past =
     let none : 0 ≡ n - n = omega arith in
     ap (λ o. option_map_or (λ m. places_from (place_numbered n t) 0 (children_of m)) o []) (has_none n t past)
     ∙ ap (λ k. map (λ k. place_numbered k t) (range_with_len n k)) none
-
-pub first_past : (t : Tree) (n : ℕ) → nodes t ≤ n → 0 < child_count_at (place_numbered n t) t → place_numbered n t ≡ place_numbered n t ++ 0 ∷ []
-first_past t n past some =
-    let (m, here, few) = parent_there (node_at (place_numbered n t) t) 0 some in
-    let none : None ≡ Some m = sym (has_none n t past) ∙ here in
-    cc
 
 pub next_past : (t : Tree) (n : ℕ) (at : List ℕ) (i : ℕ) → nodes t ≤ n → place_numbered n t ≡ at ++ i ∷ [] → suc i < child_count_at at t
     → place_numbered n t ≡ at ++ suc i ∷ []

@@ -1,6 +1,6 @@
 -- Numbers and places, either from the other.
 use Rattle.std.proofs.Common.{◌≡◌, ℕ, zero, suc, ◌+◌, ◌-◌, ◌<◌, ◌≤◌, List, [], ◌∷◌, ◌++◌, length, map, get_or, take, drop, Option, Some, None}
-use Rattle.std.proofs.Common.{option_and_then, IsSome, All, refl, sym, ◌∙◌, ap, arith, length-append}
+use Rattle.std.proofs.Common.{option_and_then, IsSome, All, refl, sym, ◌∙◌, ap, arith, length-append, zero-add, add-zero}
 use Rattle.std.specs.Option.{option_map_or}
 use Rattle.std.specs.List.{range_with_len}
 use Rattle.std.proofs.lemmas.List.{map-append, get_or-map, get_or_past, drop_more}
@@ -79,14 +79,12 @@ pub node_there : (o : Option Tree) → IsSome o → (m : Tree) × (o ≡ Some m)
 node_there None there = cc
 node_there (Some m) there = (m, refl)
 
--- ---- the number of a place
+-- where a look at something gives an answer, something is there
+pub through : {X Y : Type 0} (f : X → Option Y) (o : Option X) (y : Y) → option_and_then f o ≡ Some y → (x : X) × (o ≡ Some x) × (f x ≡ Some y)
+through f None y is = cc
+through f (Some x) y is = (x, refl, is)
 
-past_child : (p q : List ℕ) (k : ℕ) (child : Option Tree) (m : Tree)
-    → ((c : Tree) → node_at p c ≡ Some m → place_number (p ++ q) c ≡ place_number p c + place_number q m)
-    → option_and_then (node_at p) child ≡ Some m
-    → k + option_map_or (place_number (p ++ q)) child 0 ≡ k + option_map_or (place_number p) child 0 + place_number q m
-past_child p q k None m later is = cc
-past_child p q k (Some c) m later is = omega (arith, later c is)
+-- ---- the number of a place
 
 -- numbers add up on the way down
 pub place_number-append : (p q : List ℕ) (t m : Tree) → node_at p t ≡ Some m → place_number (p ++ q) t ≡ place_number p t + place_number q m
@@ -94,7 +92,8 @@ place_number-append [] q t m is =
     let same : t ≡ m = cc in
     omega (arith, ap (place_number q) same)
 place_number-append (i ∷ p) q t m is =
-    past_child p q (suc (nodes_of_all (first_trees i (children_of t)))) (nth_child i (children_of t)) m (λ c. place_number-append p q c m) is
+    let (c, child, below) = through (node_at p) (nth_child i (children_of t)) m is in
+    rw child (omega (arith, place_number-append p q c m below))
 
 no_more : (o : Option Tree) → option_map_or (place_number []) o 0 ≡ 0
 no_more None = refl
@@ -115,19 +114,14 @@ pub number_next : (p : List ℕ) (t m : Tree) (i : ℕ) (c : Tree) → node_at p
 number_next p t m i c is child =
     number_child p t m (suc i) is ∙ omega (arith, nodes_next i (children_of m) c child, number_child p t m i is)
 
-end_child : (p : List ℕ) (i : ℕ) (ts : Trees) (child : Option Tree) (m : Tree)
-    → ((c : Tree) → node_at p c ≡ Some m → place_number p c + nodes m ≤ nodes c)
-    → nth_child i ts ≡ child → option_and_then (node_at p) child ≡ Some m
-    → suc (nodes_of_all (first_trees i ts)) + option_map_or (place_number p) child 0 + nodes m ≤ suc (nodes_of_all ts)
-end_child p i ts None m later child is = cc
-end_child p i ts (Some c) m later child is = omega (arith, nodes_within i ts c child, later c is)
-
 -- the nodes under one have their numbers within the tree
 pub number_end : (p : List ℕ) (t m : Tree) → node_at p t ≡ Some m → place_number p t + nodes m ≤ nodes t
 number_end [] t m is =
     let same : t ≡ m = cc in
     omega (arith, ap nodes same)
-number_end (i ∷ p) (element name attributes children) m is = end_child p i children (nth_child i children) m (λ c. number_end p c m) refl is
+number_end (i ∷ p) (element name attributes children) m is =
+    let (c, child, below) = through (node_at p) (nth_child i children) m is in
+    rw child (omega (arith, nodes_within i children c child, number_end p c m below))
 number_end (i ∷ p) (words text) m is = cc
 
 -- a node's number is below how many there are
@@ -136,15 +130,12 @@ is_numbered p t m is = omega (arith, number_end p t m is, nodes-positive m)
 
 -- ---- the numbers of all places
 
-range-append : (a n k : ℕ) → range_with_len a (n + k) ≡ range_with_len a n ++ range_with_len (a + n) k
-range-append a zero k =
-    let none : 0 + k ≡ k = omega arith in
-    let same : a + 0 ≡ a = omega arith in
-    rw (none, same) refl
-range-append a (suc n) k =
-    let more : suc n + k ≡ suc (n + k) = omega arith in
-    let same : a + suc n ≡ a + 1 + n = omega arith in
-    rw (more, same) (ap (λ ns. a ∷ ns) (range-append (a + 1) n k))
+pub range-append : (a n k : ℕ) → range_with_len a (n + k) ≡ range_with_len a n ++ range_with_len (a + n) k
+range-append a zero n = rw (zero-add, add-zero) refl
+range-append a (suc m) n =
+    let more : suc m + n ≡ suc (m + n) = omega arith in
+    let next : a + 1 + m ≡ a + suc m = omega arith in
+    ap (range_with_len a) more ∙ ap (λ ns. a ∷ ns) (range-append (a + 1) m n ∙ ap (λ k. range_with_len (a + 1) m ++ range_with_len k n) next)
 
 numbers_joined : (root : Tree) (xs ys : List (List ℕ)) (a n k : ℕ) → map (λ q. place_number q root) xs ≡ range_with_len a n
     → map (λ q. place_number q root) ys ≡ range_with_len (a + n) k → map (λ q. place_number q root) (xs ++ ys) ≡ range_with_len a (n + k)

@@ -1,7 +1,7 @@
 -- Reading a value into a table: what the walk over the value gives is what was added.
 use Rattle.std.proofs.Common.{rules, ◌≡◌, ℕ, zero, suc, ◌+◌, ◌<◌, ◌≤◌, List, [], ◌∷◌, ◌++◌, length, get_or, drop, min, nat_lt, true, Some, None, option_and_then, Result, Ok, Err, String, Global, string_bytes, refl, sym, ◌∙◌, ap, subst, arith, length-append, append_assoc, append-nil}
-use Rattle.std.specs.Option.{ok_or}
 use Rattle.std.proofs.lemmas.Bool.{lt-ltb}
+use Rattle.std.proofs.lemmas.List.{at_drop_more, at_drop_all}
 use Rattle.serde_json.specs.Data.{Data, string, Items, no_items, item}
 use Rattle.serde_json.specs.View.{view, items_view}
 use Rattle.serde_json.specs.declared.value.Value.{Value}
@@ -9,14 +9,13 @@ use Rattle.serde_json.specs.declared.value.Value as json
 use Rattle.page_tree.specs.Tree.{Attribute, Tree, element, words, Trees, no_trees, tree}
 use Rattle.page_tree.specs.Seen.{trees_of}
 use Rattle.page_tree.specs.Limits.{nodes, max_nodes}
-use Rattle.page_tree.specs.Look.{count, name_of}
+use Rattle.page_tree.specs.Look.{count}
 use Rattle.page_tree.specs.Fault.{PageFails}
 use Rattle.page_tree.specs.FirstFault.{◌>>=◌}
-use Rattle.page_tree.specs.Value.{name_in, attributes_in, children_in}
-use Rattle.page_tree.specs.inside.Walk.{Walk, if_name, if_ascending, walk, walk_all, walk_element}
+use Rattle.page_tree.specs.inside.Walk.{Walk, name_or_fault, attributes_or_fault, children_or_fault, walk, walk_all, walk_children, walk_element}
 use Rattle.page_tree.specs.inside.Table.{Line, lines_of, lines_from}
-use Rattle.page_tree.specs.inside.Rows.{line_on, ended}
-use Rattle.page_tree.specs.inside.Building.{Passed, IsSpot}
+use Rattle.page_tree.specs.inside.Rows.{line_on, with_line_end}
+use Rattle.page_tree.specs.inside.Building.{Passed, StandsBehind, PassesOne}
 use Rattle.page_tree.specs.inside.Reading.{HasPassed, ReadsNode, ReadsChildren}
 use Rattle.page_tree.specs.declared.siblings.Siblings.{Siblings}
 use Rattle.page_tree.specs.declared.table.Spot.{Spot}
@@ -38,9 +37,6 @@ fails_through TooDeep said f fails = ap (λ r. r >>= f) fails
 fails_through TooMany said f fails = ap (λ r. r >>= f) fails
 fails_through NoMemory said f fails = tt
 
-fails_as : {A : Type 0} (fault : PageFault) (said other : Result A PageFault) → said ≡ other → PageFails fault said → PageFails fault other
-fails_as fault said other same fails = subst (PageFails fault) same fails
-
 -- ---- an element
 
 abbrev element_of : List ℕ → List Attribute → List Tree × ℕ → Result (Tree × ℕ) PageFault
@@ -48,12 +44,11 @@ element_of name attributes ts = Ok (element name attributes (trees_of ts.0), ts.
 
 -- an element whose own parts are read: what the walk over its children gives
 element_walk : (below : Walk) (before : ℕ) (d : Data) (name : List ℕ) (attributes : List Attribute) (ds : Items)
-    → ok_or (option_and_then if_name (name_in d)) BadName ≡ Ok name → ok_or (option_and_then if_ascending (attributes_in d)) BadAttribute ≡ Ok attributes
-    → ok_or (children_in d) BadChildren ≡ Ok ds
+    → name_or_fault d ≡ Ok name → attributes_or_fault d ≡ Ok attributes → children_or_fault d ≡ Ok ds
     → walk_element below before d ≡ (walk_all below (suc before) ds >>= element_of name attributes)
 element_walk below before d name attributes ds named has holds =
-    ap (λ r. r >>= λ n. ok_or (option_and_then if_ascending (attributes_in d)) BadAttribute >>= λ xs. (ok_or (children_in d) BadChildren >>= λ ds. walk_all below (suc before) ds) >>= element_of n xs) named
-    ∙ ap (λ r. r >>= λ xs. (ok_or (children_in d) BadChildren >>= λ ds. walk_all below (suc before) ds) >>= element_of name xs) has
+    ap (λ r. r >>= λ n. attributes_or_fault d >>= λ xs. walk_children below (suc before) d >>= element_of n xs) named
+    ∙ ap (λ r. r >>= λ xs. walk_children below (suc before) d >>= element_of name xs) has
     ∙ ap (λ r. (r >>= λ ds. walk_all below (suc before) ds) >>= element_of name attributes) holds
 
 one_row : (old pushed : List Line) (line : Line) → pushed ≡ old ++ line ∷ [] → length pushed ≡ suc (length old)
@@ -61,12 +56,11 @@ one_row old pushed line is = ap length is ∙ omega (arith, length-append old (l
 
 pub element_fails : (fault : PageFault) (below : Walk) (old pushed : List Line) (line : Line) (d : Data) (name : List ℕ) (attributes : List Attribute) (ds : Items)
     → pushed ≡ old ++ line ∷ []
-    → ok_or (option_and_then if_name (name_in d)) BadName ≡ Ok name → ok_or (option_and_then if_ascending (attributes_in d)) BadAttribute ≡ Ok attributes
-    → ok_or (children_in d) BadChildren ≡ Ok ds
+    → name_or_fault d ≡ Ok name → attributes_or_fault d ≡ Ok attributes → children_or_fault d ≡ Ok ds
     → PageFails fault (walk_all below (length pushed) ds) → PageFails fault (walk_element below (length old) d)
 element_fails fault below old pushed line d name attributes ds push named has holds fails =
     let behind = subst (λ n. PageFails fault (walk_all below n ds)) (one_row old pushed line push) fails in
-    fails_as fault _ _ (sym (element_walk below (length old) d name attributes ds named has holds)) (fails_through fault (walk_all below (suc (length old)) ds) (element_of name attributes) behind)
+    subst (PageFails fault) (sym (element_walk below (length old) d name attributes ds named has holds)) (fails_through fault (walk_all below (suc (length old)) ds) (element_of name attributes) behind)
 
 -- ---- as many trees as values
 
@@ -88,23 +82,20 @@ count-trees_of : (ts : List Tree) → count (trees_of ts) ≡ length ts
 count-trees_of [] = refl
 count-trees_of (t ∷ ts) = ap suc (count-trees_of ts)
 
-ended-length : (n end : ℕ) (ls : List Line) → length (ended n end ls) ≡ length ls
-ended-length n end [] = refl
-ended-length zero end (l ∷ ls) = refl
-ended-length (suc n) end (l ∷ ls) = ap suc (ended-length n end ls)
+with_line_end-length : (n end : ℕ) (ls : List Line) → length (with_line_end n end ls) ≡ length ls
+with_line_end-length n end [] = refl
+with_line_end-length zero end (l ∷ ls) = refl
+with_line_end-length (suc n) end (l ∷ ls) = ap suc (with_line_end-length n end ls)
 
 pub element_read : (below : Walk) (d : Data) (parent : ℕ) (siblings passes : Siblings) (spot : Spot) (number : ℕ) (old pushed all whole : List Line)
     (name : List ℕ) (attributes : List Attribute) (vs : List Value)
-    → ok_or (option_and_then if_name (name_in d)) BadName ≡ Ok name → ok_or (option_and_then if_ascending (attributes_in d)) BadAttribute ≡ Ok attributes
-    → ok_or (children_in d) BadChildren ≡ Ok (items_view vs)
+    → name_or_fault d ≡ Ok name → attributes_or_fault d ≡ Ok attributes → children_or_fault d ≡ Ok (items_view vs)
     → spot.parent ≡ parent
-    → ((before : Trees) (t : Tree) → name_of t ≡ Some name → Passed before siblings → IsSpot spot before t)
-    → ((before : Trees) (t : Tree) → name_of t ≡ Some name → Passed before siblings → Passed (tree t before) passes)
-    → number ≡ length old
+    → StandsBehind siblings (Some name) spot → PassesOne siblings (Some name) passes → number ≡ length old
     → pushed ≡ old ++ line_on (element name attributes no_trees) spot 0 (min (length vs) 4096) ∷ []
-    → ReadsChildren number pushed all (Ok tt) (walk_all below (length pushed) (items_view vs))
-    → whole ≡ ended number (length all) all
-    → ReadsNode parent siblings passes old whole (Ok tt) (walk_element below (length old) d)
+    → ReadsChildren below (items_view vs) number pushed all (Ok tt)
+    → whole ≡ with_line_end number (length all) all
+    → ReadsNode (walk_element below) d parent siblings passes old whole (Ok tt)
 element_read below d parent siblings passes spot number old pushed all whole name attributes vs named has holds up stands passed at push (ts, walked, added, few) end =
     let line = line_on (element name attributes no_trees) spot 0 (min (length vs) 4096) in
     let one = one_row old pushed line push in
@@ -112,7 +103,7 @@ element_read below d parent siblings passes spot number old pushed all whole nam
     let under = lines_from-length number no_trees (length pushed) (trees_of ts) in
     let many : length ts ≡ length vs = walk_all-many below (length pushed) vs ts (length all) walked in
     let counts : min (length vs) 4096 ≡ count (trees_of ts) = omega (arith, count-trees_of ts, many, count-nodes (trees_of ts), all_length, under, few) in
-    let size : length whole ≡ length all = ap length end ∙ ended-length number (length all) all in
+    let size : length whole ≡ length all = ap length end ∙ with_line_end-length number (length all) all in
     let t = element name attributes (trees_of ts) in (
       t,
       element_walk below (length old) d name attributes (items_view vs) named has holds
@@ -134,10 +125,9 @@ view-String text = search (rules, json.the_lemmas)
 pub text_read : (levels : ℕ) (d : Data) (text : List ℕ) (parent : ℕ) (siblings passes : Siblings) (spot : Spot) (old new : List Line)
     → d ≡ string text → length old < 4096
     → spot.parent ≡ parent
-    → ((before : Trees) (t : Tree) → name_of t ≡ None → Passed before siblings → IsSpot spot before t)
-    → ((before : Trees) (t : Tree) → name_of t ≡ None → Passed before siblings → Passed (tree t before) passes)
+    → StandsBehind siblings None spot → PassesOne siblings None passes
     → new ≡ old ++ line_on (words text) spot (suc (length old)) 0 ∷ []
-    → ReadsNode parent siblings passes old new (Ok tt) (walk levels (length old) d)
+    → ReadsNode (walk levels) d parent siblings passes old new (Ok tt)
 text_read levels d text parent siblings passes spot old new is less up stands passed push =
     let line = line_on (words text) spot (suc (length old)) 0 in
     let one = one_row old new line push in
@@ -199,7 +189,7 @@ pub may_pass : (one : Walk) (parent : ℕ) (old table : List Line) (siblings : S
 may_pass one parent old table siblings items rest so_far = (turned so_far.found no_trees, so_far.passed, so_far.behind)
 
 pub read_step : (one : Walk) (parent : ℕ) (old table next : List Line) (siblings passes : Siblings) (items rest : Items) (d : Data)
-    → ReadsNode parent siblings passes table next (Ok tt) (one (length table) d)
+    → ReadsNode one d parent siblings passes table next (Ok tt)
     → ReadSoFar one parent old table siblings items (item d rest) → ReadSoFar one parent old next passes items rest
 read_step one parent old table next siblings passes items rest d (t, walked, adds) so_far =
     let before = turned so_far.found no_trees in
@@ -223,12 +213,12 @@ read_step one parent old table next siblings passes items rest d (t, walked, add
 pub read_fails : (fault : PageFault) (one : Walk) (parent : ℕ) (old table : List Line) (siblings : Siblings) (items rest : Items) (d : Data)
     → PageFails fault (one (length table) d) → ReadSoFar one parent old table siblings items (item d rest) → PageFails fault (walk_all one (length old) items)
 read_fails fault one parent old table siblings items rest d fails so_far =
-    fails_as fault _ _ so_far.walk
+    subst (PageFails fault) so_far.walk
     (fails_through fault (walk_all one (length table) (item d rest)) (λ more. Ok (so_far.found ++ more.0, more.1))
     (fails_through fault (one (length table) d) (λ t. walk_all one t.1 rest >>= λ ts. Ok (t.0 ∷ ts.0, ts.1)) fails))
 
 pub read_end : (one : Walk) (parent : ℕ) (old table : List Line) (siblings : Siblings) (items : Items)
-    → ReadSoFar one parent old table siblings items no_items → ReadsChildren parent old table (Ok tt) (walk_all one (length old) items)
+    → ReadSoFar one parent old table siblings items no_items → ReadsChildren one items parent old table (Ok tt)
 read_end one parent old table siblings items so_far = (
   so_far.found,
   sym so_far.walk ∙ ap (λ found. Ok (found, length table)) (append-nil so_far.found),
@@ -237,14 +227,7 @@ read_end one parent old table siblings items so_far = (
 )
 
 pub items_next : (vs : List Value) (i : ℕ) (v : Value) → i < length vs → v ≡ get_or vs i v → items_view (drop i vs) ≡ item (view v) (items_view (drop (i + 1) vs))
-items_next [] i v less is = absurd (omega (arith, less))
-items_next (u ∷ us) zero v less is = ap (λ w. item (view w) (items_view us)) (sym is)
-items_next (u ∷ us) (suc i) v less is =
-    let on : suc i + 1 ≡ suc (i + 1) = omega arith in
-    rw on (items_next us i v (omega (arith, less)) is)
+items_next vs i v less is = at_drop_more items_view vs i v less ∙ ap (λ w. item (view w) (items_view (drop (i + 1) vs))) (sym is)
 
 pub items_end : (vs : List Value) (i : ℕ) → length vs ≤ i → items_view (drop i vs) ≡ no_items
-items_end [] zero past = refl
-items_end [] (suc i) past = refl
-items_end (v ∷ vs) zero past = absurd (omega (arith, past))
-items_end (v ∷ vs) (suc i) past = items_end vs i (omega (arith, past))
+items_end vs i past = at_drop_all items_view vs i past

@@ -6,7 +6,7 @@ use Rattle.std.proofs.lemmas.List.{length-map}
 use lib.ListN.{get_or-append}
 use lib.Seq.{get_or-append_seam}
 use Rattle.page_tree.specs.Tree.{Attribute, element, words, no_trees}
-use Rattle.page_tree.specs.inside.Rows.{texts_of_attributes, attributes_from, line_of_row, lines_of_rows, IsWithin, AreWithin, line_on, ended}
+use Rattle.page_tree.specs.inside.Rows.{texts_of_attributes, attributes_from, line_of_row, lines_of_rows, IsWithin, AreWithin, line_on, with_line_end}
 use Rattle.page_tree.specs.declared.table.Row.{Row}
 use Rattle.page_tree.specs.declared.table.Spot.{Spot}
 
@@ -135,7 +135,7 @@ pub rows_ended : (texts : List (List ℕ)) (rows : List Row) (n end : ℕ) (row 
       children = row.children;
       text = row.text;
       attributes = row.attributes;
-    })) ≡ ended n end (lines_of_rows texts rows)
+    })) ≡ with_line_end n end (lines_of_rows texts rows)
 rows_ended texts [] n end row there is = absurd (omega (arith, there))
 rows_ended texts (first ∷ rows) zero end row there is = rw (sym is) refl
 rows_ended texts (first ∷ rows) (suc n) end row there is =

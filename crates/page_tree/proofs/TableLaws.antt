@@ -4,14 +4,15 @@ use Rattle.std.proofs.Common.{if◌then◌else◌, Option, Some, None, option_an
 use Rattle.std.specs.Option.{option_map_or}
 use Rattle.std.proofs.lemmas.List.{map-append, get_or-map, take-map, drop-map, take_at, get_or_at}
 use Rattle.std.proofs.lemmas.Grind.{flat_map-append}
+use Rattle.std.proofs.lemmas.List.Folds.{flat_map-map}
 use Rattle.page_tree.specs.Tree.{Attribute, Tree, element, words, Trees, no_trees, tree}
 use Rattle.page_tree.specs.Limits.{nodes, nodes_of_all, is_element}
 use Rattle.page_tree.specs.Look.{children_of, nth_child, node_at, count, text_of, text_of_all}
 use Rattle.page_tree.specs.Under.{places_of, places_from}
 use Rattle.page_tree.specs.Number.{place_numbered, first_trees, count_of, siblings_before, is_named}
-use Rattle.page_tree.specs.inside.Table.{Line, lines_of, lines_from, lines, trees_behind, planted, grown, first_tree, tree_of_lines, place_number}
+use Rattle.page_tree.specs.inside.Table.{Line, lines_of, lines_from, lines, trees_behind, with_tree, trees_of_lines, first_tree, tree_of_lines, place_number}
 use Rattle.page_tree.specs.inside.Table.{line_at}
-use Rattle.page_tree.proofs.Numbers.{places-length, nth_behind, node_at_child, number_first, number_next, number_of_numbered, places_cut, node_at_end}
+use Rattle.page_tree.proofs.Numbers.{places-length, nth_behind, node_at_child, number_first, number_next, number_of_numbered, places_cut, through}
 
 mutual
   -- a table has a line for each node
@@ -43,22 +44,22 @@ behind-followed no_trees after = refl
 behind-followed (tree t ts) after = behind-followed ts after
 
 planted_whole : (name : List ℕ) (attributes : List Attribute) (children after grown : Trees) → grown ≡ followed children after
-    → planted (element name attributes no_trees) (count children) grown ≡ tree (element name attributes children) after
+    → with_tree (element name attributes no_trees) (count children) grown ≡ tree (element name attributes children) after
 planted_whole name attributes children after grown is = rw (is, first-followed children after, behind-followed children after) refl
 
 mutual
   -- the lines of a node grow into that node, in front of what grows from the lines behind them
   pub grown_of : (parent : ℕ) (before : Trees) (at : ℕ) (t : Tree) (rest : List Line)
-      → grown (lines_of parent before at t ++ rest) ≡ tree t (grown rest)
+      → trees_of_lines (lines_of parent before at t ++ rest) ≡ tree t (trees_of_lines rest)
   grown_of parent before at (element name attributes children) rest =
-      planted_whole name attributes children (grown rest) _ (grown_from at no_trees (suc at) children rest)
+      planted_whole name attributes children (trees_of_lines rest) _ (grown_from at no_trees (suc at) children rest)
   grown_of parent before at (words text) rest = refl
 
   pub grown_from : (parent : ℕ) (before : Trees) (at : ℕ) (ts : Trees) (rest : List Line)
-      → grown (lines_from parent before at ts ++ rest) ≡ followed ts (grown rest)
+      → trees_of_lines (lines_from parent before at ts ++ rest) ≡ followed ts (trees_of_lines rest)
   grown_from parent before at no_trees rest = refl
   grown_from parent before at (tree t ts) rest =
-      ap grown (append_assoc (lines_of parent before at t) (lines_from parent (tree t before) (at + nodes t) ts) rest)
+      ap trees_of_lines (append_assoc (lines_of parent before at t) (lines_from parent (tree t before) (at + nodes t) ts) rest)
       ∙ grown_of parent before at t (lines_from parent (tree t before) (at + nodes t) ts ++ rest)
       ∙ ap (tree t) (grown_from parent (tree t before) (at + nodes t) ts rest)
 
@@ -92,17 +93,6 @@ count_as_next : (i : ℕ) (ts before : Trees) (c : Tree) → nth_child i ts ≡ 
 count_as_next i ts before c is counts =
     λ test. ap (λ n. if test c then suc n else n) (counts test) ∙ sym (count_next test i ts c is)
 
-count_first : (i : ℕ) (ts : Trees) (c : Tree) → nth_child i ts ≡ Some c → count (first_trees i ts) ≡ i
-count_first i no_trees c is = cc
-count_first zero (tree t ts) c is = refl
-count_first (suc i) (tree t ts) c is = ap suc (count_first i ts c is)
-
-siblings_through : (p q : List ℕ) (child : Option Tree) (m : Tree) (before : Trees)
-    → ((c : Tree) → node_at p c ≡ Some m → siblings_before q c ≡ before)
-    → option_and_then (node_at p) child ≡ Some m → option_map_or (siblings_before q) child no_trees ≡ before
-siblings_through p q None m before later is = cc
-siblings_through p q (Some c) m before later is = later c is
-
 -- those that stand before a node's child
 pub siblings_before_child : (p : List ℕ) (t m : Tree) (i : ℕ) → node_at p t ≡ Some m
     → siblings_before (p ++ i ∷ []) t ≡ first_trees i (children_of m)
@@ -110,10 +100,11 @@ siblings_before_child [] t m i is =
     let same : t ≡ m = cc in
     ap (λ u. first_trees i (children_of u)) same
 siblings_before_child (k ∷ []) t m i is =
-    siblings_through [] (i ∷ []) (nth_child k (children_of t)) m (first_trees i (children_of m)) (λ c. siblings_before_child [] c m i) is
+    let (c, child, below) = through (node_at []) (nth_child k (children_of t)) m is in
+    rw child (siblings_before_child [] c m i below)
 siblings_before_child (k ∷ j ∷ p) t m i is =
-    siblings_through (j ∷ p) (j ∷ p ++ i ∷ []) (nth_child k (children_of t)) m (first_trees i (children_of m))
-    (λ c. siblings_before_child (j ∷ p) c m i) is
+    let (c, child, below) = through (node_at (j ∷ p)) (nth_child k (children_of t)) m is in
+    rw child (siblings_before_child (j ∷ p) c m i below)
 
 -- ---- each line, told by the place of its node
 
@@ -186,55 +177,32 @@ line_numbered n t d less =
     ap (λ ls. get_or ls n d) (lines_are t)
     ∙ get_or-map (line_at t) (places_of [] t) n (count (children_of t) ∷ []) d (omega (arith, less, places-length [] t))
 
--- ---- the lines of a node and those under it
-
-position_through : (i : ℕ) (p : List ℕ) (child : Option Tree) (m : Tree)
-    → ((c : Tree) → node_at p c ≡ Some m → count (siblings_before p c) ≡ get_or p (length p - 1) 0)
-    → option_and_then (node_at p) child ≡ Some m → 0 < length p
-    → count (option_map_or (siblings_before p) child no_trees) ≡ get_or (i ∷ p) (length (i ∷ p) - 1) 0
-position_through i p None m later is some = cc
-position_through i p (Some c) m later is some =
-    let last : length (i ∷ p) - 1 ≡ suc (length p - 1) = omega (arith, some) in
-    rw last (later c is)
-
--- a node's position says how many of its siblings stand before it
-pub position_is : (p : List ℕ) (t m : Tree) → node_at p t ≡ Some m → count (siblings_before p t) ≡ get_or p (length p - 1) 0
-position_is [] t m is = refl
-position_is (i ∷ []) t m is = count_first i (children_of t) m (sym (node_at_end (nth_child i (children_of t))) ∙ is)
-position_is (i ∷ j ∷ p) t m is =
-    position_through i (j ∷ p) (nth_child i (children_of t)) m (λ c. position_is (j ∷ p) c m) is (omega arith)
-
--- they stand together in the table, from its number on
-pub lines_cut : (p : List ℕ) (t m : Tree) → node_at p t ≡ Some m
-    → take (nodes m) (drop (place_number p t) (lines t))
-    ≡ lines_of (place_number (take (length p - 1) p) t) (siblings_before p t) (place_number p t) m
-lines_cut p t m is =
-    ap (λ ls. take (nodes m) (drop (place_number p t) ls)) (lines_are t)
-    ∙ ap (take (nodes m)) (drop-map (line_at t) (place_number p t) (places_of [] t))
-    ∙ take-map (line_at t) (nodes m) (drop (place_number p t) (places_of [] t))
-    ∙ ap (map (line_at t)) (places_cut p t m is)
-    ∙ sym (lines_of_are t p _ _ m is (record { up = refl; position = position_is p t m is; counts = λ test. refl }))
-
 -- ---- texts
 
 mutual
-  -- a text is that of its lines' nodes
-  pub texts_of_lines_of : (parent : ℕ) (before : Trees) (at : ℕ) (t : Tree)
-      → text_of t ≡ flat_map (λ l. text_of l.node) (lines_of parent before at t)
-  texts_of_lines_of parent before at (element name attributes children) = texts_of_lines_from at no_trees (suc at) children
-  texts_of_lines_of parent before at (words text) = sym (append-nil text)
+  -- a text is that of the lines at and under its node
+  texts_of_are : (root : Tree) (p : List ℕ) (m : Tree) → node_at p root ≡ Some m
+      → text_of m ≡ flat_map (λ q. text_of (line_at root q).node) (places_of p m)
+  texts_of_are root p (element name attributes children) is = rw is (texts_from_are root p 0 (element name attributes children) children is refl)
+  texts_of_are root p (words text) is = rw is (sym (append-nil text))
 
-  pub texts_of_lines_from : (parent : ℕ) (before : Trees) (at : ℕ) (ts : Trees)
-      → text_of_all ts ≡ flat_map (λ l. text_of l.node) (lines_from parent before at ts)
-  texts_of_lines_from parent before at no_trees = refl
-  texts_of_lines_from parent before at (tree t ts) =
-      rw (texts_of_lines_of parent before at t, texts_of_lines_from parent (tree t before) (at + nodes t) ts)
-      (sym (flat_map-append (λ l. text_of l.node) (lines_of parent before at t) (lines_from parent (tree t before) (at + nodes t) ts)))
+  texts_from_are : (root : Tree) (p : List ℕ) (i : ℕ) (m : Tree) (ts : Trees) → node_at p root ≡ Some m → trees_behind i (children_of m) ≡ ts
+      → text_of_all ts ≡ flat_map (λ q. text_of (line_at root q).node) (places_from p i ts)
+  texts_from_are root p i m no_trees is behind = refl
+  texts_from_are root p i m (tree t ts) is behind =
+      let (child, later) = nth_behind i (children_of m) t ts behind in
+      let on : i + 1 ≡ suc i = omega arith in
+      rw (texts_of_are root (p ++ i ∷ []) t (node_at_child p root m i is ∙ child), texts_from_are root p (suc i) m ts is later, on)
+      (sym (flat_map-append (λ q. text_of (line_at root q).node) (places_of (p ++ i ∷ []) t) (places_from p (suc i) ts)))
 
--- a node's text is that of its line and the lines under it
+-- a node's text is that of its line and the lines under it, which stand together in the table
 pub text_numbered : (n : ℕ) (t m : Tree) → n < nodes t → node_at (place_numbered n t) t ≡ Some m
     → text_of m ≡ flat_map (λ l. text_of l.node) (take (nodes m) (drop n (lines t)))
 text_numbered n t m less is =
-    let number : place_number (place_numbered n t) t ≡ n = number_of_numbered n t less in
-    texts_of_lines_of _ _ _ m
-    ∙ ap (flat_map (λ l. text_of l.node)) (sym (lines_cut (place_numbered n t) t m is) ∙ ap (λ k. take (nodes m) (drop k (lines t))) number)
+    let cut : take (nodes m) (drop n (lines t)) ≡ map (line_at t) (places_of (place_numbered n t) m) =
+    ap (λ k. take (nodes m) (drop k (lines t))) (sym (number_of_numbered n t less)) ∙ ap (λ ls. take (nodes m) (drop (place_number (place_numbered n t) t) ls)) (lines_are t)
+    ∙ ap (take (nodes m)) (drop-map (line_at t) (place_number (place_numbered n t) t) (places_of [] t))
+    ∙ take-map (line_at t) (nodes m) (drop (place_number (place_numbered n t) t) (places_of [] t))
+    ∙ ap (map (line_at t)) (places_cut (place_numbered n t) t m is) in
+    texts_of_are t (place_numbered n t) m is ∙ sym (flat_map-map (λ l. text_of l.node) (line_at t) (places_of (place_numbered n t) m))
+    ∙ ap (flat_map (λ l. text_of l.node)) (sym cut)

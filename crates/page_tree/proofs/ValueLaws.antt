@@ -93,18 +93,14 @@ nodes_so_far r = r.1
 abbrev pub all_nodes_so_far : List Tree × ℕ → ℕ
 all_nodes_so_far r = r.1
 
--- a node that is no text and no object
-bad_agrees : {X : Type 0} (P : X → Type 0) (count : X → ℕ) (few : Bool) (n many : ℕ) (rest : Option PageFault) → AgreesAs P count (if few then Err BadChildren else Err TooMany) n many (first_at few (Some BadChildren) rest)
-bad_agrees P count true n many rest = refl
-bad_agrees P count false n many rest = refl
+-- a node with a fault of its own
+fault_agrees : {X : Type 0} (P : X → Type 0) (count : X → ℕ) (fault : PageFault) (few : Bool) (n : ℕ) → AgreesAs P count (if few then Err fault else Err TooMany) n 1 (first_at few (Some fault) None)
+fault_agrees P count fault true n = refl
+fault_agrees P count fault false n = refl
 
 text_agrees : (few : Bool) (n : ℕ) (text : List ℕ) → AgreesAs (Reads (string text)) nodes_so_far (if few then Ok (words text, suc n) else Err TooMany) n 1 (first_at few None None)
 text_agrees true n text = (refl, refl, omega arith)
 text_agrees false n text = refl
-
-deep_agrees : {X : Type 0} (P : X → Type 0) (count : X → ℕ) (few : Bool) (n many : ℕ) (rest : Option PageFault) → AgreesAs P count (if few then Err TooDeep else Err TooMany) n many (first_at few (Some TooDeep) rest)
-deep_agrees P count true n many rest = refl
-deep_agrees P count false n many rest = refl
 
 passes : {A : Type 0} (test : Bool) (x : A) → is_some (if test then Some x else None) ≡ test
 passes true x = refl
@@ -165,16 +161,16 @@ bad_faults (suc levels) d none bad = rw (none, bad) refl
 
 node_agrees : (levels : ℕ) (d : Data) (n : ℕ) → ((ms : Members) → Agrees (Reads (object ms)) nodes_so_far (walk levels n (object ms)) n (value_faults levels (object ms)))
     → Agrees (Reads d) nodes_so_far (walk levels n d) n (value_faults levels d)
-node_agrees levels null n objects = rw (bad_faults levels null refl refl) (bad_agrees (Reads null) nodes_so_far (nat_lt n max_nodes) n 1 None)
-node_agrees levels (boolean b) n objects = rw (bad_faults levels (boolean b) refl refl) (bad_agrees (Reads (boolean b)) nodes_so_far (nat_lt n max_nodes) n 1 None)
-node_agrees levels (number x) n objects = rw (bad_faults levels (number x) refl refl) (bad_agrees (Reads (number x)) nodes_so_far (nat_lt n max_nodes) n 1 None)
-node_agrees levels (array ds) n objects = rw (bad_faults levels (array ds) refl refl) (bad_agrees (Reads (array ds)) nodes_so_far (nat_lt n max_nodes) n 1 None)
+node_agrees levels null n objects = rw (bad_faults levels null refl refl) (fault_agrees (Reads null) nodes_so_far BadChildren (nat_lt n max_nodes) n)
+node_agrees levels (boolean b) n objects = rw (bad_faults levels (boolean b) refl refl) (fault_agrees (Reads (boolean b)) nodes_so_far BadChildren (nat_lt n max_nodes) n)
+node_agrees levels (number x) n objects = rw (bad_faults levels (number x) refl refl) (fault_agrees (Reads (number x)) nodes_so_far BadChildren (nat_lt n max_nodes) n)
+node_agrees levels (array ds) n objects = rw (bad_faults levels (array ds) refl refl) (fault_agrees (Reads (array ds)) nodes_so_far BadChildren (nat_lt n max_nodes) n)
 node_agrees levels (string text) n objects = rw (text_faults levels text) (text_agrees (nat_lt n max_nodes) n text)
 node_agrees levels (object ms) n objects = objects ms
 
 deep_object_agrees : (n : ℕ) (ms : Members) → Agrees (Reads (object ms)) nodes_so_far (walk zero n (object ms)) n (value_faults zero (object ms))
 unfolding walk_object
-deep_object_agrees n ms = rw (deep_faults ms) (deep_agrees (Reads (object ms)) nodes_so_far (nat_lt n max_nodes) n 1 None)
+deep_object_agrees n ms = rw (deep_faults ms) (fault_agrees (Reads (object ms)) nodes_so_far TooDeep (nat_lt n max_nodes) n)
 
 all_agree : (levels : ℕ) → ((d : Data) (n : ℕ) → Agrees (Reads d) nodes_so_far (walk levels n d) n (value_faults levels d)) → (ds : Items) (n : ℕ)
     → Agrees (ReadsAll ds) all_nodes_so_far (walk_all (walk levels) n ds) n (all_value_faults levels ds)

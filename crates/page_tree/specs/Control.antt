@@ -1,4 +1,5 @@
--- What a node is to a form: its control, its start text and its start state (HTML 4.01, section 17.13.2, and this project's own table).
+-- What a node is to a form: its control, its start text and its start state (HTML 4.01, section 17.13.2, and this
+-- project's own table).
 use Rattle.std.specs.Prelude.{ℕ, List, [], ◌++◌, Bool, true, false, ◌&&◌, ◌||◌, if◌then◌else◌, Option, Some, None, is_some, unwrap_or, option_and_then, codes}
 use Rattle.std.specs.Option.{option_map_or}
 use Rattle.std.specs.Str.{bytes_eq, str_eq_ignore_ascii_case}
@@ -17,19 +18,23 @@ input_control (Some kind) =
     (if str_eq_ignore_ascii_case kind (codes "radio") then Radio else
     (if str_eq_ignore_ascii_case kind (codes "submit") then Submit else
     (if str_eq_ignore_ascii_case kind (codes "image") || str_eq_ignore_ascii_case kind (codes "file")
-    || str_eq_ignore_ascii_case kind (codes "reset") || str_eq_ignore_ascii_case kind (codes "button") then Other else Text)))
+    || str_eq_ignore_ascii_case kind (codes "reset") || str_eq_ignore_ascii_case kind (codes "button")
+    then Other else Text)))
 
 -- a `button`, by its `type`
 unfoldable pub button_control : Option (List ℕ) → Control
 button_control None = Submit
-button_control (Some kind) = if str_eq_ignore_ascii_case kind (codes "reset") || str_eq_ignore_ascii_case kind (codes "button") then Other else Submit
+button_control (Some kind) =
+    if str_eq_ignore_ascii_case kind (codes "reset") || str_eq_ignore_ascii_case kind (codes "button")
+    then Other else Submit
 
 unfoldable pub element_control : List ℕ → List Attribute → Control
 element_control name attributes =
     if bytes_eq name (codes "input") then input_control (value_of (codes "type") attributes) else
     (if bytes_eq name (codes "textarea") || bytes_eq name (codes "select") then Text else
     (if bytes_eq name (codes "button") then button_control (value_of (codes "type") attributes) else
-    (if bytes_eq name (codes "a") || bytes_eq name (codes "area") then (if is_some (value_of (codes "href") attributes) then Link else Other) else
+    (if bytes_eq name (codes "a") || bytes_eq name (codes "area")
+    then (if is_some (value_of (codes "href") attributes) then Link else Other) else
     (if bytes_eq name (codes "form") then Form else Other))))
 
 abbrev pub control_of : Tree → Control
@@ -55,7 +60,8 @@ child_texts (tree (element name attributes children) ts) = child_texts ts
 -- a `textarea` starts with its child texts, an `input` and a `select` with their `value`, empty if absent
 abbrev pub start_text : List ℕ → List Attribute → Trees → List ℕ
 start_text name attributes children =
-    if bytes_eq name (codes "textarea") then child_texts children else unwrap_or (value_of (codes "value") attributes) []
+    if bytes_eq name (codes "textarea") then child_texts children
+    else unwrap_or (value_of (codes "value") attributes) []
 
 abbrev pub start_text_of : Tree → Option (List ℕ)
 start_text_of (element name attributes children) =
@@ -75,7 +81,8 @@ is_switch Radio = true
 is_switch _ = false
 
 abbrev pub start_checked_of : Tree → Bool
-start_checked_of (element name attributes children) = is_switch (element_control name attributes) && is_some (value_of (codes "checked") attributes)
+start_checked_of (element name attributes children) =
+    is_switch (element_control name attributes) && is_some (value_of (codes "checked") attributes)
 start_checked_of (words text) = false
 
 -- on at a Check or Radio that has `checked`

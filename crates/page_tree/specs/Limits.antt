@@ -5,11 +5,12 @@ use Rattle.std.specs.Cmp.Lexicographic.{slice_cmp}
 use Rattle.page_tree.specs.Name.{is_name}
 use Rattle.page_tree.specs.Tree.{Attribute, Tree, element, words, Trees, no_trees, tree}
 
--- levels of elements
+-- Levels of elements. Each takes two of JSON's 127, for the element and for the list of its children, and a path has
+-- a step for each: `max_steps` of xpath_child is this.
 abbrev pub max_depth : ℕ
 max_depth = 48
 
--- elements and texts
+-- Elements and texts. The numbers that are kept of a node have 16 bits.
 abbrev pub max_nodes : ℕ
 max_nodes = 4096
 
@@ -20,6 +21,9 @@ names_of attributes = map (λ a. a.0) attributes
 abbrev pub is_ascending : List (List ℕ) → Bool
 is_ascending (name ∷ next ∷ rest) = is_lt (slice_cmp nat_cmp name next) && is_ascending (next ∷ rest)
 is_ascending _ = true
+
+abbrev pub have_ascending_names : List Attribute → Bool
+have_ascending_names attributes = is_ascending (names_of attributes)
 
 abbrev mutual
   -- elements on the longest way down
@@ -44,7 +48,8 @@ abbrev mutual
 abbrev mutual
   -- each element has a name of an element, and attributes whose names ascend
   pub IsNamed : Tree → Type 0
-  IsNamed (element name attributes children) = IsTrue (is_name name) × IsTrue (is_ascending (names_of attributes)) × AreNamed children
+  IsNamed (element name attributes children) =
+      IsTrue (is_name name) × IsTrue (have_ascending_names attributes) × AreNamed children
   IsNamed (words text) = Unit {0}
 
   pub AreNamed : Trees → Type 0

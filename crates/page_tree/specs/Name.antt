@@ -2,6 +2,7 @@
 use Rattle.std.specs.Prelude.{ℕ, List, [], ◌∷◌, length, Bool, false, ◌&&◌, ◌||◌, ◌==◌, nat_le}
 use Rattle.std.specs.List.{list_all}
 
+-- A path has at most 64 KB with 48 such names, so that its steps stand at places of 16 bits.
 abbrev pub max_name_bytes : ℕ
 max_name_bytes = 64
 

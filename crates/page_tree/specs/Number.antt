@@ -1,15 +1,42 @@
 -- The nodes of a page by their numbers: from 0 on, in document order, texts too.
-use Rattle.std.specs.Prelude.{ℕ, zero, suc, List, [], ◌∷◌, get_or, Bool, false, if◌then◌else◌}
+use Rattle.std.specs.Prelude.{◌≡◌, ℕ, zero, suc, ◌-◌, ◌<◌, List, [], ◌∷◌, ◌++◌, map, get_or, Bool, false, if◌then◌else◌, nat_lt, Option, Some, None}
+use Rattle.std.specs.List.{range_with_len}
 use Rattle.std.specs.Option.{option_map_or}
 use Rattle.std.specs.Str.{bytes_eq}
 use Rattle.page_tree.specs.Tree.{Tree, Trees, no_trees, tree}
-use Rattle.page_tree.specs.Limits.{is_element}
-use Rattle.page_tree.specs.Look.{children_of, nth_child, name_of, name_at, count}
-use Rattle.page_tree.specs.Under.{places_of}
+use Rattle.page_tree.specs.Limits.{is_element, nodes}
+use Rattle.page_tree.specs.Look.{children_of, nth_child, name_of, name_at, count, child_count_at}
+use Rattle.page_tree.specs.Under.{places_of, places_under}
 
 -- the place of the node with that number; past the last one, a place where no node is
 abbrev pub place_numbered : ℕ → Tree → List ℕ
 place_numbered n t = get_or (places_of [] t) n (count (children_of t) ∷ [])
+
+-- the same, where a node has that number
+abbrev pub place_of : ℕ → Tree → Option (List ℕ)
+place_of n t = if nat_lt n (nodes t) then Some (place_numbered n t) else None
+
+-- the nodes under that one are those numbered from the one number to below the other
+abbrev pub AreNumbersUnder : Tree → ℕ → ℕ → ℕ → Type 0
+AreNumbersUnder t n start end =
+    places_under (place_numbered n t) t ≡ map (λ k. place_numbered k t) (range_with_len start (end - start))
+
+-- the node at that place has that number
+abbrev pub IsNumberOf : Tree → List ℕ → ℕ → Type 0
+IsNumberOf t place n = (n < nodes t) × (place_numbered n t ≡ place)
+
+-- the i-th child of a node, from 0 on, by the numbers of both
+abbrev pub IsChild : Tree → ℕ → ℕ → ℕ → Type 0
+IsChild t parent i child = place_numbered child t ≡ place_numbered parent t ++ i ∷ []
+
+abbrev pub IsParent : Tree → ℕ → ℕ → Type 0
+IsParent t child parent = (parent < child) × ((i : ℕ) × IsChild t parent i child)
+
+-- the next sibling of a node, where it has one
+abbrev pub IsNext : Tree → ℕ → ℕ → Type 0
+IsNext t n next =
+    (at : List ℕ) (i : ℕ) → place_numbered n t ≡ at ++ i ∷ [] → suc i < child_count_at at t
+    → place_numbered next t ≡ at ++ suc i ∷ []
 
 -- ---- siblings
 

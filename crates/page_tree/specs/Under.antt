@@ -1,13 +1,17 @@
 -- The nodes under a node, in document order, by their places.
-use Rattle.std.specs.Prelude.{ℕ, List, [], ◌∷◌, ◌++◌, ◌+◌, Bool, ◌&&◌, nat_eq, nat_lt, length}
+use Rattle.std.specs.Prelude.{◌↔◌, IsTrue, IsSome, ℕ, List, [], ◌∷◌, ◌++◌, ◌+◌, Bool, ◌&&◌, nat_eq, nat_lt, length}
 use Rattle.std.specs.Option.{option_map_or}
-use Rattle.std.specs.List.{starts_with}
+use Rattle.std.specs.List.{starts_with, Contains}
 use Rattle.page_tree.specs.Tree.{Tree, element, words, Trees, no_trees, tree}
 use Rattle.page_tree.specs.Look.{children_of, node_at}
 
 -- A place is under another where that one is on the way to it; none is under itself.
 abbrev pub is_under : List ℕ → List ℕ → Bool
 is_under above place = nat_lt (length above) (length place) && starts_with nat_eq place above
+
+-- exactly the places of the nodes under that one
+abbrev pub AreUnder : List ℕ → Tree → List (List ℕ) → Type 0
+AreUnder above t found = (q : List ℕ) → Contains found q ↔ (IsTrue (is_under above q) × IsSome (node_at q t))
 
 abbrev mutual
   -- a node that stands there, and those under it

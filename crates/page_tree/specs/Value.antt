@@ -11,7 +11,8 @@ use Rattle.page_tree.specs.Limits.{IsPage}
 -- the names and texts of an object whose values are all texts
 abbrev pub texts_of : Members → Option (List Attribute)
 texts_of no_members = Some []
-texts_of (member name d ms) = option_and_then (λ text. option_map (λ rest. (name, text) ∷ rest) (texts_of ms)) (as_str d)
+texts_of (member name d ms) =
+    option_and_then (λ text. option_map (λ rest. (name, text) ∷ rest) (texts_of ms)) (as_str d)
 
 -- the member `n`, a text
 abbrev pub name_in : Data → Option (List ℕ)
@@ -56,4 +57,5 @@ unfoldable pub tree_in : ℕ → Data → Tree
 tree_in zero d = words (unwrap_or (as_str d) [])
 tree_in (suc levels) d =
     option_map_or words (as_str d)
-    (element (unwrap_or (name_in d) []) (unwrap_or (attributes_in d) []) (option_map_or (trees_in (tree_in levels)) (children_in d) no_trees))
+    (element (unwrap_or (name_in d) []) (unwrap_or (attributes_in d) [])
+    (option_map_or (trees_in (tree_in levels)) (children_in d) no_trees))

@@ -2,23 +2,23 @@
 
 ghost use Rattle.std.specs.Prelude.{◌≡◌, ◌+◌, ◌≤◌, ◌++◌, IfOk, OnOk, length};
 ghost use Rattle.page_tree.specs.Tree.{Trees, no_trees};
-ghost use Rattle.page_tree.specs.Limits.{nodes, nodes_of_all, max_nodes};
+ghost use Rattle.page_tree.specs.Limits.{nodes, max_nodes};
 ghost use Rattle.page_tree.specs.Seen.{seen, all_seen};
 ghost use Rattle.page_tree.specs.inside.Table.{lines, lines_of, lines_from};
-ghost use Rattle.page_tree.specs.inside.Building.{IsSpot};
+ghost use Rattle.page_tree.specs.inside.Building.{IsSpot, nodes_in};
 
 use crate::memory::NoMemory;
 use crate::siblings::Siblings;
-use crate::table::{Spot, Table};
+use crate::table::{NodeTable, Spot};
 use crate::tree::Tree;
 use std::alloc::Global;
 
 /// The table of a tree that has not too many nodes.
-pub(crate) fn table_of(alloc: Global, root: &Tree) -> Result<Table, NoMemory>
+pub(crate) fn table_of(alloc: Global, root: &Tree) -> Result<NodeTable, NoMemory>
     requires { nodes (seen root.now) ≤ max_nodes }
     ensures { IfOk result (λ table. table ≡ lines (seen root.now)) }
 {
-    let mut table = Table::new(alloc);
+    let mut table = NodeTable::new(alloc);
     let spot = Spot {
         parent: 0,
         position: 0,
@@ -31,7 +31,7 @@ pub(crate) fn table_of(alloc: Global, root: &Tree) -> Result<Table, NoMemory>
 
 // Adds a node that stands there, and those under it.
 #[cycle(building)]
-fn add_node(table: &mut Table, tree: &Tree, spot: Spot) -> Result<(), NoMemory>
+fn add_node(table: &mut NodeTable, tree: &Tree, spot: Spot) -> Result<(), NoMemory>
     requires few { length table.old + nodes (seen tree.now) ≤ max_nodes }
     ensures { OnOk result ((before : Trees) → IsSpot spot before (seen tree.now)
         → table.new ≡ table.old ++ lines_of spot.parent before (length table.old) (seen tree.now)) }
@@ -61,11 +61,11 @@ fn add_node(table: &mut Table, tree: &Tree, spot: Spot) -> Result<(), NoMemory>
 #[cycle(building)]
 fn add_children(
     alloc: Global,
-    table: &mut Table,
+    table: &mut NodeTable,
     children: &[Tree],
     parent: u16,
 ) -> Result<(), NoMemory>
-    requires few { length table.old + nodes_of_all (all_seen children.now) ≤ max_nodes }
+    requires few { length table.old + nodes_in children.now ≤ max_nodes }
     ensures { OnOk result (table.new ≡ table.old ++ lines_from parent no_trees (length table.old) (all_seen children.now)) }
 {
     let mut siblings = Siblings::new(alloc);

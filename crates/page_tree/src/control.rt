@@ -71,7 +71,7 @@ impl Page {
     // `attribute_of`; its contract speaks of the list of attributes.
     #[tactic(auto, using(crate::proofs::ControlLaws::attribute_is))]
     pub(crate) fn value_of(&self, number: u32, name: &str) -> Option<&str>
-        ensures { option_map (λ value. value.now) result ≡ value_of name.now (attributes_at (place_numbered number self.now) self.now) }
+        ensures { option_map (λ v. v.now) result ≡ value_of name.now (attributes_at (place_numbered number self.now) self.now) }
     {
         self.attribute_of(number, name)
     }

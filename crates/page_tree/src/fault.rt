@@ -9,19 +9,19 @@ use std::fmt;
 /// Why something is no page. Its text is its code, as `P1`.
 #[derive(Clone, Copy, Debug, PartialEq, Eq)]
 pub enum PageFault {
-    /// The root is no element.
+    /// P1: the root is no element.
     NotAnElement,
-    /// An element's name is absent, no text, or no name of an element.
+    /// P2: an element's name is absent, no text, or no name of an element.
     BadName,
-    /// An element's attributes are no object of texts, or don't ascend by name.
+    /// P3: an element's attributes are no object of texts, or don't ascend by name.
     BadAttribute,
-    /// A child is neither an object nor a string, or children are no array.
+    /// P4: a child is neither an object nor a string, or children are no array.
     BadChildren,
-    /// An element stands below the last level.
+    /// P5: an element stands below the last level.
     TooDeep,
-    /// There is one node too many.
+    /// P6: there is one node too many.
     TooMany,
-    /// An allocation was refused.
+    /// P7: an allocation was refused.
     NoMemory,
 }
 

@@ -7,7 +7,7 @@ use crate::limits::{MAX_DEPTH, MAX_NODES};
 use crate::text::is_name;
 use crate::tree::Tree;
 
-/// How many nodes a tree has that is a page, or its first fault in document order.
+/// How many nodes a tree has that is a page, or its first fault in document order; P1 where it is a text.
 pub(crate) fn inspect_root(root: &Tree) -> Result<u32, PageFault>
     ensures { result ≡ inspect_page (seen root.now) }
 {
@@ -17,7 +17,7 @@ pub(crate) fn inspect_root(root: &Tree) -> Result<u32, PageFault>
     }
 }
 
-// So many levels of elements are left for the node, and so many nodes stand before it.
+// So many levels of elements are left for the node, and so many nodes stand before it. Its own fault is P6, P5, P2 or P3, the first in this order.
 #[cycle(inspection)]
 fn inspect_node(tree: &Tree, levels: u32, before: u32) -> Result<u32, PageFault>
     ensures { result ≡ inspect levels before (seen tree.now) }

@@ -1,10 +1,8 @@
 //! Looks at a page by the numbers of its nodes. Past the last one they answer as where no node is.
-ghost use Rattle.std.specs.Prelude.{ℕ, ◌⊎◌, ◌≡◌, ◌<◌, ◌≤◌, ◌-◌, ◌∷◌, [], ◌++◌, suc, List, IfOk, MatchOption, option_map, map, if◌then◌else◌, nat_lt, Some, None, cond};
-ghost use Rattle.std.specs.List.{range_with_len};
-ghost use Rattle.page_tree.specs.Limits.{nodes};
+ghost use Rattle.std.specs.Prelude.{◌⊎◌, ◌≡◌, ◌<◌, ◌≤◌, suc, IfOk, MatchOption, option_map, None};
+ghost use Rattle.page_tree.specs.Limits.{nodes, max_nodes};
 ghost use Rattle.page_tree.specs.Look.{node_at, name_at, child_count_at, attribute_at, text_at};
-ghost use Rattle.page_tree.specs.Under.{places_under};
-ghost use Rattle.page_tree.specs.Number.{place_numbered, elements_before_at, same_before_at};
+ghost use Rattle.page_tree.specs.Number.{place_numbered, place_of, AreNumbersUnder, IsNumberOf, IsChild, IsParent, IsNext, elements_before_at, same_before_at};
 
 use crate::memory::NoMemory;
 use crate::page::Page;
@@ -23,7 +21,7 @@ impl Page {
     // The number as an index, where a node has it.
     pub(crate) fn index(&self, number: u32) -> Option<usize>
         ensures index { MatchOption result (nodes self.now ≤ number) (λ index. (index ≡ number) × (number < nodes self.now)) }
-        ensures few { nodes self.now ≤ 4096 }
+        ensures few { nodes self.now ≤ max_nodes }
     {
         let index = number as usize;
         if index < self.table().len() {
@@ -34,7 +32,7 @@ impl Page {
     }
 
     /// The name of the element with that number; none for a text.
-    #[tactic(auto, using(crate::proofs::LookLaws::name_there, crate::proofs::LookLaws::name_past))]
+    #[tactic(auto, using(crate::proofs::LookLaws::name_there, crate::proofs::Numbers::has_none))]
     pub fn name_of(&self, number: u32) -> Option<&str>
         ensures { option_map (λ name. name.now) result ≡ name_at (place_numbered number self.now) self.now }
     {
@@ -42,7 +40,7 @@ impl Page {
     }
 
     /// How many children the node with that number has, texts too.
-    #[tactic(auto, using(crate::proofs::LookLaws::children_there, crate::proofs::LookLaws::children_past))]
+    #[tactic(auto, using(crate::proofs::LookLaws::children_there, crate::proofs::Numbers::has_none))]
     pub fn children_of(&self, number: u32) -> u32
         ensures { result ≡ child_count_at (place_numbered number self.now) self.now }
     {
@@ -53,7 +51,7 @@ impl Page {
     }
 
     /// The value of an attribute of the element with that number. The time is logarithmic in how many it has.
-    #[tactic(auto, using(crate::proofs::LookLaws::attribute_there, crate::proofs::LookLaws::attribute_past, crate::proofs::LookLaws::ascends_there))]
+    #[tactic(auto, using(crate::proofs::LookLaws::attribute_there, crate::proofs::Numbers::has_none, crate::proofs::LookLaws::ascends_there))]
     pub fn attribute_of(&self, number: u32, name: &str) -> Option<&str>
         ensures { option_map (λ value. value.now) result ≡ attribute_at (place_numbered number self.now) name.now self.now }
     {
@@ -61,7 +59,7 @@ impl Page {
     }
 
     /// All texts at or under the node with that number, joined in document order.
-    #[tactic(auto, using(crate::proofs::LoopLaws::texts_first, crate::proofs::LoopLaws::texts_step, crate::proofs::LookLaws::text_past))]
+    #[tactic(auto, using(crate::proofs::LoopLaws::texts_first, crate::proofs::LoopLaws::texts_step, crate::proofs::Numbers::has_none))]
     pub fn text_of(&self, number: u32) -> Result<Text, NoMemory>
         ensures { IfOk result (λ text. text ≡ text_at (place_numbered number self.now) self.now) }
     {
@@ -76,11 +74,11 @@ impl Page {
     }
 
     /// The numbers of the nodes under that one, texts too. Its first child comes first; behind them comes its next sibling, if it has one.
-    #[tactic(auto, using(crate::proofs::NodesUnder::ends, crate::proofs::NodesUnder::under_there, crate::proofs::NodesUnder::first_there, crate::proofs::NodesUnder::next_there, crate::proofs::NodesUnder::under_past, crate::proofs::NodesUnder::first_past, crate::proofs::NodesUnder::next_past))]
+    #[tactic(auto, using(crate::proofs::NodesUnder::ends, crate::proofs::NodesUnder::under_there, crate::proofs::NodesUnder::first_there, crate::proofs::NodesUnder::next_there, crate::proofs::NodesUnder::under_past, crate::proofs::Numbers::has_none, crate::proofs::NodesUnder::next_past))]
     pub fn nodes_under(&self, number: u32) -> Range<u32>
-        ensures under { places_under (place_numbered number self.now) self.now ≡ map (λ k. place_numbered k self.now) (range_with_len result.start (result.end - result.start)) }
-        ensures first { 0 < child_count_at (place_numbered number self.now) self.now → place_numbered result.start self.now ≡ place_numbered number self.now ++ 0 ∷ [] }
-        ensures next { (at : List ℕ) (i : ℕ) → place_numbered number self.now ≡ at ++ i ∷ [] → suc i < child_count_at at self.now → place_numbered result.end self.now ≡ at ++ suc i ∷ [] }
+        ensures under { AreNumbersUnder self.now number result.start result.end }
+        ensures first { 0 < child_count_at (place_numbered number self.now) self.now → IsChild self.now number 0 result.start }
+        ensures next { IsNext self.now number result.end }
         ensures start { number < nodes self.now → result.start ≡ suc number }
         ensures within { number < nodes self.now → (result.start ≤ result.end) × (result.end ≤ nodes self.now) }
         ensures none { nodes self.now ≤ number → (result.start ≡ number) × (result.end ≡ number) }
@@ -96,7 +94,7 @@ impl Page {
     /// The number of the node at a place; none where no node is. The time grows with how many siblings stand before the nodes on the way.
     #[tactic(auto, using(crate::proofs::NodesUnder::no_node_past))]
     pub fn number_of(&self, place: &Place) -> Option<u32>
-        ensures { MatchOption result (node_at place.now self.now ≡ None) (λ number. (number < nodes self.now) × (place_numbered number self.now ≡ place.now)) }
+        ensures { MatchOption result (node_at place.now self.now ≡ None) (λ number. IsNumberOf self.now place.now number) }
     {
         let mut number = 0;
         for position in place.as_slice() {
@@ -113,7 +111,7 @@ impl Page {
     fn child(&self, number: u32, position: u32) -> u32
         requires { position < child_count_at (place_numbered number self.now) self.now }
         ensures there { result < nodes self.now }
-        ensures place { place_numbered result self.now ≡ place_numbered number self.now ++ position ∷ [] }
+        ensures place { IsChild self.now number position result }
     {
         let mut child = self.nodes_under(number).start;
         for _i in 0..position {
@@ -124,7 +122,7 @@ impl Page {
 
     /// The place of the node with that number.
     pub fn place_of(&self, number: u32) -> Result<Option<Place>, NoMemory>
-        ensures { IfOk result (λ place. place ≡ (if nat_lt number (nodes self.now) then Some (place_numbered number self.now) else None)) }
+        ensures { IfOk result (λ place. place ≡ place_of number self.now) }
     {
         match self.index(number) {
             None => Ok(None),
@@ -150,7 +148,7 @@ impl Page {
     /// The number of the parent of the node with that number; the root has none.
     #[tactic(auto, using(crate::proofs::NodesUnder::up_there))]
     pub fn parent_of(&self, number: u32) -> Option<u32>
-        ensures { MatchOption result ((number ≡ 0) ⊎ (nodes self.now ≤ number)) (λ parent. (parent < number) × ((i : ℕ) × (place_numbered number self.now ≡ place_numbered parent self.now ++ i ∷ []))) }
+        ensures { MatchOption result ((number ≡ 0) ⊎ (nodes self.now ≤ number)) (λ parent. IsParent self.now number parent) }
     {
         if number == 0 {
             return None;
@@ -159,7 +157,7 @@ impl Page {
     }
 
     /// How many elements stand before the element with that number, among its siblings; 0 for a text.
-    #[tactic(auto, using(crate::proofs::LookLaws::elements_there, crate::proofs::LookLaws::elements_past))]
+    #[tactic(auto, using(crate::proofs::LookLaws::elements_there, crate::proofs::Numbers::has_none))]
     pub fn elements_before(&self, number: u32) -> u32
         ensures { result ≡ elements_before_at (place_numbered number self.now) self.now }
     {
@@ -170,7 +168,7 @@ impl Page {
     }
 
     /// How many elements of its name stand before the element with that number, among its siblings; 0 for a text.
-    #[tactic(auto, using(crate::proofs::LookLaws::same_there, crate::proofs::LookLaws::same_past))]
+    #[tactic(auto, using(crate::proofs::LookLaws::same_there, crate::proofs::Numbers::has_none))]
     pub fn same_before(&self, number: u32) -> u32
         ensures { result ≡ same_before_at (place_numbered number self.now) self.now }
     {

@@ -7,10 +7,10 @@ ghost use Rattle.serde_json.specs.View.{view};
 ghost use Rattle.page_tree.specs.Tree.{Tree as PlainTree};
 ghost use Rattle.page_tree.specs.Limits.{IsPage, nodes};
 ghost use Rattle.page_tree.specs.Value.{IsPageOf};
-ghost use Rattle.page_tree.specs.Fault.{fault_of_tree, fault_of_value, page_in, page_or_fault, GivesPage};
+ghost use Rattle.page_tree.specs.Fault.{fault_of_tree, fault_of_value, page_or_fault, GivesPage, FindsPage};
 ghost use Rattle.page_tree.specs.declared.fault.PageFault.TheVariants.{NoMemory};
 ghost use Rattle.page_tree.specs.Look.{node_at, name_at, child_count_at, attribute_at, text_at};
-ghost use Rattle.page_tree.specs.Under.{is_under, places_under};
+ghost use Rattle.page_tree.specs.Under.{AreUnder, places_under};
 ghost use Rattle.page_tree.specs.Control.{control_at, start_text_at, start_checked_at};
 
 use crate::building::table_of;
@@ -20,7 +20,7 @@ use crate::inspection::inspect_root;
 use crate::memory::NoMemory;
 use crate::place::Place;
 use crate::reading::read_root;
-use crate::table::Table;
+use crate::table::NodeTable;
 use crate::text::Text;
 use crate::tree::Tree;
 use serde_json::Value;
@@ -32,7 +32,7 @@ use std::sync::Arc;
 /// numbered from 0 on in document order, texts too; a copy shares the table.
 #[derive(Debug, Drop)]
 pub struct Page {
-    table: Arc<Table>,
+    table: Arc<NodeTable>,
 }
 
 impl Model for Page {
@@ -92,14 +92,14 @@ impl Page {
 
         // The same as functions.
         ensures exact { GivesPage (λ page. page) result (page_or_fault (view value.now)) }
-        ensures found { MatchResult result (λ page. page_in (view value.now) ≡ Some page) (λ e. e ≢ NoMemory → page_in (view value.now) ≡ None) }
+        ensures found { FindsPage (view value.now) result }
     {
         let table = read_root(alloc, value)?;
         Ok(Page::holding(alloc, &table)?)
     }
 
     // The page of that table.
-    fn holding(alloc: Global, table: &Table) -> Result<Page, NoMemory>
+    fn holding(alloc: Global, table: &NodeTable) -> Result<Page, NoMemory>
         requires { IsTable table.now }
         ensures { IfOk result (λ page. page ≡ tree_of_lines table.now) }
     {
@@ -110,7 +110,7 @@ impl Page {
     }
 
     #[tactic(auto, using(crate::proofs::LookLaws::line_count))]
-    pub(crate) fn table(&self) -> &Table
+    pub(crate) fn table(&self) -> &NodeTable
         ensures lines { result.now ≡ lines self.now }
         ensures count { length result.now ≡ nodes self.now }
         ensures page { IsPage self.now }
@@ -210,7 +210,7 @@ impl Page {
     /// The places of all nodes under the one there, texts too, in document order; none where no node is.
     pub fn places_under(&self, place: &Place) -> Result<Vec<Place>, NoMemory>
         ensures exact { IfOk result (λ found. found.items ≡ places_under place.now self.now) }
-        ensures every { IfOk result (λ found. (q : List ℕ) → Contains found.items q ↔ (IsTrue (is_under place.now q) × IsSome (node_at q self.now))) }
+        ensures every { IfOk result (λ found. AreUnder place.now self.now found.items) }
         ensures order { IfOk result (λ found. IsStrictlySortedBy (slice_cmp nat_cmp) found.items) }
     {
         let mut found = Vec::new(self.table().allocator());

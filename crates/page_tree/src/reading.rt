@@ -1,35 +1,34 @@
-ghost use Rattle.std.specs.Prelude.{◌≡◌, ◌<◌, ◌≤◌, length, ok_or, option_map, option_and_then};
+ghost use Rattle.std.specs.Prelude.{◌≡◌, ◌<◌, ◌≤◌, length};
 ghost use Rattle.serde_json.specs.View.{view, items_view};
-ghost use Rattle.serde_json.specs.Find.{as_str};
-ghost use Rattle.page_tree.specs.Value.{name_in, attributes_in, children_in};
+ghost use Rattle.page_tree.specs.Limits.{max_nodes};
 ghost use Rattle.page_tree.specs.Fault.{GivesPage};
-ghost use Rattle.page_tree.specs.inside.Walk.{if_name, if_ascending, walk, walk_all, walk_element, walk_object, walk_page};
+ghost use Rattle.page_tree.specs.inside.Walk.{name_or_fault, attribute_or_fault, attributes_or_fault, children_or_fault, walk, walk_below, walk_object, walk_page};
 ghost use Rattle.page_tree.specs.inside.Reading.{HasPassed, ReadsNode, ReadsChildren, ReadsPage};
-ghost use Rattle.page_tree.specs.declared.fault.PageFault.TheVariants.{BadName, BadAttribute, BadChildren};
 
 use crate::fault::PageFault;
 use crate::limits::{MAX_DEPTH, MAX_NODES};
 use crate::siblings::Siblings;
-use crate::table::Table;
+use crate::table::NodeTable;
 use crate::text::{Text, is_name};
 use crate::tree::Attributes;
 use serde_json::Value;
 use std::alloc::Global;
 
-/// The table of the tree that a value stands for, or its first fault in document order.
-pub(crate) fn read_root(alloc: Global, value: &Value) -> Result<Table, PageFault>
+/// The table of the tree that a value stands for, or its first fault in document order; P1 where it is no object.
+pub(crate) fn read_root(alloc: Global, value: &Value) -> Result<NodeTable, PageFault>
     ensures { ReadsPage (λ table. table) result (walk_page (view value.now)) }
 {
     if value.as_object().is_none() {
         return Err(PageFault::NotAnElement);
     }
-    let mut table = Table::new(alloc);
+    let mut table = NodeTable::new(alloc);
     let mut siblings = Siblings::new(alloc);
     read_node(alloc, value, MAX_DEPTH, 0, &mut siblings, &mut table)?;
     Ok(table)
 }
 
 // Adds the node that a value stands for, and those under it, behind the siblings that were passed. So many levels of elements are left for it.
+// P6 where it is a node too many, P4 where it is neither an object nor a string.
 #[cycle(reading)]
 fn read_node<'a>(
     alloc: Global,
@@ -37,10 +36,10 @@ fn read_node<'a>(
     levels: u32,
     parent: u16,
     siblings: &mut Siblings<'a>,
-    table: &mut Table,
+    table: &mut NodeTable,
 ) -> Result<(), PageFault>
     requires { HasPassed siblings.old (length table.old) }
-    ensures { ReadsNode parent siblings.old siblings.new table.old table.new result (walk levels (length table.old) (view value.now)) }
+    ensures { ReadsNode (walk levels) (view value.now) parent siblings.old siblings.new table.old table.new result }
 {
     if table.len() >= MAX_NODES as usize {
         return Err(PageFault::TooMany);
@@ -56,6 +55,7 @@ fn read_node<'a>(
     }
 }
 
+// P5 below the last level.
 #[cycle(reading)]
 #[tactic(auto, using(crate::proofs::Levels::walk_object_none, crate::proofs::Levels::walk_object_some))]
 fn read_object<'a>(
@@ -64,11 +64,11 @@ fn read_object<'a>(
     levels: u32,
     parent: u16,
     siblings: &mut Siblings<'a>,
-    table: &mut Table,
+    table: &mut NodeTable,
 ) -> Result<(), PageFault>
-    requires few { length table.old < 4096 }
+    requires few { length table.old < max_nodes }
     requires passed { HasPassed siblings.old (length table.old) }
-    ensures { ReadsNode parent siblings.old siblings.new table.old table.new result (walk_object levels (length table.old) (view value.now)) }
+    ensures { ReadsNode (walk_object levels) (view value.now) parent siblings.old siblings.new table.old table.new result }
 {
     if levels == 0 {
         return Err(PageFault::TooDeep);
@@ -84,11 +84,11 @@ fn read_element<'a>(
     levels: u32,
     parent: u16,
     siblings: &mut Siblings<'a>,
-    table: &mut Table,
+    table: &mut NodeTable,
 ) -> Result<(), PageFault>
-    requires few { length table.old < 4096 }
+    requires few { length table.old < max_nodes }
     requires passed { HasPassed siblings.old (length table.old) }
-    ensures { ReadsNode parent siblings.old siblings.new table.old table.new result (walk_element (walk levels) (length table.old) (view value.now)) }
+    ensures { ReadsNode (walk_below levels) (view value.now) parent siblings.old siblings.new table.old table.new result }
 {
     let name = read_name(value)?;
     let attributes = read_attributes(alloc, value)?;
@@ -103,8 +103,9 @@ fn read_element<'a>(
     Ok(())
 }
 
+// P2 where it is no name of an element.
 fn read_name(value: &Value) -> Result<&str, PageFault>
-    ensures { GivesPage (λ name. name.now) result (ok_or (option_and_then if_name (name_in (view value.now))) BadName) }
+    ensures { GivesPage (λ name. name.now) result (name_or_fault (view value.now)) }
 {
     let Some(name) = value.get("n").and_then(Value::as_str) else {
         return Err(PageFault::BadName);
@@ -115,8 +116,9 @@ fn read_name(value: &Value) -> Result<&str, PageFault>
     Ok(name)
 }
 
+// P3 where they are no object of texts, or their names don't ascend.
 fn read_attributes(alloc: Global, value: &Value) -> Result<Attributes, PageFault>
-    ensures { GivesPage (λ attributes. attributes) result (ok_or (option_and_then if_ascending (attributes_in (view value.now))) BadAttribute) }
+    ensures { GivesPage (λ attributes. attributes) result (attributes_or_fault (view value.now)) }
 {
     let Some(given) = value.get("a") else {
         return Ok(Attributes::from(Vec::new(alloc)));
@@ -132,7 +134,7 @@ fn read_attributes(alloc: Global, value: &Value) -> Result<Attributes, PageFault
 }
 
 fn read_attribute(alloc: Global, name: &str, text: &Value) -> Result<(Text, Text), PageFault>
-    ensures { GivesPage (λ pair. pair) result (ok_or (option_map (λ text. (name.now, text)) (as_str (view text.now))) BadAttribute) }
+    ensures { GivesPage (λ pair. pair) result (attribute_or_fault name.now (view text.now)) }
 {
     let Some(text) = text.as_str() else {
         return Err(PageFault::BadAttribute);
@@ -140,9 +142,9 @@ fn read_attribute(alloc: Global, name: &str, text: &Value) -> Result<(Text, Text
     Ok((Text::from_str(alloc, name)?, Text::from_str(alloc, text)?))
 }
 
-// The values that stand for the children.
+// The values that stand for the children; P4 where they are no array.
 fn read_children(value: &Value) -> Result<&[Value], PageFault>
-    ensures { GivesPage (λ items. items_view items.now) result (ok_or (children_in (view value.now)) BadChildren) }
+    ensures { GivesPage (λ items. items_view items.now) result (children_or_fault (view value.now)) }
 {
     let Some(given) = value.get("c") else {
         return Ok(&[]);
@@ -160,10 +162,10 @@ fn read_items(
     items: &[Value],
     levels: u32,
     parent: u16,
-    table: &mut Table,
+    table: &mut NodeTable,
 ) -> Result<(), PageFault>
-    requires { length table.old ≤ 4096 }
-    ensures { ReadsChildren parent table.old table.new result (walk_all (walk levels) (length table.old) (items_view items.now)) }
+    requires { length table.old ≤ max_nodes }
+    ensures { ReadsChildren (walk levels) (items_view items.now) parent table.old table.new result }
 {
     let mut siblings = Siblings::new(alloc);
     for item in items {

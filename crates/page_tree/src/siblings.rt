@@ -1,9 +1,10 @@
 //! Where each child of a node stands among the others.
 
-ghost use Rattle.std.specs.Prelude.{◌≡◌, ◌<◌, ◌^◌, IfOk, OnOk, option_map, suc};
-ghost use Rattle.page_tree.specs.Tree.{Tree as PlainTree, Trees, no_trees, tree};
-ghost use Rattle.page_tree.specs.Look.{count, name_of};
-ghost use Rattle.page_tree.specs.inside.Building.{Passed, IsSpot, name_count, CountsOneMore};
+ghost use Rattle.std.specs.Prelude.{◌≡◌, ◌<◌, IfOk, OnOk, option_map, suc};
+ghost use Rattle.page_tree.specs.Tree.{Trees, no_trees};
+ghost use Rattle.page_tree.specs.Limits.{max_nodes};
+ghost use Rattle.page_tree.specs.Look.{count};
+ghost use Rattle.page_tree.specs.inside.Building.{Passed, StandsBehind, PassesOne, name_count, CountsOneMore};
 
 use crate::memory::NoMemory;
 use crate::table::Spot;
@@ -32,10 +33,10 @@ impl<'a> Siblings<'a> {
 
     /// Passes one more child of that parent, an element of that name or a text, and tells where it stands.
     pub(crate) fn pass(&mut self, parent: u16, name: Option<&'a str>) -> Result<Spot, NoMemory>
-        requires { (before : Trees) × Passed before self.old × (suc (count before) < 2 ^ 16) }
+        requires { (before : Trees) × Passed before self.old × (count before < max_nodes) }
         ensures parent { IfOk result (λ spot. spot.parent ≡ parent) }
-        ensures spot { IfOk result (λ spot. (before : Trees) (t : PlainTree) → name_of t ≡ option_map (λ name. name.now) name.entry → Passed before self.old → IsSpot spot before t) }
-        ensures passed { OnOk result ((before : Trees) (t : PlainTree) → name_of t ≡ option_map (λ name. name.now) name.entry → Passed before self.old → Passed (tree t before) self.new) }
+        ensures spot { IfOk result (λ spot. StandsBehind self.old (option_map (λ name. name.now) name.entry) spot) }
+        ensures passed { OnOk result (PassesOne self.old (option_map (λ name. name.now) name.entry) self.new) }
     {
         let position = self.count;
         self.count += 1;
@@ -61,7 +62,7 @@ impl<'a> Siblings<'a> {
 
 // How often that name was counted before; it is counted once more.
 fn count_name<'a>(names: &mut BTreeMap<&'a str, u16>, name: &'a str) -> Result<u16, NoMemory>
-    requires { suc (name_count names.old name.now) < 2 ^ 16 }
+    requires { name_count names.old name.now < max_nodes }
     ensures before { IfOk result (λ before. before ≡ name_count names.old name.now) }
     ensures more { OnOk result (CountsOneMore name.now names.old names.new) }
 {

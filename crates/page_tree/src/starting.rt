@@ -2,8 +2,8 @@
 ghost use Rattle.std.specs.Prelude.{ℕ, ◌≡◌, ◌++◌, List, [], IfOk, option_map};
 ghost use Rattle.std.specs.Cow.{cow_str_bytes};
 ghost use Rattle.page_tree.specs.Number.{place_numbered};
-ghost use Rattle.page_tree.specs.Control.{child_texts, start_text, start_text_at, start_checked_at};
-ghost use Rattle.page_tree.specs.inside.Kept.{attributes_at, children_at, words_at};
+ghost use Rattle.page_tree.specs.Control.{child_texts, start_text_at, start_checked_at};
+ghost use Rattle.page_tree.specs.inside.Kept.{children_at, named_start_text, words_at};
 
 use crate::memory::NoMemory;
 use crate::page::Page;
@@ -15,7 +15,7 @@ impl Page {
     /// texts that aren't empty.
     #[tactic(auto, using(crate::proofs::ControlLaws::start_named, crate::proofs::ControlLaws::start_other, crate::proofs::ControlLaws::start_unnamed))]
     pub fn start_text_of(&self, number: u32) -> Result<Option<CowStr<'_, Global>>, NoMemory>
-        ensures { IfOk result (λ text. option_map cow_str_bytes text ≡ start_text_at (place_numbered number self.now) self.now) }
+        ensures { IfOk result (λ t. option_map cow_str_bytes t ≡ start_text_at (place_numbered number self.now) self.now) }
     {
         let Some(name) = self.name_of(number) else {
             return Ok(None);
@@ -28,7 +28,7 @@ impl Page {
 
     // That of a Text control of that name.
     fn started(&self, number: u32, name: &str) -> Result<CowStr<'_, Global>, NoMemory>
-        ensures { IfOk result (λ text. cow_str_bytes text ≡ start_text name.now (attributes_at (place_numbered number self.now) self.now) (children_at (place_numbered number self.now) self.now)) }
+        ensures { IfOk result (λ t. cow_str_bytes t ≡ named_start_text name.now (place_numbered number self.now) self.now) }
     {
         if name == "textarea" {
             self.child_texts(number)
@@ -40,7 +40,7 @@ impl Page {
     // The texts among its children, joined.
     #[tactic(auto, using(crate::proofs::ControlLaws::text_step, crate::proofs::ControlLaws::text_end))]
     fn child_texts(&self, number: u32) -> Result<CowStr<'_, Global>, NoMemory>
-        ensures { IfOk result (λ text. cow_str_bytes text ≡ child_texts (children_at (place_numbered number self.now) self.now)) }
+        ensures { IfOk result (λ t. cow_str_bytes t ≡ child_texts (children_at (place_numbered number self.now) self.now)) }
     {
         let alloc = self.table().allocator();
         let mut joined = CowStr::Borrowed("");
@@ -53,7 +53,7 @@ impl Page {
     }
 
     // The text with that number; none of an element.
-    #[tactic(auto, using(crate::proofs::ControlLaws::words_there, crate::proofs::ControlLaws::words_past))]
+    #[tactic(auto, using(crate::proofs::ControlLaws::words_there, crate::proofs::Numbers::has_none))]
     pub(crate) fn words_of(&self, number: u32) -> Option<&str>
         ensures { option_map (λ text. text.now) result ≡ words_at (place_numbered number self.now) self.now }
     {

@@ -1,9 +1,9 @@
 //! The table that a page is kept as.
-ghost use Rattle.std.specs.Prelude.{◌≡◌, ◌↔◌, IsTrue, IfOk, ◌<◌, ◌+◌, ◌*◌, ◌^◌, suc, [], ◌∷◌, ◌++◌, OnOk, get_or, length, true, option_map};
+ghost use Rattle.std.specs.Prelude.{◌≡◌, ◌↔◌, IsTrue, IfOk, ◌<◌, ◌≤◌, ◌+◌, ◌*◌, ◌^◌, suc, [], ◌∷◌, ◌++◌, OnOk, get_or, length, true, option_map};
 ghost use Rattle.page_tree.specs.Tree.{element, words, no_trees};
 ghost use Rattle.page_tree.specs.Look.{name_of, attributes_of, value_of};
-ghost use Rattle.page_tree.specs.Limits.{names_of, is_ascending};
-ghost use Rattle.page_tree.specs.inside.Rows.{line_in, line_on, words_of, ended, texts_of_attributes, attributes_from, StartsWith};
+ghost use Rattle.page_tree.specs.Limits.{max_nodes, have_ascending_names};
+ghost use Rattle.page_tree.specs.inside.Rows.{line_in, line_on, words_of, with_line_end, texts_of_attributes, attributes_behind, StartsWith};
 ghost use Rattle.page_tree.specs.inside.Rows.{node_of_row, numbers_of, IsWithin};
 
 use crate::memory::NoMemory;
@@ -13,7 +13,7 @@ use std::alloc::{AllocError, Global};
 use std::cmp::Ordering;
 use std::marker::Model;
 
-/// What is kept of a node.
+/// What is kept of a node. Its numbers below `MAX_NODES` have 16 bits.
 #[derive(Debug, Clone, Copy)]
 pub(crate) struct Row {
     is_element: bool,
@@ -41,12 +41,12 @@ pub(crate) struct Spot {
 
 /// The nodes of a page in document order, each with what it is without its children. Contracts see their lines.
 #[derive(Debug, Drop)]
-pub(crate) struct Table {
+pub(crate) struct NodeTable {
     texts: Texts,
     rows: Vec<Row>,
 }
 
-impl Model for Table {
+impl Model for NodeTable {
     ghost use Rattle.std.specs.Prelude.{List, length};
     ghost use Rattle.page_tree.specs.inside.Table.{Line};
     ghost use Rattle.page_tree.specs.inside.Rows.{lines_of_rows, AreWithin, lines_code};
@@ -60,12 +60,12 @@ impl Model for Table {
     ghost invariant = { λ t. AreWithin (length t.texts) t.rows.items };
 }
 
-impl Table {
+impl NodeTable {
     /// It takes no memory.
-    pub(crate) fn new(alloc: Global) -> Table
+    pub(crate) fn new(alloc: Global) -> NodeTable
         ensures { result ≡ [] }
     {
-        Table {
+        NodeTable {
             texts: Texts::new(alloc),
             rows: Vec::new(alloc),
         }
@@ -155,7 +155,7 @@ impl Table {
     /// The value of the attribute of that name, where the names ascend. The time is logarithmic in the number of attributes.
     pub(crate) fn attribute(&self, number: usize, name: &str) -> Option<&str>
         requires there { number < length self.now }
-        requires ascending { is_ascending (names_of (attributes_of (line_in number self.now).node)) ≡ true }
+        requires ascending { have_ascending_names (attributes_of (line_in number self.now).node) ≡ true }
         ensures { option_map (λ value. value.now) result ≡ value_of name.now (attributes_of (line_in number self.now).node) }
     {
         let row = self.rows[number];
@@ -174,7 +174,7 @@ impl Table {
     // ---- comparing
 
     /// Whether the two tables have the same lines. It takes no memory.
-    pub(crate) fn same(&self, other: &Table) -> bool
+    pub(crate) fn same(&self, other: &NodeTable) -> bool
         ensures { IsTrue result ↔ (self.now ≡ other.now) }
     {
         if self.len() != other.len() {
@@ -188,7 +188,7 @@ impl Table {
         true
     }
 
-    fn same_line(&self, other: &Table, number: usize) -> bool
+    fn same_line(&self, other: &NodeTable, number: usize) -> bool
         requires there { number < length self.now }
         requires other_there { number < length other.now }
         ensures { IsTrue result ↔ (line_in number self.now ≡ line_in number other.now) }
@@ -202,7 +202,7 @@ impl Table {
 
     /// Adds a text.
     pub(crate) fn push_words(&mut self, spot: Spot, text: &str) -> Result<(), NoMemory>
-        requires { suc (length self.old) < 2 ^ 16 }
+        requires { length self.old < max_nodes }
         ensures { OnOk result (self.new ≡ self.old ++ line_on (words text.now) spot (suc (length self.old)) 0 ∷ []) }
     {
         let text_number = few(self.texts.len())?;
@@ -251,10 +251,10 @@ impl Table {
     }
 
     /// An equal table that has no unused room. What the first one gives back is then in whole pieces, which the next page can take.
-    pub(crate) fn fitted(&self) -> Result<Table, NoMemory>
+    pub(crate) fn fitted(&self) -> Result<NodeTable, NoMemory>
         ensures { IfOk result (λ table. table ≡ self.now) }
     {
-        Ok(Table {
+        Ok(NodeTable {
             texts: self.texts.fitted()?,
             rows: self.rows.clone()?,
         })
@@ -263,8 +263,8 @@ impl Table {
     /// Tells that all nodes under that one were added.
     pub(crate) fn end(&mut self, number: u16)
         requires there { number < length self.old }
-        requires few { length self.old < 2 ^ 16 }
-        ensures { self.new ≡ ended number (length self.old) self.old }
+        requires few { length self.old ≤ max_nodes }
+        ensures { self.new ≡ with_line_end number (length self.old) self.old }
     {
         let end = self.len() as u16;
         self.rows[number as usize].end = end;
@@ -284,8 +284,8 @@ pub(crate) fn few(count: usize) -> Result<u32, NoMemory>
 // the value of that name among so many attributes, whose names and values are the texts behind that one
 fn value_among<'a>(texts: &'a Texts, before: usize, count: usize, name: &str) -> Option<&'a str>
     requires within { before + 2 * count < length texts.now }
-    requires ascending { is_ascending (names_of (attributes_from texts.now (suc before) count)) ≡ true }
-    ensures { option_map (λ value. value.now) result ≡ value_of name.now (attributes_from texts.now (suc before) count) }
+    requires ascending { have_ascending_names (attributes_behind texts.now before count) ≡ true }
+    ensures { option_map (λ value. value.now) result ≡ value_of name.now (attributes_behind texts.now before count) }
 {
     // the sums below are less than that, so they fit
     let _ = texts.len();
@@ -353,7 +353,7 @@ fn same_attributes(
 ) -> bool
     requires within { before + 2 * count < length texts.now }
     requires other_within { other_before + 2 * count < length others.now }
-    ensures { IsTrue result ↔ (attributes_from texts.now (suc before) count ≡ attributes_from others.now (suc other_before) count) }
+    ensures { IsTrue result ↔ (attributes_behind texts.now before count ≡ attributes_behind others.now other_before count) }
 {
     // the sums below are less than those, so they fit
     let _ = texts.len();

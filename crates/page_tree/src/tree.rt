@@ -1,8 +1,9 @@
 //! Trees of elements with their attributes, and of texts.
 ghost use Rattle.std.specs.Prelude.{◌≡◌, ◌<◌, ◌+◌, OnOk, option_map};
 ghost use Rattle.page_tree.specs.Look.{name_of, value_of};
-ghost use Rattle.page_tree.specs.Seen.{seen, all_seen};
-ghost use Rattle.page_tree.specs.Limits.{names_of, is_ascending, nodes, nodes_of_all};
+ghost use Rattle.page_tree.specs.inside.Building.{nodes_in};
+ghost use Rattle.page_tree.specs.Seen.{seen};
+ghost use Rattle.page_tree.specs.Limits.{have_ascending_names, nodes};
 
 use crate::memory::NoMemory;
 use crate::text::Text;
@@ -48,7 +49,7 @@ impl Tree {
     // Drops the node alone; those under it are left.
     #[tactic(auto, using(crate::proofs::Apart::element_apart, crate::proofs::Apart::words_apart))]
     fn leave_children(self, left: &mut Vec<Tree>) -> Result<(), NoMemory>
-        ensures { OnOk result (nodes_of_all (all_seen left.new.items) < nodes_of_all (all_seen left.old.items) + nodes (seen self)) }
+        ensures { OnOk result (nodes_in left.new.items < nodes_in left.old.items + nodes (seen self)) }
     {
         match self {
             Tree::Element {
@@ -103,7 +104,7 @@ impl Attributes {
 
     /// Whether each name is below the next one, in byte order.
     pub(crate) fn is_ascending(&self) -> bool
-        ensures { result ≡ is_ascending (names_of self.now) }
+        ensures { result ≡ have_ascending_names self.now }
     {
         let pairs = self.pairs.as_slice();
         let mut before: Option<&str> = None;

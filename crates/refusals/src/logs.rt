@@ -1,158 +1,173 @@
-//! What is recorded in a log and in a site's table, and done by the queue's machine: all is unchanged where memory is refused.
-use crate::answer::Answer;
-use crate::streams::{messages, page, quota};
-use crate::turn::Turn;
+//! What is recorded in a log and in a site's table, decided, and done by the queue's machine: all is unchanged where memory is refused.
+ghost use Rattle.std.specs.Prelude.{IsTrue};
+ghost use Rattle.client_log.specs.Log.{IsPriced};
+
+use crate::fixtures::{gathered, kept_of, messages, page, quota, site, text};
+use crate::marks::{WHOLE, answer, begin, end};
+use byte_streams::Told;
 use client_log::{ClientLog, Recorded};
-use lane_queue::Room;
-use lane_queue::queue_core::{Did, State, Step};
-use page_tree::{NoMemory, Text};
+use lane_queue::queue_core::{Did, QueueStep, State};
+use lane_queue::{QueueFault, Room};
+use page_tree::NoMemory;
 use site_hooks::{SiteHooks, Table};
+use site_line::Site;
 use std::alloc::Global;
+use std::thread::Threads;
+use stream_fakes::Sips;
 use upload_reader::{Client, Message};
+use warp_server::{Repaired, repair, report, settle};
 use xpath_child::Path;
 
 /// The messages of an upload, one after another. One that is refused leaves the log as it was, also its session, and is recorded when it comes again.
-pub(crate) fn record(alloc: Global, turn: &mut Turn) -> Option<Answer> {
+pub(crate) fn record<T: AllocGlobal + Eprint>(rt: &T) -> Option<&'static str> {
+    let alloc = rt.alloc();
     let mut log = ClientLog::new(alloc, Client::read(alloc, "c1").ok()?, quota()?);
-    let first = messages(alloc, 4)?;
-    let second = messages(alloc, 4)?;
-    let mut refused = false;
-    turn.begin();
-    for (message, again) in first.into_iter().zip(second) {
-        match record_or_again(&mut log, message, again)? {
-            Answer::Whole => {}
-            Answer::Refused(_) => refused = true,
-            wrong => return Some(wrong),
-        }
-    }
-    turn.end();
-    match (refused, sums(&log) == (2, 1, 90, 0)) {
-        (false, right) => Some(Answer::of(Some(right), "")),
-        (true, true) => Some(Answer::Refused("no memory, and the log unchanged")),
-        (true, false) => Some(Answer::Wrong("no memory, and another log later")),
-    }
+    let (first, second) = (messages(alloc)?, messages(alloc)?);
+    begin(rt);
+    let refused = record_all(&mut log, first, second);
+    end(rt);
+    let text = if refused? {
+        "no memory, and the log unchanged"
+    } else {
+        WHOLE
+    };
+    answer(kept_of(&log) == (2, 1, true) && log.cost() == 90, text)
 }
 
-// Where the first of two equal messages is refused, all is unchanged, and the second is recorded.
-fn record_or_again(log: &mut ClientLog, first: Message, second: Message) -> Option<Answer> {
-    let before = sums(log);
-    if record_one(log, first).is_ok() {
-        return Some(Answer::Whole);
+// Whether one was refused. None where that changed the log.
+fn record_all(log: &mut ClientLog, first: Vec<Message>, second: Vec<Message>) -> Option<bool> {
+    let mut refused = false;
+    for (message, again) in first.into_iter().zip(second) {
+        let before = (kept_of(log), log.cost());
+        if record_one(log, message).is_err() {
+            if (kept_of(log), log.cost()) != before || !may_follow(log, &again) {
+                return None;
+            }
+            let _ = record_one(log, again).ok()?;
+            refused = true;
+        }
     }
-    if sums(log) != before || !may_follow(log, &second)? {
-        return Some(Answer::Wrong("no memory, and a change"));
-    }
-    let _ = record_one(log, second).ok()?;
-    Some(Answer::Refused(""))
+    Some(refused)
 }
 
 // Each costs 30 bytes.
 fn record_one(log: &mut ClientLog, message: Message) -> Result<Recorded, NoMemory> {
+    if has_visit(&message) {
+        log.record(message, 30)
+    } else {
+        Ok(Recorded::Ignored)
+    }
+}
+
+// No visit has the number 0.
+fn has_visit(message: &Message) -> bool
+    ensures { IsTrue result → IsPriced message.now 30 }
+{
     match message {
-        Message::Load {
-            visit,
-            at,
-            parent,
-            from,
-            address,
-            page,
-        } => {
-            if visit == 0 {
-                return Ok(Recorded::Ignored);
-            }
-            let load = Message::Load {
-                visit,
-                at,
-                parent,
-                from,
-                address,
-                page,
-            };
-            log.record(load, 30)
-        }
-        Message::Act { visit, event } => log.record(Message::Act { visit, event }, 30),
-        Message::Ended { visit, at } => log.record(Message::Ended { visit, at }, 30),
+        Message::Load { visit, .. } => *visit != 0,
+        _ => true,
     }
 }
 
 // Whether the message may follow those in the log's session.
-fn may_follow(log: &ClientLog, message: &Message) -> Option<bool> {
-    let mut session = log.session().copy().ok()?;
-    Some(session.accept(message).is_ok())
-}
-
-// Its visits, all their events, its cost, and what it lost.
-fn sums(log: &ClientLog) -> (usize, usize, u64, u64) {
-    let mut events = 0usize;
-    for visit in log.visits() {
-        events = events.saturating_add(visit.events.as_slice().len());
+fn may_follow(log: &ClientLog, message: &Message) -> bool {
+    match log.session().copy() {
+        Ok(mut session) => session.accept(message).is_ok(),
+        Err(_) => false,
     }
-    (log.visits().len(), events, log.cost(), log.lost())
 }
 
 /// A page and a watched path more.
-pub(crate) fn table(alloc: Global, turn: &mut Turn) -> Option<Answer> {
-    let mut table = Table::new(alloc);
-    let address = Text::from_str(alloc, "/p").ok()?;
-    let page = page(alloc)?;
+pub(crate) fn table<T: AllocGlobal + Eprint>(rt: &T) -> Option<&'static str> {
+    let alloc = rt.alloc();
+    let (address, page) = (text(alloc, "/p")?, page(alloc)?);
     let path = Path::read(alloc, "/html").ok()?;
-    turn.begin();
+    let mut table = Table::new(alloc);
+    begin(rt);
     let added = table.add_page(address, page).is_ok();
     let watched = table.watch(path).is_ok();
-    turn.end();
+    end(rt);
     let has = table.make("/p").ok()?.is_some();
-    match (added, watched, has) {
-        (true, true, true) => Some(Answer::Whole),
-        (true, false, true) => Some(Answer::Refused("no memory at the path")),
-        (false, true, false) => Some(Answer::Refused("no memory at the page, which isn't there")),
-        _ => Some(Answer::Wrong("another table")),
+    match (added, watched) {
+        (true, true) => answer(has, WHOLE),
+        (true, false) => answer(has, "no memory at the path"),
+        (false, true) => answer(!has, "no memory at the page, which isn't there"),
+        _ => None,
     }
+}
+
+/// Decisions behind one that was put before.
+pub(crate) fn settle_again<T: AllocGlobal + Threads + Eprint + Sync>(
+    rt: &T,
+) -> Option<&'static str> {
+    let site = site(rt.alloc())?;
+    let gathered = gathered(rt.alloc())?;
+    let mut repaired = repair(rt, 1, site.table(), site.patch(), &gathered).ok()?;
+    settle(rt.alloc(), &mut repaired, site.decisions().get(..1)?).ok()?;
+    settle_all(rt, &mut repaired, &site)
+}
+
+fn settle_all<T: AllocGlobal + Eprint>(
+    rt: &T,
+    repaired: &mut Repaired,
+    site: &Site,
+) -> Option<&'static str> {
+    let before = reported(rt.alloc(), repaired)?;
+    begin(rt);
+    let settled = settle(rt.alloc(), repaired, site.decisions()).is_ok();
+    end(rt);
+    let same = reported(rt.alloc(), repaired)?.as_slice() == before.as_slice();
+    if settled {
+        answer(!same && repaired.decided.as_slice().len() == 4, WHOLE)
+    } else {
+        answer(same, "no memory, and all unchanged")
+    }
+}
+
+fn reported(alloc: Global, repaired: &Repaired) -> Option<Vec<u8>> {
+    let mut sips = Sips::new(alloc, 4096, None);
+    report(alloc, repaired, &mut Told::new(&mut sips)).ok()?;
+    Some(sips.taken)
 }
 
 /// The machine makes the steps before the refused one.
-pub(crate) fn machine(alloc: Global, turn: &mut Turn) -> Option<Answer> {
+pub(crate) fn machine<T: AllocGlobal + Eprint>(rt: &T) -> Option<&'static str> {
     let room = Room::new(40).ok()?;
-    turn.begin();
-    let made = State::open(alloc, 1, room);
-    let mut state = match made {
-        Ok(state) => state,
-        Err(_) => {
-            turn.end();
-            return Some(Answer::Refused("Q3"));
-        }
-    };
-    let ran = state.run(&[
-        put(0),
-        put(1),
-        put(2),
-        put(3),
-        put(4),
-        put(5),
-        put(6),
-        put(7),
-        put(8),
-    ]);
-    turn.end();
-    let kept = taken_of(&mut state)?;
-    match (ran, kept) {
-        (Ok(()), 9) => Some(Answer::Whole),
-        (Err(_), kept) if kept < 9 => Some(Answer::Refused("no memory, and the steps before")),
-        _ => Some(Answer::Wrong("another machine")),
+    let steps = steps(rt.alloc())?;
+    begin(rt);
+    let ran = run(rt.alloc(), room, steps.as_slice());
+    end(rt);
+    match ran {
+        Err(fault) => answer(fault == QueueFault::NoMemory, "Q3"),
+        Ok((mut state, true)) => answer(taken_of(&mut state)? == 9, WHOLE),
+        Ok((mut state, false)) => answer(
+            taken_of(&mut state)? < 9,
+            "no memory, and the steps before",
+        ),
     }
 }
 
-fn put(item: u64) -> Step {
-    Step::Put {
-        lane: 0,
-        item,
-        last: false,
+// A machine behind these steps, and whether it made them all.
+fn run(alloc: Global, room: Room, steps: &[QueueStep]) -> Result<(State, bool), QueueFault> {
+    let mut state = State::open(alloc, 1, room)?;
+    let all = state.run(steps).is_ok();
+    Ok((state, all))
+}
+
+// Items are put: 0, 1, 2 and so on.
+fn steps(alloc: Global) -> Option<Vec<QueueStep>> {
+    let mut steps = Vec::new(alloc);
+    for item in 0..9 {
+        let (lane, last) = (0, false);
+        steps.push(QueueStep::Put { lane, item, last }).ok()?;
     }
+    Some(steps)
 }
 
 // How many items it gives, which must be 0, 1, 2 and so on.
 fn taken_of(state: &mut State) -> Option<u64> {
     for count in 0..20 {
-        match state.apply(Step::Take).ok()? {
+        match state.apply(QueueStep::Take).ok()? {
             Did::Took(item) if item.body == count && item.number == count => {}
             Did::Empty => return Some(count),
             _ => return None,

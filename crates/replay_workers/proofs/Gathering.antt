@@ -8,7 +8,7 @@ use Rattle.std.proofs.lemmas.List.Elements.{All-head, All-tail, All-nil, All-con
 use Rattle.atomic_table.specs.Table.{Final, Seen}
 use Rattle.atomic_table.specs.Seated.{TableId}
 use Rattle.replay_workers.specs.declared.view.Terms.{Terms}
-use Rattle.replay_workers.specs.declared.view.Row.{Row}
+use Rattle.replay_workers.specs.declared.view.SeatRow.{SeatRow}
 use Rattle.replay_workers.specs.Draws.{Pool, Draws, EndsOnce, times, AreClaimed}
 use Rattle.replay_workers.specs.inside.Rule.{IsInTurn, row_of, with_lists}
 use Rattle.replay_workers.specs.inside.Seats.{pool_of, Pass, rows, drawn_of, lists_of_rows, lists_of_seats, IsGathered}
@@ -25,7 +25,7 @@ took_in pool before rest all seat pass own next kept last of own_of whole one li
     let old : lists_of_seats before ≡ front ++ seat.drawn ∷ [] = ap lists_of_seats last ∙ map-append (λ (s : Draws). s.drawn) rest (seat ∷ []) in
     let mine : lists_of_rows (rows own) ≡ seat.drawn ∷ [] = ap lists_of_rows one ∙ ap (λ d. d ∷ []) list in
     let both : lists_of_rows (rows next) ≡ seat.drawn ∷ lists_of_rows (rows pass) =
-    ap (λ me. lists_of_rows me.0.rows) joined ∙ map-append (λ (row : Row). row.drawn) (rows own) (rows pass)
+    ap (λ me. lists_of_rows me.0.rows) joined ∙ map-append (λ (row : SeatRow). row.drawn) (rows own) (rows pass)
     ∙ ap (λ l. l ++ lists_of_rows (rows pass)) mine in
     record {
       of = next_of ∙ own_of ∙ of;
@@ -45,7 +45,7 @@ module _ (table_id : TableId) (terms : Terms) (pool : Pool) (seats : List Draws)
   told_of : Told terms (rows pass) word
   told_of =
       let long : length (rows pass) ≡ length seats =
-      sym (length-map (rows pass) (λ (row : Row). row.drawn)) ∙ ap length kept.lists ∙ length-map seats (λ (seat : Draws). seat.drawn) in
+      sym (length-map (rows pass) (λ (row : SeatRow). row.drawn)) ∙ ap length kept.lists ∙ length-map seats (λ (seat : Draws). seat.drawn) in
       let workers : terms.workers ≡ pool.workers = ap (λ p. p.workers) told in
       let it = tells terms words slots pass.id pass.me.0 (omega (arith, long, whole, workers)) final in
       subst (Told terms (rows pass)) (some-injective it.0 word (sym (ap (λ ws. get_elem? ws 0) it.1) ∙ at)) it.2
@@ -53,7 +53,7 @@ module _ (table_id : TableId) (terms : Terms) (pool : Pool) (seats : List Draws)
   pub word_claimed : AreClaimed word seats
   word_claimed x =
       sym (sum-map (times x) (λ (seat : Draws). seat.drawn) seats) ∙ ap (sum_by (times x)) (sym kept.lists)
-      ∙ sum-map (times x) (λ (row : Row). row.drawn) (rows pass) ∙ told_of.claimed x
+      ∙ sum-map (times x) (λ (row : SeatRow). row.drawn) (rows pass) ∙ told_of.claimed x
 
   pub word_few : word ≤ pool.count + pool.workers
   word_few = subst (λ p. word ≤ p.count + p.workers) told told_of.few
@@ -61,4 +61,4 @@ module _ (table_id : TableId) (terms : Terms) (pool : Pool) (seats : List Draws)
   pub lists_end : All (λ seat. EndsOnce pool.count seat.drawn) seats
   lists_end = subst (λ (p : Pool). All (λ (seat : Draws). EndsOnce p.count seat.drawn) seats) told
       (All-from_map (EndsOnce terms.count) (λ (seat : Draws). seat.drawn) seats
-      (subst (All (EndsOnce terms.count)) kept.lists (All-map (EndsOnce terms.count) (λ (row : Row). row.drawn) (rows pass) told_of.ends)))
+      (subst (All (EndsOnce terms.count)) kept.lists (All-map (EndsOnce terms.count) (λ (row : SeatRow). row.drawn) (rows pass) told_of.ends)))

@@ -10,7 +10,7 @@ use Rattle.visit_replay.proofs.Places.{same_places}
 use Rattle.visit_replay.specs.declared.outcome.Outcome.{Outcome}
 use Rattle.replay_workers.proofs.Divided.{each_drawn}
 use Rattle.replay_workers.proofs.Lists.{once_else}
-use Rattle.replay_workers.specs.Draws.{Pool, Draws, IsOf, is_spent, times, AreClaimed}
+use Rattle.replay_workers.specs.Draws.{Pool, Draws, IsSeatOf, is_spent, times, AreClaimed}
 use Rattle.replay_workers.specs.Work.{done_numbers, AreOf}
 use Rattle.replay_workers.specs.inside.Shares.{HasAll, AreBack, IsPlaced}
 use Rattle.replay_workers.specs.declared.share.Done.{Done}
@@ -102,7 +102,7 @@ module _ {V E : Type 0} (items : V → List Done) where
   of_ok P done some is holds = subst (λ (d : Result V E). IfOk d P) is holds
 
 pub all_back : (own all : List Outcome) (pool : Pool) (left seats count : ℕ) (back : List Draws) → left ≡ 0 → left + seats ≡ count → seats ≡ length back
-    → All (IsOf pool) back → All (λ (seat : Draws). is_spent seat ≡ true) back → IsPlaced own back all → AreBack pool count back × IsPlaced own back all
+    → All (IsSeatOf pool) back → All (λ (seat : Draws). is_spent seat ≡ true) back → IsPlaced own back all → AreBack pool count back × IsPlaced own back all
 all_back own all pool left seats count back none sum many of spent placed = (record { count_is = omega (arith, none, sum, many); of = of; spent = spent }, placed)
 
 pub all_front : {A : Type 0} (P : A → Type 0) (all rest : List A) (one : A) → all ≡ rest ++ one ∷ [] → All P all → All P rest
@@ -118,7 +118,7 @@ all_placed own all pool word count seats some size many back claimed placed = sa
     let once = each_drawn pool.count word seats (omega (arith, some, back.count_is)) (both_all seats back.of back.spent) claimed x (omega (arith, within, size)) in
     placed x within (omega (arith, once)))
   where
-    both_all : (them : List Draws) → All (IsOf pool) them → All (λ (seat : Draws). is_spent seat ≡ true) them → All (λ (seat : Draws). (seat.count ≡ pool.count) × (is_spent seat ≡ true)) them
+    both_all : (them : List Draws) → All (IsSeatOf pool) them → All (λ (seat : Draws). is_spent seat ≡ true) them → All (λ (seat : Draws). (seat.count ≡ pool.count) × (is_spent seat ≡ true)) them
     both_all them of spent = λ k d below. ((of k d below).1, spent k d below)
 
 -- the visits beside what each gives by itself

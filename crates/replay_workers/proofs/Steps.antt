@@ -12,18 +12,18 @@ use Rattle.std.proofs.lemmas.List.Sums.{sum_by-append, sum_by_push, sum_by-le-su
 use Rattle.atomic_table.specs.Table.{State, Me, keeps, Allows, Splits, Joins, opening, Final, Seen}
 use Rattle.atomic_table.proofs.Lists.{at_set, at_snoc}
 use Rattle.replay_workers.specs.declared.view.Terms.{Terms}
-use Rattle.replay_workers.specs.declared.view.Row.{Row}
-use Rattle.replay_workers.specs.declared.view.View.{View}
+use Rattle.replay_workers.specs.declared.view.SeatRow.{SeatRow}
+use Rattle.replay_workers.specs.declared.view.SeatView.{SeatView}
 use Rattle.replay_workers.specs.Draws.{has_end, times, once_below}
-use Rattle.replay_workers.specs.inside.Rule.{RowEnds, lists, lists_of, draws_of, ended_lists, SaysSo, IsInTurn, fresh_row, first_view, with_seat, of_new_seat, row_of, with_number, with_lists, emptied, DrewNumber}
+use Rattle.replay_workers.specs.inside.Rule.{RowEnds, lists, lists_of, draws_of, ended_lists, SaysSo, IsInTurn, fresh_row, leader_at_first, with_seat, of_new_seat, row_of, with_number, with_lists, emptied, DrewNumber}
 use Rattle.replay_workers.proofs.Lists.{sum_set, at_most_sum, sum_joined, sum_of_one, each_set, one_drawn, none_drawn, once_past, within_once, once_at, one_more}
 
 -- no more lists end than there are
-ended_few : (terms : Terms) (views : List View) → sum_by (ended_lists terms.count) views ≤ sum_by lists views
-ended_few terms views = sum_by-le-sum_by (ended_lists terms.count) lists views (λ v. count_by-le-length (λ (row : Row). has_end terms.count row.drawn) v.rows)
+ended_few : (terms : Terms) (views : List SeatView) → sum_by (ended_lists terms.count) views ≤ sum_by lists views
+ended_few terms views = sum_by-le-sum_by (ended_lists terms.count) lists views (λ v. count_by-le-length (λ (row : SeatRow). has_end terms.count row.drawn) v.rows)
 
 abbrev Views : Type 0
-Views = State (Unit {0}) View
+Views = State (Unit {0}) SeatView
 
 -- ---- the first seat, and one more
 
@@ -33,7 +33,7 @@ one_row count number = All-cons (RowEnds count) (fresh_row number) [] (none_draw
 one_list : (k number : ℕ) → 0 + cond {A = ℕ} (number == k) 1 0 ≡ cond {A = ℕ} (number == k) 1 0
 one_list k number = omega arith
 
-pub begins : (terms : Terms) → 1 ≤ terms.workers → IsInTurn terms (opening (0 ∷ []) [] (first_view terms))
+pub begins : (terms : Terms) → 1 ≤ terms.workers → IsInTurn terms (opening (0 ∷ []) [] (leader_at_first terms))
 begins terms some_ = record {
   word = 0;
   made = 1;
@@ -50,12 +50,12 @@ begins terms some_ = record {
     one_seat : (k : ℕ) → 0 + (0 + cond {A = ℕ} (0 == k) 1 0) ≡ once_below 1 k
     one_seat k = omega (arith, one_more 0 k, once_past 0 k (omega arith))
 
-    only : (pass : ℕ) (v : View) → get_elem? (first_view terms ∷ []) pass ≡ some v → SaysSo terms.count 1 0 pass v
-    only zero v at = subst (SaysSo terms.count 1 0 0) (some-injective (first_view terms) v at)
+    only : (pass : ℕ) (v : SeatView) → get_elem? (leader_at_first terms ∷ []) pass ≡ some v → SaysSo terms.count 1 0 pass v
+    only zero v at = subst (SaysSo terms.count 1 0 0) (some-injective (leader_at_first terms) v at)
         (record { leads = λ _. (refl, refl); ends = one_row terms.count 0 })
     only (suc pass) v at = absurd (some-ne-none v (sym at))
 
-pub forks : (terms : Terms) (pass : ℕ) (v : View) → v.leads ≡ true → v.made < terms.workers → Splits (IsInTurn terms) pass v (with_seat v) (of_new_seat v)
+pub forks : (terms : Terms) (pass : ℕ) (v : SeatView) → v.leads ≡ true → v.made < terms.workers → Splits (IsInTurn terms) pass v (with_seat v) (of_new_seat v)
 forks terms pass v leads more s kept at =
     let mine : (pass ≡ kept.first) × (v.made ≡ kept.made) = (kept.passes pass v at).leads leads in
     let made : v.made ≡ kept.made = mine.1 in
@@ -83,7 +83,7 @@ forks terms pass v leads more s kept at =
           (at_snoc (set s.views pass (with_seat v)) (of_new_seat v) u j at_j);
     }
   where
-    added : (f : View → ℕ) → f (with_seat v) ≡ f v
+    added : (f : SeatView → ℕ) → f (with_seat v) ≡ f v
         → sum_by f (set s.views pass (with_seat v) ++ of_new_seat v ∷ []) ≡ sum_by f s.views + f (of_new_seat v)
     added f is =
         let one : sum_by f (set s.views pass (with_seat v) ++ of_new_seat v ∷ []) ≡ sum_by f (set s.views pass (with_seat v)) + f (of_new_seat v) =
@@ -91,19 +91,19 @@ forks terms pass v leads more s kept at =
         let two : sum_by f (set s.views pass (with_seat v)) + f v ≡ sum_by f s.views + f (with_seat v) = sum_set f s.views pass v (with_seat v) at in
         omega (arith, one, two, is)
 
-    same : (f : View → ℕ) → f (with_seat v) ≡ f v → f (of_new_seat v) ≡ 0
+    same : (f : SeatView → ℕ) → f (with_seat v) ≡ f v → f (of_new_seat v) ≡ 0
         → sum_by f (set s.views pass (with_seat v) ++ of_new_seat v ∷ []) ≡ sum_by f s.views
     same f is none = omega (arith, added f is, none)
 
 -- ---- a draw
 
 -- a list has what a view has
-module _ (v : View) (one : v.rows ≡ row_of v.rows ∷ []) where
+module _ (v : SeatView) (one : v.rows ≡ row_of v.rows ∷ []) where
   abbrev own : List ℕ
   own = (row_of v.rows).drawn
 
   draws_one : (x : ℕ) → draws_of x v ≡ times x own
-  draws_one x = ap (λ rows. sum_by (λ (row : Row). times x row.drawn) rows) one ∙ omega arith
+  draws_one x = ap (λ rows. sum_by (λ (row : SeatRow). times x row.drawn) rows) one ∙ omega arith
 
   draws_more : (x word : ℕ) → draws_of x (with_number v word) ≡ draws_of x v + cond {A = ℕ} (word == x) 1 0
   draws_more x word =
@@ -115,10 +115,10 @@ module _ (v : View) (one : v.rows ≡ row_of v.rows ∷ []) where
   lists_same = ap length one
 
   lists_of_same : (k word : ℕ) → lists_of k (with_number v word) ≡ lists_of k v
-  lists_of_same k word = sym (ap (λ rows. count_by (λ (row : Row). row.number == k) rows) one)
+  lists_of_same k word = sym (ap (λ rows. count_by (λ (row : SeatRow). row.number == k) rows) one)
 
   ended_not : (count : ℕ) → has_end count own ≡ false → ended_lists count v ≡ 0
-  ended_not count unspent = ap (λ rows. count_by (λ (row : Row). has_end count row.drawn) rows) one ∙ ap (λ b. 0 + cond {A = ℕ} b 1 0) unspent
+  ended_not count unspent = ap (λ rows. count_by (λ (row : SeatRow). has_end count row.drawn) rows) one ∙ ap (λ b. 0 + cond {A = ℕ} b 1 0) unspent
 
   -- it is one of the lists that end at or past the count, or the number is below
   ended_more : (count word : ℕ) → count ≤ word → ended_lists count (with_number v word) ≡ 1
@@ -140,7 +140,7 @@ module _ (v : View) (one : v.rows ≡ row_of v.rows ∷ []) where
       let most : draws_of y v ≤ once_below end y = all y in
       within_once end y (omega (arith, itself, some_, draws_one y, most))
 
-pub draws : (terms : Terms) (slots pass : ℕ) (me : Me (Unit {0}) View) → terms.count < 2 ^ 32 → terms.workers ≤ 32
+pub draws : (terms : Terms) (slots pass : ℕ) (me : Me (Unit {0}) SeatView) → terms.count < 2 ^ 32 → terms.workers ≤ 32
     → me.0.rows ≡ row_of me.0.rows ∷ [] → has_end terms.count (row_of me.0.rows).drawn ≡ false
     → Allows (IsInTurn terms) slots pass me 0 (λ n. (n + 1) % 2 ^ 64) (λ n next. DrewNumber me.0 n next.0 × (next.1 ≡ me.1))
 draws terms slots pass me small few one unspent s kept len at fits = (
@@ -176,10 +176,10 @@ draws terms slots pass me small few one unspent s kept len at fits = (
   ),
 )
   where
-    v : View
+    v : SeatView
     v = me.0
 
-    w : View
+    w : SeatView
     w = with_number v kept.word
 
     number : slice_index s.words 0 ≡ kept.word
@@ -199,7 +199,7 @@ draws terms slots pass me small few one unspent s kept len at fits = (
         let made_few = kept.few in
         omega (arith, most, within, made, made_few, small, few)
 
-    same : (f : View → ℕ) → f w ≡ f v → sum_by f (set s.views pass w) ≡ sum_by f s.views
+    same : (f : SeatView → ℕ) → f w ≡ f v → sum_by f (set s.views pass w) ≡ sum_by f s.views
     same f is = omega (arith, sum_set f s.views pass v w at, is)
 
     more : (x : ℕ) → sum_by (draws_of x) (set s.views pass w) ≡ sum_by (draws_of x) s.views + cond {A = ℕ} (kept.word == x) 1 0
@@ -210,7 +210,7 @@ draws terms slots pass me small few one unspent s kept len at fits = (
 
 -- ---- a seat takes over the lists of another
 
-pub merges : (terms : Terms) (pass : ℕ) (v : View) (other : ℕ) (w : View) → Joins (IsInTurn terms) pass v other w (with_lists v w) emptied
+pub merges : (terms : Terms) (pass : ℕ) (v : SeatView) (other : ℕ) (w : SeatView) → Joins (IsInTurn terms) pass v other w (with_lists v w) emptied
 merges terms pass v other w s kept at apart at_other =
     record {
       word = kept.word;
@@ -219,11 +219,11 @@ merges terms pass v other w s kept at apart at_other =
       words = kept.words;
       few = kept.few;
       seats = same lists (length-append v.rows w.rows) refl ∙ kept.seats;
-      each_seat = λ k. same (lists_of k) (sum_by-append (λ (row : Row). cond {A = ℕ} (row.number == k) 1 0) v.rows w.rows) refl ∙ kept.each_seat k;
-      claimed = λ x. same (draws_of x) (sum_by-append (λ (row : Row). times x row.drawn) v.rows w.rows) refl ∙ kept.claimed x;
+      each_seat = λ k. same (lists_of k) (sum_by-append (λ (row : SeatRow). cond {A = ℕ} (row.number == k) 1 0) v.rows w.rows) refl ∙ kept.each_seat k;
+      claimed = λ x. same (draws_of x) (sum_by-append (λ (row : SeatRow). times x row.drawn) v.rows w.rows) refl ∙ kept.claimed x;
       within =
           let before = kept.within in
-          omega (arith, before, same (ended_lists terms.count) (sum_by-append (λ (row : Row). cond {A = ℕ} (has_end terms.count row.drawn) 1 0) v.rows w.rows) refl);
+          omega (arith, before, same (ended_lists terms.count) (sum_by-append (λ (row : SeatRow). cond {A = ℕ} (has_end terms.count row.drawn) 1 0) v.rows w.rows) refl);
       passes = each_set (SaysSo terms.count kept.made kept.first) (set s.views pass both) other emptied
           (record { leads = λ none. absurd (true≢false (sym none)); ends = All-nil (RowEnds terms.count) })
           (λ j u _ at_j. each_set (SaysSo terms.count kept.made kept.first) s.views pass both
@@ -234,29 +234,29 @@ merges terms pass v other w s kept at apart at_other =
           (λ i t _ at_i. kept.passes i t at_i) j u at_j);
     }
   where
-    both : View
+    both : SeatView
     both = with_lists v w
 
     was : get_elem? s.views other ≡ some w
     was = ⊎_elim (λ (x : (other ≡ pass) × (both ≡ w)). absurd (apart x.0))
         (λ (x : (other ≢ pass) × (get_elem? s.views other ≡ some w)). x.1) (at_set s.views pass other both w at_other)
 
-    same : (f : View → ℕ) → f both ≡ f v + f w → f emptied ≡ 0 → sum_by f (set (set s.views pass both) other emptied) ≡ sum_by f s.views
+    same : (f : SeatView → ℕ) → f both ≡ f v + f w → f emptied ≡ 0 → sum_by f (set (set s.views pass both) other emptied) ≡ sum_by f s.views
     same f is none = sum_joined f s.views pass other v w both emptied at at_other is none
 
 -- ---- at the end
 
 -- what is known of the word once a view has the lists of all seats
-pub record Told (terms : Terms) (rows : List Row) (word : ℕ) : Type 0 where
+pub record Told (terms : Terms) (rows : List SeatRow) (word : ℕ) : Type 0 where
   pub claimed : (x : ℕ) → sum_by (λ row. times x row.drawn) rows ≡ once_below word x
   pub few : word ≤ terms.count + terms.workers
   pub ends : All (RowEnds terms.count) rows
 
-no_rows : (rows : List Row) → length rows ≡ 0 → rows ≡ []
+no_rows : (rows : List SeatRow) → length rows ≡ 0 → rows ≡ []
 no_rows [] none = refl
 no_rows (row ∷ rows) none = absurd (omega (arith, none))
 
-pub tells : (terms : Terms) (words : List ℕ) (slots : List (Unit {0})) (pass : ℕ) (v : View)
+pub tells : (terms : Terms) (words : List ℕ) (slots : List (Unit {0})) (pass : ℕ) (v : SeatView)
     → terms.workers ≤ length v.rows → Final (Seen (IsInTurn terms) pass v) words slots
     → (word : ℕ) × (words ≡ word ∷ []) × Told terms v.rows word
 tells terms words slots pass v all_ final =
@@ -278,5 +278,5 @@ tells terms words slots pass v all_ final =
       },
     )
   where
-    none_of : (x : ℕ) (u : View) → lists u ≡ 0 → draws_of x u ≡ 0
-    none_of x u none = ap (λ rows. sum_by (λ (row : Row). times x row.drawn) rows) (no_rows u.rows none)
+    none_of : (x : ℕ) (u : SeatView) → lists u ≡ 0 → draws_of x u ≡ 0
+    none_of x u none = ap (λ rows. sum_by (λ (row : SeatRow). times x row.drawn) rows) (no_rows u.rows none)

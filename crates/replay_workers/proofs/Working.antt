@@ -5,8 +5,9 @@ use Rattle.std.proofs.lemmas.List.{map-append}
 use Rattle.std.proofs.lemmas.List.Elements.{All-push}
 use Rattle.std.proofs.lemmas.List.Folds.{list_any-append}
 use Rattle.visit_replay.specs.declared.outcome.Outcome.{Outcome}
-use Rattle.replay_workers.specs.Draws.{Pool, Draws, IsOf, has_end, is_spent, with_draw}
+use Rattle.replay_workers.specs.Draws.{Pool, Draws, IsSeatOf, has_end, is_spent, with_draw}
 use Rattle.replay_workers.specs.Work.{done_numbers, AreOf, HasDrawn}
+use Rattle.replay_workers.specs.inside.Shares.{HasNext}
 use Rattle.replay_workers.specs.declared.share.Done.{Done}
 
 end_push : (count : ℕ) (drawn : List ℕ) (x : ℕ) → has_end count drawn ≡ false → has_end count (drawn ++ x ∷ []) ≡ has_end count (x ∷ [])
@@ -27,12 +28,12 @@ before_end seat x unspent still = elim (leb_tells seat.count x) [
 
 -- what a worker has done so far
 pub record IsWorking {V E : Type 0} (items : V → List Done) (own : List Outcome) (pool : Pool) (old seat : Draws) (done : Result V E) : Type 0 where
-  pub of : IsOf pool seat
+  pub of : IsSeatOf pool seat
   pub unspent : is_spent seat ≡ false
   pub done_is : IfOk done (λ some. (seat.drawn ≡ old.drawn ++ done_numbers (items some)) × AreOf own (items some))
 
 module _ {V E : Type 0} (items : V → List Done) (own : List Outcome) (pool : Pool) (old : Draws) where
-  pub begins : (none : V) → IsOf pool old → is_spent old ≡ false → items none ≡ [] → IsWorking {V = V} {E = E} items own pool old old (Ok none)
+  pub begins : (none : V) → IsSeatOf pool old → is_spent old ≡ false → items none ≡ [] → IsWorking {V = V} {E = E} items own pool old old (Ok none)
   begins none of unspent empty = record {
     of = of;
     unspent = unspent;
@@ -54,18 +55,21 @@ module _ {V E : Type 0} (items : V → List Done) (own : List Outcome) (pool : P
   }
 
   -- and any other
-  pub goes_on : (seat : Draws) (done : Result V E) (x : ℕ) (more : Result V E) → IsWorking items own pool old seat done → is_spent (with_draw seat x) ≡ false → IsOf pool (with_draw seat x)
-      → IfOk more (λ more. IsOkAnd done (λ some. (one : Done) × (items more ≡ items some ++ one ∷ []) × (one.number ≡ x) × (slice_get own x ≡ Some one.outcome)))
+  pub goes_on : (seat : Draws) (done : Result V E) (x : ℕ) (more : Result V E) → IsWorking items own pool old seat done → is_spent (with_draw seat x) ≡ false → IsSeatOf pool (with_draw seat x)
+      → IfOk more (λ more. IsOkAnd done (λ some. HasNext own x (items some) (items more)))
       → IsWorking items own pool old (with_draw seat x) more
   goes_on seat done x more working still of added = record { of = of; unspent = still; done_is = with_more more done working.done_is added }
     where
       with_more : (more done : Result V E) → IfOk done (λ some. (seat.drawn ≡ old.drawn ++ done_numbers (items some)) × AreOf own (items some))
-          → IfOk more (λ more. IsOkAnd done (λ some. (one : Done) × (items more ≡ items some ++ one ∷ []) × (one.number ≡ x) × (slice_get own x ≡ Some one.outcome)))
+          → IfOk more (λ more. IsOkAnd done (λ some. HasNext own x (items some) (items more)))
           → IfOk more (λ more. (seat.drawn ++ x ∷ [] ≡ old.drawn ++ done_numbers (items more)) × AreOf own (items more))
       with_more (Err e) done was one = tt
       with_more (Ok more) (Err e) was one = absurd one
-      with_more (Ok more) (Ok some) was (one, are, number, outcome) = (
+      with_more (Ok more) (Ok some) was next = (
         ap (λ drawn. drawn ++ x ∷ []) was.0 ∙ append_assoc old.drawn (done_numbers (items some)) (x ∷ [])
-            ∙ ap (λ numbers. old.drawn ++ numbers) (ap (λ n. done_numbers (items some) ++ n ∷ []) (sym number) ∙ sym (map-append (λ o. o.number) (items some) (one ∷ [])) ∙ ap done_numbers (sym are)),
-        subst (AreOf own) (sym are) (All-push (λ (o : Done). slice_get own o.number ≡ Some o.outcome) (items some) one was.1 (ap (slice_get own) number ∙ outcome)),
+            ∙ ap (λ numbers. old.drawn ++ numbers)
+            (ap (λ n. done_numbers (items some) ++ n ∷ []) (sym next.number_is) ∙ sym (map-append (λ o. o.number) (items some) (next.one ∷ []))
+            ∙ ap done_numbers (sym next.more_are)),
+        subst (AreOf own) (sym next.more_are)
+            (All-push (λ (o : Done). slice_get own o.number ≡ Some o.outcome) (items some) next.one was.1 (ap (slice_get own) next.number_is ∙ next.outcome_is)),
       )

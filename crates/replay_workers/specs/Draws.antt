@@ -17,8 +17,8 @@ pub record Draws : Type 0 where
   pub count : ℕ
   pub drawn : List ℕ
 
-abbrev pub IsOf : Pool → Draws → Type 0
-IsOf pool seat = (seat.table_id ≡ pool.table_id) × (seat.count ≡ pool.count)
+abbrev pub IsSeatOf : Pool → Draws → Type 0
+IsSeatOf pool seat = (seat.table_id ≡ pool.table_id) × (seat.count ≡ pool.count)
 
 -- a number at or past the count was drawn
 abbrev pub has_end : ℕ → List ℕ → Bool
@@ -55,21 +55,25 @@ abbrev pub fresh_seat : Pool → Draws
 fresh_seat pool = record { table_id = pool.table_id; count = pool.count; drawn = [] }
 
 -- a seat of these claims which has drawn nothing
-abbrev pub IsFreshOf : Pool → Draws → Type 0
-IsFreshOf pool seat = IsOf pool seat × (seat.drawn ≡ [])
+abbrev pub IsNewSeatOf : Pool → Draws → Type 0
+IsNewSeatOf pool seat = IsSeatOf pool seat × (seat.drawn ≡ [])
 
-pub record AreOpened (count workers : ℕ) (pool : Pool) (seats : List Draws) : Type 0 where
+pub record AreOpenedClaims (count workers : ℕ) (pool : Pool) (seats : List Draws) : Type 0 where
   pub count_is : pool.count ≡ count
   pub workers_is : pool.workers ≡ workers
   pub seats_are : seats ≡ replicate workers (fresh_seat pool)
-  pub fresh : All (IsFreshOf pool) seats
+  pub fresh : All (IsNewSeatOf pool) seats
 
 -- ---- codes
 
 abbrev pub pool_coded : Coded Pool
-pool_coded = code_by (TableId × (ℕ × ℕ)) (coded× table_id_coded (coded× coded_ℕ coded_ℕ)) (λ p. (p.table_id, (p.count, p.workers)))
+pool_coded =
+    code_by (TableId × (ℕ × ℕ)) (coded× table_id_coded (coded× coded_ℕ coded_ℕ))
+    (λ p. (p.table_id, (p.count, p.workers)))
     (λ t. record { table_id = t.0; count = t.1.0; workers = t.1.1 }) (λ _. refl)
 
 abbrev pub draws_coded : Coded Draws
-draws_coded = code_by (TableId × (ℕ × List ℕ)) (coded× table_id_coded (coded× coded_ℕ (coded_list coded_ℕ))) (λ s. (s.table_id, (s.count, s.drawn)))
+draws_coded =
+    code_by (TableId × (ℕ × List ℕ)) (coded× table_id_coded (coded× coded_ℕ (coded_list coded_ℕ)))
+    (λ s. (s.table_id, (s.count, s.drawn)))
     (λ t. record { table_id = t.0; count = t.1.0; drawn = t.1.1 }) (λ _. refl)

@@ -2,16 +2,16 @@
 ghost use Rattle.std.specs.Prelude.{◌≡◌, ◌≢◌, ◌<◌, ◌≤◌, ◌+◌, false, [], ◌∷◌, All, IfOk, IfErr, replicate, vec_len};
 ghost use Rattle.std.specs.Vec.{vec_capacity};
 ghost use Rattle.replay_workers.specs.Limits.{AreWorkers};
-ghost use Rattle.replay_workers.specs.Draws.{IsOf, is_spent, EndsOnce, with_draw, AreClaimed, fresh_seat, AreOpened};
+ghost use Rattle.replay_workers.specs.Draws.{IsSeatOf, is_spent, EndsOnce, with_draw, AreClaimed, fresh_seat, AreOpenedClaims};
 ghost use Rattle.replay_workers.specs.declared.fault.PoolFault.TheVariants.{BadWorkers, NoMemory};
 ghost use Rattle.replay_workers.specs.inside.Rule.{first_of};
 ghost use Rattle.replay_workers.specs.inside.Seats.{IsGathered};
 
 use crate::fault::PoolFault;
 use crate::limits::MAX_WORKERS;
-use crate::rule::{Draw, Gathers, InTurn, Opens};
+use crate::rule::{Draw, GathersSeats, InTurn, OpensSeat};
 use crate::seat::Seat;
-use crate::view::{Terms, View};
+use crate::view::{SeatView, Terms};
 use atomic_table::{Seat as Pass, Table};
 use std::alloc::Global;
 use std::marker::Model;
@@ -19,7 +19,7 @@ use std::marker::Model;
 /// The next number to be drawn, to be shared by reference. Contracts see which claims they are, for how many numbers, and how many seats they have.
 #[derive(Drop)]
 pub struct Claims {
-    table: Table<(), View, Terms, InTurn, Global>,
+    table: Table<(), SeatView, Terms, InTurn, Global>,
 }
 
 impl Model for Claims {
@@ -37,9 +37,10 @@ impl Model for Claims {
 
 impl Claims {
     #[tactic(auto, using(crate::proofs::Steps::begins))]
-    /// The claims to the numbers below the count, with a seat for each of so many workers, 1 to `MAX_WORKERS`.
+    /// The claims to the numbers below the count, with a seat for each of so many workers, 1 to `MAX_WORKERS`; F1 for
+    /// another number of workers, F2 where memory is refused.
     pub fn open(alloc: Global, count: u32, workers: u32) -> Result<(Claims, Vec<Seat>), PoolFault>
-        ensures opened { IfOk result (λ made. AreWorkers workers × AreOpened count workers made.0 made.1.items) }
+        ensures opened { IfOk result (λ made. AreWorkers workers × AreOpenedClaims count workers made.0 made.1.items) }
         ensures refused { IfErr result (λ fault. fault ≢ NoMemory → (fault ≡ BadWorkers) × ¬ AreWorkers workers) }
         ensures memory { IfErr result (λ fault. fault ≡ NoMemory → AreWorkers workers) }
     {
@@ -55,7 +56,7 @@ impl Claims {
     }
 
     // A seat for each worker. There is room for them.
-    fn split(&self, first: Pass<(), View>, terms: &Terms, seats: Vec<Seat>) -> Vec<Seat>
+    fn split(&self, first: Pass<(), SeatView>, terms: &Terms, seats: Vec<Seat>) -> Vec<Seat>
         requires terms { (self.now.count ≡ terms.now.count) × (self.now.workers ≡ terms.now.workers) }
         requires first { (first.table_id ≡ self.now.table_id) × (first.me ≡ (first_of 1, [])) }
         requires none { seats.items ≡ [] }
@@ -65,7 +66,7 @@ impl Claims {
         let mut first = first;
         let mut seats = seats;
         for _ in 1..terms.workers {
-            let own = self.table.shared.split_seat::<Opens>(&mut first);
+            let own = self.table.shared.split_seat::<OpensSeat>(&mut first);
             seats.push_reserved(Seat::of_pass(own, terms.count));
         }
         seats.push_reserved(Seat::of_pass(first, terms.count));
@@ -74,10 +75,10 @@ impl Claims {
 
     /// One draw of the next number: 0, 1, and so on, to whichever seat. It waits for nothing.
     pub fn draw(&self, seat: &mut Seat) -> u64
-        requires of { IsOf self.now seat.old }
+        requires of { IsSeatOf self.now seat.old }
         requires unspent { is_spent seat.old ≡ false }
         ensures seat { seat.new ≡ with_draw seat.old result }
-        ensures of { IsOf self.now seat.new }
+        ensures of { IsSeatOf self.now seat.new }
         ensures above { All (λ x. x < result) seat.old.drawn }
     {
         let number = self.table.shared.fetch_add::<Draw>(&mut seat.pass, 0, 1);
@@ -88,7 +89,7 @@ impl Claims {
     /// How many numbers were drawn. All seats of these claims come back, in any order.
     pub fn close(self, seats: Vec<Seat>) -> u64
         requires all { vec_len seats ≡ self.workers }
-        requires of { All (IsOf self) seats.items }
+        requires of { All (IsSeatOf self) seats.items }
         ensures claimed { AreClaimed result seats.items }
         ensures few { result ≤ self.count + self.workers }
         ensures ends { All (λ seat. EndsOnce self.count seat.drawn) seats.items }
@@ -102,9 +103,9 @@ impl Claims {
     }
 
     // A pass that takes over what all of these seats drew.
-    fn gather(&self, seats: Vec<Seat>) -> Pass<(), View>
+    fn gather(&self, seats: Vec<Seat>) -> Pass<(), SeatView>
         requires all { vec_len seats ≡ self.now.workers }
-        requires of { All (IsOf self.now) seats.items }
+        requires of { All (IsSeatOf self.now) seats.items }
         ensures { IsGathered self.now [] seats.items result }
     {
         let shared = &self.table.shared;
@@ -115,7 +116,7 @@ impl Claims {
         let mut all = last.into_pass();
         while let Some(seat) = seats.pop() {
             let mut pass = seat.into_pass();
-            shared.join_seat::<Gathers>(&mut pass, all);
+            shared.join_seat::<GathersSeats>(&mut pass, all);
             all = pass;
         }
         all

@@ -1,14 +1,14 @@
 //! All workers together.
-ghost use Rattle.std.specs.Prelude.{ℕ, ◌≡◌, ◌≢◌, ◌<◌, ◌≤◌, ◌^◌, ◌⊎◌, List, [], length, map, replicate, slice_get, All, IfOk, IfErr, vec_len, Some};
+ghost use Rattle.std.specs.Prelude.{◌≡◌, ◌≢◌, ◌<◌, ◌≤◌, ◌^◌, [], length, map, replicate, slice_get, All, IfOk, IfErr, vec_len, Some};
 ghost use Rattle.std.specs.List.{sum_by};
 ghost use Rattle.std.specs.Vec.{vec_capacity};
 ghost use Rattle.visit_replay.specs.Following.{outcomes};
-ghost use Rattle.visit_replay.specs.declared.outcome.Outcome.{Outcome as AnOutcome};
+ghost use Rattle.visit_replay.specs.RepairedSite.{site_by};
 ghost use Rattle.visit_replay.specs.declared.outcome.Outcome.TheVariants.{Untouched};
-ghost use Rattle.replay_workers.specs.Draws.{Pool, IsFreshOf, times};
+ghost use Rattle.replay_workers.specs.Draws.{IsNewSeatOf};
 ghost use Rattle.replay_workers.specs.Limits.{AreWorkers};
-ghost use Rattle.replay_workers.specs.Work.{own_outcomes, done_numbers, AreOf, IsShare};
-ghost use Rattle.replay_workers.specs.inside.Shares.{IsWorked, AreBack, IsPlaced};
+ghost use Rattle.replay_workers.specs.Work.{own_outcomes, IsShare};
+ghost use Rattle.replay_workers.specs.inside.Shares.{IsWorked, IsOfFew, PlacesAll, PlacesThese};
 ghost use Rattle.replay_workers.specs.declared.fault.PoolFault.TheVariants.{BadWorkers, NoMemory};
 
 use crate::claims::Claims;
@@ -23,7 +23,7 @@ use std::thread::Threads;
 use visit_replay::{Outcome, Patch, follow_parents};
 
 /// The outcomes of visits in their order, fewer than 2^32, each behind its parent's, by so many workers, 1 to `MAX_WORKERS`: the thread
-/// that calls is one, and the others have threads of their own. Where one of these can't be started, the thread that calls does its part too.
+/// that calls is one, and the others have threads of their own. F1 for another number of workers, F2 where memory is refused. Where one of these can't be started, the thread that calls does its part too.
 pub fn replay_all<H: SiteHooks, R: AllocGlobal + Threads + Sync>(
     rt: &R,
     workers: u32,
@@ -32,7 +32,8 @@ pub fn replay_all<H: SiteHooks, R: AllocGlobal + Threads + Sync>(
     visits: &[Visit],
 ) -> Result<Vec<Outcome>, PoolFault>
     requires { length visits.now < 2 ^ 32 }
-    ensures ok { IfOk result (λ all. AreWorkers workers × (all.items ≡ outcomes (H.page_of hooks.now) (H.signals hooks.now) patch.now visits.now)) }
+    ensures workers { IfOk result (λ _. AreWorkers workers) }
+    ensures ok { IfOk result (λ all. all.items ≡ outcomes (site_by H.page_of H.signals hooks.now patch.now) visits.now) }
     ensures refused { IfErr result (λ fault. fault ≢ NoMemory → (fault ≡ BadWorkers) × ¬ AreWorkers workers) }
     ensures memory { IfErr result (λ fault. fault ≡ NoMemory → AreWorkers workers) }
 {
@@ -51,10 +52,10 @@ fn replay_each<H: SiteHooks, R: Threads + Sync>(
     claims: Claims,
     seats: Vec<Seat>,
 ) -> Result<Vec<Outcome>, AllocError>
-    requires fresh { All (IsFreshOf claims) seats.items }
+    requires fresh { All (IsNewSeatOf claims) seats.items }
     requires all { (1 ≤ vec_len seats) × (vec_len seats ≡ claims.workers) }
     requires count { claims.count ≡ length visits.now }
-    ensures { IfOk result (λ own. own.items ≡ own_outcomes (H.page_of hooks.now) (H.signals hooks.now) patch.now visits.now) }
+    ensures { IfOk result (λ own. own.items ≡ own_outcomes (site_by H.page_of H.signals hooks.now patch.now) visits.now) }
 {
     let mut own = untouched(alloc, visits.len())?;
     let room = Vec::with_capacity(alloc, seats.len())?;
@@ -63,8 +64,10 @@ fn replay_each<H: SiteHooks, R: Threads + Sync>(
         rt,
         seats,
         &|seat| -> Share
-            requires { IsFreshOf lent.now seat × (lent.now.count ≡ length visits.now) }
-            ensures { IsWorked (own_outcomes (H.page_of hooks.entry.now) (H.signals hooks.entry.now) patch.entry.now visits.entry.now) lent.entry.now result }
+            requires { IsNewSeatOf lent.now seat × (lent.now.count ≡ length visits.now) }
+            ensures { IsWorked
+                (own_outcomes (site_by H.page_of H.signals hooks.entry.now patch.entry.now) visits.entry.now)
+                lent.entry.now result }
         { work(alloc, hooks, patch, visits, lent, seat) },
     )?;
     let seats = place_all(shares, own.as_mut_slice(), room)?;
@@ -89,8 +92,8 @@ fn place_all(
     room: Vec<Seat>,
 ) -> Result<Vec<Seat>, AllocError>
     requires room { (room.items ≡ []) × (length shares.items ≤ vec_capacity room) }
-    requires within { All (λ share. IfOk share.done (λ done. All (λ one. one.number < length all.old) done.items)) shares.items }
-    ensures { (own : List AnOutcome) (claims : Pool) → (length own ≡ length all.old) × (claims.count ≡ length own) → All (IsWorked own claims) shares.items → IfOk result (λ seats. AreBack claims (length shares.items) seats.items × IsPlaced own seats.items all.new) }
+    requires within { All (IsOfFew (length all.old)) shares.items }
+    ensures { IfOk result (λ seats. PlacesAll shares.items all.old all.new seats.items) }
 {
     let mut shares = shares;
     let mut seats = room;
@@ -105,7 +108,7 @@ fn place_all(
 // Puts these outcomes at their places.
 fn place(all: &mut [Outcome], done: Vec<Done>)
     requires { All (λ one. one.number < length all.old) done.items }
-    ensures { (own : List AnOutcome) (x : ℕ) → AreOf own done.items → (slice_get all.old x ≡ slice_get own x) ⊎ (1 ≤ times x (done_numbers done.items)) → slice_get all.new x ≡ slice_get own x }
+    ensures { PlacesThese done.items all.old all.new }
 {
     let mut done = done;
     while let Some(one) = done.pop() {

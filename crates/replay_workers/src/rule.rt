@@ -1,21 +1,21 @@
 //! The rule that the claims are under, and the steps that are taken on them.
-use crate::view::{Terms, View};
+use crate::view::{SeatView, Terms};
 use atomic_table::{Join, Play, Split, TableRule};
 
 pub(crate) struct InTurn;
 
-impl TableRule<(), View, Terms> for InTurn {
-    ghost use Rattle.replay_workers.specs.inside.Rule.{IsInTurn, first_view};
+impl TableRule<(), SeatView, Terms> for InTurn {
+    ghost use Rattle.replay_workers.specs.inside.Rule.{IsInTurn, leader_at_first};
 
     ghost holds = { IsInTurn };
 
-    ghost first = { first_view };
+    ghost first = { leader_at_first };
 }
 
 /// A seat more.
-pub(crate) struct Opens;
+pub(crate) struct OpensSeat;
 
-impl Split<View> for Opens {
+impl Split<SeatView> for OpensSeat {
     ghost use Rattle.replay_workers.specs.inside.Rule.{with_seat, of_new_seat};
 
     ghost left = { with_seat };
@@ -26,7 +26,7 @@ impl Split<View> for Opens {
 /// A seat draws the next number.
 pub(crate) struct Draw;
 
-impl Play<(), View> for Draw {
+impl Play<(), SeatView> for Draw {
     ghost use Rattle.std.specs.Prelude.{◌≡◌};
     ghost use Rattle.replay_workers.specs.inside.Rule.{DrewNumber};
 
@@ -34,9 +34,9 @@ impl Play<(), View> for Draw {
 }
 
 /// A seat takes over what another drew.
-pub(crate) struct Gathers;
+pub(crate) struct GathersSeats;
 
-impl Join<View> for Gathers {
+impl Join<SeatView> for GathersSeats {
     ghost use Rattle.replay_workers.specs.inside.Rule.{with_lists, emptied};
 
     ghost both = { with_lists };

@@ -4,14 +4,14 @@ ghost use Rattle.replay_workers.specs.Draws.{is_spent};
 ghost use Rattle.replay_workers.specs.inside.Rule.{fresh_row, row_of};
 ghost use Rattle.replay_workers.specs.inside.Seats.{rows, drawn_of, draws_of_pass};
 
-use crate::view::View;
+use crate::view::SeatView;
 use atomic_table::Seat as Pass;
 use std::marker::Model;
 
 /// One worker's seat, on whatever thread it is. Contracts see of which claims it is, and which numbers it drew.
 #[derive(Drop)]
 pub struct Seat {
-    pub(crate) pass: Pass<(), View>,
+    pub(crate) pass: Pass<(), SeatView>,
     pub(crate) count: u32,
     pub(crate) spent: bool,
 }
@@ -31,7 +31,7 @@ impl Model for Seat {
 
 impl Seat {
     /// A seat that has drawn nothing.
-    pub(crate) fn of_pass(pass: Pass<(), View>, count: u32) -> Seat
+    pub(crate) fn of_pass(pass: Pass<(), SeatView>, count: u32) -> Seat
         requires whole { pass.me.1 ≡ [] }
         requires fresh { (number : _) × (rows pass ≡ fresh_row number ∷ []) }
         ensures { result ≡ draws_of_pass pass count }
@@ -51,7 +51,7 @@ impl Seat {
     }
 
     /// The pass that it holds.
-    pub(crate) fn into_pass(self) -> Pass<(), View>
+    pub(crate) fn into_pass(self) -> Pass<(), SeatView>
         ensures of { result.table_id ≡ self.table_id }
         ensures whole { result.me.1 ≡ [] }
         ensures one { rows result ≡ row_of (rows result) ∷ [] }

@@ -1,8 +1,9 @@
 //! What one worker does: it draws numbers, and replays the visits that they are of.
-ghost use Rattle.std.specs.Prelude.{◌≡◌, ◌<◌, ◌∷◌, [], ◌++◌, false, length, slice_get, Some, IfOk, IsOkAnd};
-ghost use Rattle.replay_workers.specs.Draws.{IsOf, is_spent};
+ghost use Rattle.std.specs.Prelude.{◌≡◌, ◌<◌, false, length, IfOk, IsOkAnd};
+ghost use Rattle.replay_workers.specs.Draws.{IsSeatOf, is_spent};
 ghost use Rattle.replay_workers.specs.Work.{own_outcomes, IsShare};
-ghost use Rattle.replay_workers.specs.declared.share.Done.{Done as ADone};
+ghost use Rattle.replay_workers.specs.inside.Shares.{HasNext};
+ghost use Rattle.visit_replay.specs.RepairedSite.{site_by};
 
 use crate::claims::Claims;
 use crate::seat::Seat;
@@ -37,10 +38,10 @@ pub fn work<H: SiteHooks>(
     claims: &Claims,
     seat: Seat,
 ) -> Share
-    requires of { IsOf claims.now seat }
+    requires of { IsSeatOf claims.now seat }
     requires unspent { is_spent seat ≡ false }
     requires count { claims.now.count ≡ length visits.now }
-    ensures { IsShare (own_outcomes (H.page_of hooks.now) (H.signals hooks.now) patch.now visits.now) claims.now seat result }
+    ensures { IsShare (own_outcomes (site_by H.page_of H.signals hooks.now patch.now) visits.now) claims.now seat result }
 {
     let mut seat = seat;
     let mut done = Ok(Vec::new(alloc));
@@ -63,7 +64,8 @@ fn with_one<H: SiteHooks>(
     done: Result<Vec<Done>, NoMemory>,
 ) -> Result<Vec<Done>, NoMemory>
     requires { number < length visits.now }
-    ensures { IfOk result (λ more. IsOkAnd done (λ some. (one : ADone) × (more.items ≡ some.items ++ one ∷ []) × (one.number ≡ number) × (slice_get (own_outcomes (H.page_of hooks.now) (H.signals hooks.now) patch.now visits.now) number ≡ Some one.outcome))) }
+    ensures { IfOk result (λ more. IsOkAnd done (λ some.
+        HasNext (own_outcomes (site_by H.page_of H.signals hooks.now patch.now) visits.now) number some.items more.items)) }
 {
     let mut done = done?;
     let outcome = replay(alloc, hooks, patch, &visits[number as usize])?;

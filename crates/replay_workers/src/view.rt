@@ -9,16 +9,16 @@ pub struct Terms {
 }
 
 /// What one seat drew, in order, and which of the seats it is.
-pub struct Row {
+pub struct SeatRow {
     pub number: u32,
     pub drawn: LinkedList<u64>,
 }
 
 /// What a seat knows.
-pub struct View {
+pub struct SeatView {
     /// It is the first seat: it knows how many seats were made.
     pub leads: bool,
     pub made: u32,
     /// What it drew. When the claims are closed, it takes over what the other seats drew, each list as a row of its own.
-    pub rows: LinkedList<Row>,
+    pub rows: LinkedList<SeatRow>,
 }

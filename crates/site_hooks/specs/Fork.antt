@@ -20,5 +20,5 @@ abbrev pub begins_with : List ℕ → List ℕ → Bool
 begins_with prefix address = starts_with nat_eq address prefix
 
 -- one answer where the address begins with the prefix, the other where it doesn't
-abbrev pub parted : {X : Type 0} → List ℕ → List ℕ → X → X → X
-parted prefix address inside outside = if begins_with prefix address then inside else outside
+abbrev pub fork_answer : {X : Type 0} → List ℕ → List ℕ → X → X → X
+fork_answer prefix address inside outside = if begins_with prefix address then inside else outside

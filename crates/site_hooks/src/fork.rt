@@ -1,6 +1,6 @@
 //! Two sites, parted by a prefix of the address.
 ghost use Rattle.std.specs.Prelude.{◌≡◌};
-ghost use Rattle.site_hooks.specs.Fork.{fork_prefix, fork_inside, fork_outside, begins_with, parted};
+ghost use Rattle.site_hooks.specs.Fork.{fork_prefix, fork_inside, fork_outside, begins_with, fork_answer};
 
 use crate::hooks::SiteHooks;
 use crate::law::SiteLaw;
@@ -36,9 +36,9 @@ impl<A, B> Fork<A, B> {
 }
 
 impl<A: SiteLaw, B: SiteLaw> SiteLaw for Fork<A, B> {
-    ghost page_of = { λ fork address. parted (fork_prefix fork) address (A.page_of (fork_inside fork) address) (B.page_of (fork_outside fork) address) };
+    ghost page_of = { λ fork address. fork_answer (fork_prefix fork) address (A.page_of (fork_inside fork) address) (B.page_of (fork_outside fork) address) };
 
-    ghost signals = { λ fork address old new. parted (fork_prefix fork) address (A.signals (fork_inside fork) address old new) (B.signals (fork_outside fork) address old new) };
+    ghost signals = { λ fork address old new. fork_answer (fork_prefix fork) address (A.signals (fork_inside fork) address old new) (B.signals (fork_outside fork) address old new) };
 }
 
 impl<A: SiteHooks, B: SiteHooks> SiteHooks for Fork<A, B> {

@@ -1,7 +1,6 @@
 //! A site of pages by address, with watched paths.
-ghost use Rattle.std.specs.Prelude.{◌≡◌, [], ◌∷◌, ◌++◌, ℕ, List, Some, None, if◌then◌else◌, IfOk, OnOk, OnErr};
-ghost use Rattle.std.specs.Str.{bytes_eq};
-ghost use Rattle.site_hooks.specs.Table.{table_page, watched_in, watched_text, is_changed, signals_in};
+ghost use Rattle.std.specs.Prelude.{◌≡◌, [], ◌∷◌, ◌++◌, ℕ, List, None, IfOk, OnOk, OnErr};
+ghost use Rattle.site_hooks.specs.Table.{AddsPage, table_page, watched_in, watched_text, is_changed, signals_in};
 
 use crate::hooks::SiteHooks;
 use crate::law::SiteLaw;
@@ -32,7 +31,7 @@ impl Table {
 
     /// Adds the page at an address, in place of an earlier one; after an error all is as before.
     pub fn add_page(&mut self, address: Text, page: Page) -> Result<(), NoMemory>
-        ensures ok { OnOk result ((other : List ℕ) → table_page self.new other ≡ (if bytes_eq address other then Some page else table_page self.old other)) }
+        ensures ok { OnOk result (AddsPage self.old address page self.new) }
         ensures err { OnErr result ((other : List ℕ) → table_page self.new other ≡ table_page self.old other) }
         ensures watched { watched_in self.new ≡ watched_in self.old }
     {
@@ -65,6 +64,7 @@ impl SiteHooks for Table {
         }
     }
 
+    // K9 of a replay, where it is true
     fn signals(&self, _address: &str, old: &Page, new: &Page) -> Result<bool, NoMemory> {
         for path in &self.watched {
             if changed(path, old, new)? {

@@ -11,7 +11,7 @@ use Rattle.conflict_desk.specs.declared.decided.Choice.{Choice}
 use Rattle.conflict_desk.specs.declared.decided.Choice.TheVariants.{Cancel, Keep}
 use Rattle.site_line.specs.Decision.{choice_text, IsDecisionOf, AreDecisions}
 use Rattle.site_line.specs.inside.Entries.{client_named, choice_said, make_decision, decision_among, decision_in, decisions_among}
-use Rattle.site_line.specs.declared.decision.Decision.{Decision}
+use Rattle.conflict_desk.specs.declared.decision.Decision.{Decision}
 use Rattle.site_line.proofs.Options.{chained, mapped, within}
 
 -- ---- the choice

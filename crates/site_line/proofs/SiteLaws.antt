@@ -14,9 +14,9 @@ use Rattle.client_log.specs.Quota.{IsQuota}
 use Rattle.replay_workers.specs.Limits.{AreWorkers, max_workers}
 use Rattle.site_hooks.specs.declared.table.Table.{Table}
 use Rattle.visit_replay.specs.Outcome.{is_listed}
-use Rattle.site_line.specs.Site.{Entry, Site as PlainSite, patched_in, pages_in, watch_in, quota_in, workers_in, decide_in, HoldPages, ArePaths, IsSiteOf, IsJsonOf}
+use Rattle.site_line.specs.Site.{Entry, Site as PlainSite, patched_in, pages_in, watch_in, quota_in, workers_in, decide_in, HoldPages, ArePaths, IsSiteOf, IsJsonOf, IsSiteLine, IsNoSite}
 use Rattle.site_line.specs.Reading.{site_patch, site_table, site_quota, site_workers, site_decisions, AnswersAs}
-use Rattle.site_line.specs.inside.SiteMembers.{StandsBy, HasPages, Watches, entries_in, paths_in, ok_of, quota_of, workers_of, make_site, site_by, site_in, SiteFails}
+use Rattle.site_line.specs.inside.SiteMembers.{StandsBy, HasPages, Watches, entries_in, paths_in, ok_of, quota_of, workers_of, make_site, site_of_object, site_in, SiteFails}
 use Rattle.site_line.specs.inside.Entries.{decisions_among}
 use Rattle.site_line.specs.declared.site.Site.{Site}
 use Rattle.site_line.specs.declared.fault.SiteFault.{SiteFault}
@@ -114,7 +114,7 @@ chosen false o x is = cc
 
 pub site_is : (d : Data) (plain : PlainSite) → site_in d ≡ Some plain → IsSiteOf d plain
 site_is d plain is =
-    let form = chosen (is_some (as_object d)) (site_by d) plain is in
+    let form = chosen (is_some (as_object d)) (site_of_object d) plain is in
     let patched = chained _ (patched_in d) plain form.1 in
     let pages = chained _ (option_and_then entries_in (pages_in d)) plain patched.2 in
     let watched = chained _ (option_and_then paths_in (watch_in d)) plain pages.2 in
@@ -163,8 +163,8 @@ site_made d site addresses table entries paths object patched lists pages has wa
 -- ---- the answers of `read`
 
 pub answered_ok : (line : List ℕ) (d : Data) (r : Result Site SiteFault) → StandsBy r d → IsJsonOf line d
-    → IfOk r (λ site. (e : Data) × IsJsonOf line e × ((plain : PlainSite) × IsSiteOf e plain × AnswersAs site plain))
-answered_ok line d (Ok site) stands json = (d, json, (stands.0, site_is d stands.0 stands.1, stands.2))
+    → IfOk r (λ site. (plain : PlainSite) × IsSiteLine line plain × AnswersAs site plain)
+answered_ok line d (Ok site) stands json = (stands.0, (d, json, site_is d stands.0 stands.1), stands.2)
 answered_ok line d (Err e) stands json = tt
 
 one_site : (line : List ℕ) (d e : Data) (site : Site) (plain other : PlainSite) → site_in d ≡ Some plain → AnswersAs site plain → IsJsonOf line d → IsJsonOf line e → IsSiteOf e other → AnswersAs site other
@@ -176,16 +176,16 @@ one_site line d e site plain other found stands json also is =
     rw one stands
 
 pub answered_only : (line : List ℕ) (d : Data) (r : Result Site SiteFault) → StandsBy r d → IsJsonOf line d
-    → IfOk r (λ site. (e : Data) → IsJsonOf line e → (plain : PlainSite) → IsSiteOf e plain → AnswersAs site plain)
-answered_only line d (Ok site) stands json = λ e also plain is. one_site line d e site stands.0 plain stands.1 stands.2 json also is
+    → IfOk r (λ site. (plain : PlainSite) → IsSiteLine line plain → AnswersAs site plain)
+answered_only line d (Ok site) stands json = λ plain said. one_site line d said.0 site stands.0 plain stands.1 stands.2 json said.1 said.2
 answered_only line d (Err e) stands json = tt
 
-bad_member : (line : List ℕ) (d : Data) (e : SiteFault) → SiteFails e (site_in d) → IsJsonOf line d → e ≡ BadMember → (f : Data) × IsJsonOf line f × ((plain : PlainSite) → IsSiteOf f plain → ⊥)
+bad_member : (line : List ℕ) (d : Data) (e : SiteFault) → SiteFails e (site_in d) → IsJsonOf line d → e ≡ BadMember → (f : Data) × IsJsonOf line f × IsNoSite f
 bad_member line d NotJson fails json is = absurd fails
 bad_member line d BadMember fails json is = (d, json, no_site d fails)
 bad_member line d NoMemory fails json is = cc
 
 pub answered_bad : (line : List ℕ) (d : Data) (r : Result Site SiteFault) → StandsBy r d → IsJsonOf line d → r ≡ Err BadMember
-    → (e : Data) × IsJsonOf line e × ((plain : PlainSite) → IsSiteOf e plain → ⊥)
+    → (e : Data) × IsJsonOf line e × IsNoSite e
 answered_bad line d (Ok site) stands json is = cc
 answered_bad line d (Err e) stands json is = let same : e ≡ BadMember = cc in bad_member line d e stands json same

@@ -6,13 +6,14 @@ use Rattle.upload_reader.specs.Client.{is_client}
 use Rattle.upload_reader.specs.Member.{number_in}
 use Rattle.conflict_desk.specs.declared.decided.Choice.{Choice}
 use Rattle.conflict_desk.specs.declared.decided.Choice.TheVariants.{Cancel, Keep}
-use Rattle.site_line.specs.declared.decision.Decision.{Decision}
+use Rattle.conflict_desk.specs.declared.decision.Decision.{Decision}
 
 abbrev pub choice_text : Choice → List ℕ
 choice_text Cancel = codes "cancel"
 choice_text Keep = codes "keep"
 
--- An entry is an array of just three: the text of a client, the number of its visit, from 1 to the greatest, and the text of what was chosen.
+-- An entry is an array of just three: the text of a client, the number of its visit, from 1 to the greatest, and the
+-- text of what was chosen. Any other entry is Z2.
 pub record IsDecisionOf (d : Data) (decision : Decision) : Type 0 where
   pub client : Data
   pub visit : Data

@@ -1,4 +1,5 @@
--- The faults of a site line: their codes, and which one a page's fault is. The rules of `Z1` and `Z2` stand in `Site` (`IsJsonOf`, `IsSiteOf`).
+-- The faults of a site line: their codes, and which one a page's fault is. The rules of `Z1` and `Z2` stand in `Site`
+-- (`IsJsonOf`, `IsSiteOf`).
 use Rattle.std.specs.Prelude.{ℕ, List, codes}
 use Rattle.page_tree.specs.declared.fault.PageFault.{PageFault}
 use Rattle.page_tree.specs.declared.fault.PageFault.TheVariants as page

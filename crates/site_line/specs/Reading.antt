@@ -5,7 +5,7 @@ use Rattle.site_hooks.specs.declared.table.Table.{Table}
 use Rattle.visit_replay.specs.Outcome.{is_listed}
 use Rattle.site_line.specs.Site.{Site as PlainSite, page_among}
 use Rattle.site_line.specs.declared.site.Site.{Site}
-use Rattle.site_line.specs.declared.decision.Decision.{Decision}
+use Rattle.conflict_desk.specs.declared.decision.Decision.{Decision}
 
 abbrev pub site_patch : Site → List (List ℕ)
 site_patch site = site.patch

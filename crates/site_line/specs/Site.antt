@@ -13,14 +13,15 @@ use Rattle.client_log.specs.Quota.{IsQuota}
 use Rattle.site_hooks.specs.Table.{is_changed}
 use Rattle.replay_workers.specs.Limits.{AreWorkers}
 use Rattle.site_line.specs.Decision.{AreDecisions}
-use Rattle.site_line.specs.declared.decision.Decision.{Decision}
+use Rattle.conflict_desk.specs.declared.decision.Decision.{Decision}
 
 -- a page beside its address
 abbrev pub Entry : Type 0
 Entry = List ℕ × Tree
 
--- The addresses whose visits are replayed, the pages of the repaired site, the paths to texts that must not have changed, how much is kept of each
--- client, how many workers replay its visits, and what the administrator decided so far, in that order.
+-- The addresses whose visits are replayed, the pages of the repaired site, the paths to texts that must not have
+-- changed, how much is kept of each client, how many workers replay its visits, and what the administrator decided so
+-- far, in that order.
 pub record Site : Type 0 where
   pub patched : List (List ℕ)
   pub pages : List Entry
@@ -54,9 +55,13 @@ pages_in d = option_map_or as_object (get (codes "pages") d) (Some no_members)
 abbrev pub number_or : Option Data → ℕ → Option ℕ
 number_or given absent = option_map_or (λ d. option_and_then as_u64 (as_number d)) given (Some absent)
 
--- the member `quota`, a whole number; 1 MiB where it is absent
+-- 1 MiB
+abbrev pub default_quota : ℕ
+default_quota = 1048576
+
+-- the member `quota`, a whole number; that many bytes where it is absent
 abbrev pub quota_in : Data → Option ℕ
-quota_in d = number_or (get (codes "quota") d) 1048576
+quota_in d = number_or (get (codes "quota") d) default_quota
 
 -- the member `workers`, a whole number; 1 where it is absent
 abbrev pub workers_in : Data → Option ℕ
@@ -92,12 +97,21 @@ pub record IsSiteOf (d : Data) (site : Site) : Type 0 where
 abbrev pub IsJsonOf : List ℕ → Data → Type 0
 IsJsonOf line d = IsUtf8 line × (read line ≡ Some d)
 
+-- the line is the JSON text of this site
+abbrev pub IsSiteLine : List ℕ → Site → Type 0
+IsSiteLine line site = (d : Data) × IsJsonOf line d × IsSiteOf d site
+
+-- the value stands for no site
+abbrev pub IsNoSite : Data → Type 0
+IsNoSite d = (site : Site) → ¬ IsSiteOf d site
+
 -- ---- its law
 
 -- the last one of that address
 abbrev pub page_among : List Entry → List ℕ → Option Tree
 page_among [] address = None
-page_among (entry ∷ entries) address = option_or (page_among entries address) (if bytes_eq entry.0 address then Some entry.1 else None)
+page_among (entry ∷ entries) address =
+    option_or (page_among entries address) (if bytes_eq entry.0 address then Some entry.1 else None)
 
 -- the page at just this address
 abbrev pub page_of : Site → List ℕ → Option Tree

@@ -7,39 +7,27 @@ ghost use Rattle.site_line.specs.inside.SiteMembers.{GivesSite};
 ghost use Rattle.site_line.specs.inside.Entries.{client_named, choice_said, decision_in};
 
 use crate::fault::SiteFault;
-use conflict_desk::Choice;
+use conflict_desk::{Choice, Decision};
 use serde_json::Value;
 use std::alloc::Global;
-use upload_reader::{Client, HelloFault};
+use upload_reader::{Client, HelloFault, MAX_NUMBER};
 
-// The greatest number that a visit has.
-const MAX_VISIT: u64 = 9_007_199_254_740_991;
-
-/// What the administrator chose for a conflict, that of the client's visit of this number.
-#[derive(Debug, Drop)]
-pub struct Decision {
-    pub client: Client,
-    pub visit: u64,
-    pub choice: Choice,
-}
-
-impl Decision {
-    /// The decision that an entry says: an array of just a client, the number of a visit (1 to 9,007,199,254,740,991) and `cancel` or `keep`.
-    pub(crate) fn from_value(alloc: Global, value: &Value) -> Result<Decision, SiteFault>
-        ensures { GivesSite (λ decision. decision) result (decision_in (view value.now)) }
-    {
-        let Some(items) = value.as_array() else {
-            return Err(SiteFault::BadMember);
-        };
-        if items.len() != 3 {
-            return Err(SiteFault::BadMember);
-        }
-        Ok(Decision {
-            client: read_client(alloc, &items[0])?,
-            visit: read_visit(&items[1])?,
-            choice: read_choice(&items[2])?,
-        })
+/// The decision that an entry says: an array of just a client, the number of a visit (1 to 9,007,199,254,740,991) and `cancel` or `keep`.
+/// Z2 for any other entry.
+pub(crate) fn read_decision(alloc: Global, value: &Value) -> Result<Decision, SiteFault>
+    ensures { GivesSite (λ decision. decision) result (decision_in (view value.now)) }
+{
+    let Some(items) = value.as_array() else {
+        return Err(SiteFault::BadMember);
+    };
+    if items.len() != 3 {
+        return Err(SiteFault::BadMember);
     }
+    Ok(Decision {
+        client: read_client(alloc, &items[0])?,
+        visit: read_visit(&items[1])?,
+        choice: read_choice(&items[2])?,
+    })
 }
 
 fn read_client(alloc: Global, value: &Value) -> Result<Client, SiteFault>
@@ -60,7 +48,7 @@ fn read_visit(value: &Value) -> Result<u64, SiteFault>
     ensures { GivesSite (λ visit. visit) result (number_in 1 (view value.now)) }
 {
     match value.as_u64() {
-        Some(visit) if 1 <= visit && visit <= MAX_VISIT => Ok(visit),
+        Some(visit) if 1 <= visit && visit <= MAX_NUMBER => Ok(visit),
         _ => Err(SiteFault::BadMember),
     }
 }

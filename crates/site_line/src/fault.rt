@@ -10,11 +10,11 @@ use std::fmt;
 /// Why a line is no site. Its text is its code, as `Z1`.
 #[derive(Clone, Copy, Debug, PartialEq, Eq)]
 pub enum SiteFault {
-    /// The line is no JSON value.
+    /// Z1: the line is no JSON value.
     NotJson,
-    /// The value is no object, or a member is of another form, out of its range, or a page that is refused.
+    /// Z2: the value is no object, or a member is of another form, out of its range, or a page that is refused.
     BadMember,
-    /// An allocation was refused.
+    /// Z3: an allocation was refused.
     NoMemory,
 }
 

@@ -8,6 +8,5 @@ mod fault;
 mod reading;
 mod site;
 
-pub use decision::Decision;
 pub use fault::SiteFault;
 pub use site::Site;

@@ -10,9 +10,10 @@ ghost use Rattle.replay_workers.specs.Limits.{AreWorkers};
 ghost use Rattle.site_line.specs.inside.Entries.{decisions_among};
 ghost use Rattle.site_line.specs.inside.SiteMembers.{entries_in, paths_in, ok_of, quota_of, workers_of, IsLineFault, GivesSite, GivesPages, GivesWatched};
 
-use crate::decision::Decision;
+use crate::decision::read_decision;
 use crate::fault::SiteFault;
 use client_log::Quota;
+use conflict_desk::Decision;
 use page_tree::{Page, Text};
 use replay_workers::MAX_WORKERS;
 use serde_json::{Category, Value};
@@ -26,7 +27,7 @@ const DEFAULT_QUOTA: u64 = 1_048_576;
 /// How many workers there are, where the site doesn't say.
 const DEFAULT_WORKERS: u64 = 1;
 
-/// The JSON value of a line.
+/// The JSON value of a line; Z1 where it has none.
 pub(crate) fn read_line(alloc: Global, line: &[u8]) -> Result<Value, SiteFault>
     ensures ok { IfOk result (λ value. IsJsonOf line.now (view value)) }
     ensures fault { IfErr result (IsLineFault line.now) }
@@ -48,7 +49,7 @@ pub(crate) fn read_patched(alloc: Global, value: &Value) -> Result<Vec<Text>, Si
 
 // The texts of an array; none where it is absent.
 fn read_texts(alloc: Global, given: Option<&Value>) -> Result<Vec<Text>, SiteFault>
-    ensures { GivesSite (λ texts. texts.items) result (plain.texts_or_none (option_map (λ value. view value.now) given.entry)) }
+    ensures { GivesSite (λ texts. texts.items) result (plain.texts_or_none (option_map (λ v. view v.now) given.entry)) }
 {
     let mut texts = Vec::new(alloc);
     let Some(given) = given else {
@@ -130,7 +131,7 @@ pub(crate) fn read_quota(value: &Value) -> Result<Quota, SiteFault>
 
 // A whole number, or the other where it is absent.
 fn read_number(given: Option<&Value>, absent: u64) -> Result<u64, SiteFault>
-    ensures { GivesSite (λ number. number) result (plain.number_or (option_map (λ value. view value.now) given.entry) absent) }
+    ensures { GivesSite (λ number. number) result (plain.number_or (option_map (λ v. view v.now) given.entry) absent) }
 {
     let Some(given) = given else {
         return Ok(absent);
@@ -151,7 +152,7 @@ pub(crate) fn read_workers(value: &Value) -> Result<u32, SiteFault>
 
 /// The decisions, each at its entry's place.
 pub(crate) fn read_decisions(alloc: Global, value: &Value) -> Result<Vec<Decision>, SiteFault>
-    ensures { GivesSite (λ decisions. decisions.items) result (option_and_then decisions_among (decide_in (view value.now))) }
+    ensures { GivesSite (λ all. all.items) result (option_and_then decisions_among (decide_in (view value.now))) }
 {
     let mut decisions = Vec::new(alloc);
     let Some(given) = value.get("decide") else {
@@ -161,7 +162,7 @@ pub(crate) fn read_decisions(alloc: Global, value: &Value) -> Result<Vec<Decisio
         return Err(SiteFault::BadMember);
     };
     for entry in entries {
-        decisions.push(Decision::from_value(alloc, entry)?)?;
+        decisions.push(read_decision(alloc, entry)?)?;
     }
     Ok(decisions)
 }

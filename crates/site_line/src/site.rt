@@ -3,15 +3,15 @@ ghost use Rattle.std.specs.Prelude.{◌≡◌, IfOk, IsErrOf};
 ghost use Rattle.serde_json.specs.Data.{Data};
 ghost use Rattle.serde_json.specs.View.{view};
 ghost use Rattle.replay_workers.specs.Limits.{AreWorkers};
-ghost use Rattle.site_line.specs.Site.{Site as PlainSite, IsSiteOf, IsJsonOf};
+ghost use Rattle.site_line.specs.Site.{Site as PlainSite, IsSiteLine, IsNoSite, IsJsonOf};
 ghost use Rattle.site_line.specs.declared.fault.SiteFault.TheVariants.{NotJson, BadMember};
 
-use crate::decision::Decision;
 use crate::fault::SiteFault;
 use crate::reading::{
     read_decisions, read_line, read_pages, read_patched, read_quota, read_watched, read_workers,
 };
 use client_log::Quota;
+use conflict_desk::Decision;
 use serde_json::Value;
 use site_hooks::Table;
 use std::alloc::Global;
@@ -37,15 +37,16 @@ impl Site {
     /// array of path texts), `quota` (1 to 4,294,967,295 bytes, else 1,048,576), `workers` (1 to 32, else 1) and `decide` (an array of decisions, each an
     /// array of client, visit and choice), all optional. Unknown members are ignored.
     pub fn read(alloc: Global, line: &[u8]) -> Result<Site, SiteFault>
-        ensures ok { IfOk result (λ site. (d : Data) × IsJsonOf line.now d × ((plain : PlainSite) × IsSiteOf d plain × AnswersAs site plain)) }
-        ensures only { IfOk result (λ site. (d : Data) → IsJsonOf line.now d → (plain : PlainSite) → IsSiteOf d plain → AnswersAs site plain) }
+        ensures ok { IfOk result (λ site. (plain : PlainSite) × IsSiteLine line.now plain × AnswersAs site plain) }
+        ensures only { IfOk result (λ site. (plain : PlainSite) → IsSiteLine line.now plain → AnswersAs site plain) }
         ensures not_json { IsErrOf result NotJson → (d : Data) → ¬ IsJsonOf line.now d }
-        ensures bad_member { IsErrOf result BadMember → (d : Data) × IsJsonOf line.now d × ((plain : PlainSite) → ¬ IsSiteOf d plain) }
+        ensures bad_member { IsErrOf result BadMember → (d : Data) × IsJsonOf line.now d × IsNoSite d }
     {
         let value = read_line(alloc, line)?;
         Site::from_value(alloc, &value)
     }
 
+    // Z2 where the value is no object, or a member is wrong.
     fn from_value(alloc: Global, value: &Value) -> Result<Site, SiteFault>
         ensures { StandsBy result (view value.now) }
     {

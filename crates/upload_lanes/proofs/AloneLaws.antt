@@ -9,7 +9,7 @@ use Rattle.upload_lanes.specs.Lane.{IsTaken}
 use Rattle.round_robin.specs.Dealt.{every}
 use Rattle.upload_lanes.specs.Round.{IsTakenInTurn, resumed}
 use Rattle.upload_lanes.specs.Threads.{items_in, items_of, items_taken, refused_by, stop_of, AreTaken, Stops}
-use Rattle.upload_lanes.specs.inside.AllGroups.{IsFresh}
+use Rattle.upload_lanes.specs.inside.AllGroups.{IsFreshLane}
 use Rattle.upload_lanes.specs.inside.Lanes.{HasFewTaken, begun_lane}
 use Rattle.upload_lanes.specs.declared.gathered.LaneResult.{LaneResult}
 use Rattle.upload_lanes.specs.declared.gathered.Stop.{Stop}
@@ -52,7 +52,7 @@ module _ {R : Type 0} where
       let with_end = subst (λ e. IsTakenInTurn lane.log begun 0 0 (record { log = lane.log; taken = lane.taken; end = e; upload = Some begun })) (sym end) with_taken in
       subst (λ u. IsTakenInTurn lane.log begun 0 0 (record { log = lane.log; taken = lane.taken; end = lane.end; upload = u })) (sym upload) with_end
 
-  pub sets_out : (allows : ℕ → Bool → Type 0) (lane : List ℕ × LaneResult R) → IsFresh lane → IsOnItsWay allows lane lane 0
+  pub sets_out : (allows : ℕ → Bool → Type 0) (lane : List ℕ × LaneResult R) → IsFreshLane lane → IsOnItsWay allows lane lane 0
   sets_out allows lane fresh = record {
     begun = fresh.upload;
     begun_is = fresh.upload_is;

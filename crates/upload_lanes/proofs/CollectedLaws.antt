@@ -12,7 +12,7 @@ use Rattle.upload_lanes.proofs.JoinLaws.{some_at}
 use Rattle.upload_lanes.proofs.RoundLaws.{in_map, pick_false, pick_true}
 use Rattle.upload_lanes.specs.Round.{resumed}
 use Rattle.upload_lanes.specs.Threads.{both_stops, recorders_of, stop_of, AreTaken, IsLaneOf, Stops}
-use Rattle.upload_lanes.specs.inside.AllGroups.{AreGroups, IsDealt, IsPartyOf, parted}
+use Rattle.upload_lanes.specs.inside.AllGroups.{AreGroups, IsDealt, IsPartyOf, without_upload}
 use Rattle.upload_lanes.specs.inside.Groups.{IsGroupOf}
 use Rattle.upload_lanes.specs.inside.Lanes.{begun_lane}
 use Rattle.upload_lanes.specs.declared.gathered.LaneResult.{LaneResult}
@@ -49,17 +49,17 @@ module _ {R : Type 0} where
   -- a group has as many lanes as its share
   pub share_size : (allows : ℕ → Bool → Type 0) (lanes : List (List ℕ × LaneResult R)) (recorders g : ℕ) (party : Party R) (group : Group R) → IsDealt (every recorders g lanes) party → IsGroupOf allows party group
       → length group.lanes.items ≡ length (every {A = ℕ} recorders g (replicate (length lanes) 0))
-  share_size allows lanes recorders g party group dealt is = is.count ∙ ap length dealt.lanes_are ∙ length-map (every recorders g lanes) parted ∙ every_length recorders g lanes
+  share_size allows lanes recorders g party group dealt is = is.count ∙ ap length dealt.lanes_are ∙ length-map (every recorders g lanes) without_upload ∙ every_length recorders g lanes
 
   module _ (allows : ℕ → Bool → Type 0) (known : List ℕ → Option (LaneResult R)) (quota : ℕ) where
     -- a group's lanes are those of its uploads
     zip_group : (uploads : List (UploadState R)) (party : Party R) (group : Group R) → IsPartyOf known quota uploads party → IsGroupOf allows party group → AllZip (IsLaneOf known quota) uploads group.lanes.items
     zip_group uploads party group of is =
-        let size : length uploads ≡ length group.lanes.items = sym (is.count ∙ ap length of.lanes ∙ length-map uploads (λ upload. parted (begun_lane known quota upload))) in
+        let size : length uploads ≡ length group.lanes.items = sym (is.count ∙ ap length of.lanes ∙ length-map uploads (λ upload. without_upload (begun_lane known quota upload))) in
         zip_at (IsLaneOf known quota) uploads group.lanes.items size (λ k upload lane upload_at lane_at.
-        let first_at = mapped_at (λ u. parted (begun_lane known quota u)) uploads party.duty.lanes.items k upload of.lanes upload_at in
+        let first_at = mapped_at (λ u. without_upload (begun_lane known quota u)) uploads party.duty.lanes.items k upload of.lanes upload_at in
         let begun_at = mapped_at (λ u. resumed u (known u.client)) uploads party.uploads.items k upload of.begun upload_at in
-        let (client, taken) = is.each k (parted (begun_lane known quota upload)) lane (resumed upload (known upload.client)) first_at begun_at lane_at in
+        let (client, taken) = is.each k (without_upload (begun_lane known quota upload)) lane (resumed upload (known upload.client)) first_at begun_at lane_at in
         record { client = client; is_taken = taken })
 
     pub taken_all : (uploads : List (UploadState R)) (parties : List (Party R)) (groups : List (Group R)) (lanes : List (List ℕ × LaneResult R)) → AreGroups allows parties groups

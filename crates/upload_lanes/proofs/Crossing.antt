@@ -21,7 +21,7 @@ use Rattle.upload_lanes.proofs.gathered.Stop.TheSendSync as stop
 use Rattle.upload_lanes.proofs.sent.Sent.TheSendSync as sent
 use Rattle.upload_lanes.specs.contracts.gathered.LaneResult as lane
 use Rattle.upload_lanes.specs.contracts.recorder.Duty as duty
-use Rattle.upload_lanes.specs.contracts.recorder.Recorded as recorded
+use Rattle.upload_lanes.specs.contracts.recorder.HandedBack as recorded
 
 progress_send : IsSend progress.the_field.row
 progress_send = search (sendable, crosses, sessions.the_send) depth 40

@@ -9,7 +9,7 @@ use Rattle.round_robin.specs.Dealt.{every}
 use Rattle.upload_lanes.proofs.JoinLaws.{some_at}
 use Rattle.upload_lanes.proofs.PlaceLaws.{IsMaking, made_all, makes_none, makes_one, next_at, next_within, same_place}
 use Rattle.upload_lanes.proofs.RoundLaws.{in_map}
-use Rattle.upload_lanes.specs.inside.AllGroups.{ArePlaced, IsDealt, IsFresh}
+use Rattle.upload_lanes.specs.inside.AllGroups.{ArePlaced, IsDealt, IsFreshLane}
 use Rattle.upload_lanes.specs.inside.Groups.{IsParty}
 use Rattle.upload_lanes.specs.declared.gathered.LaneResult.{LaneResult}
 use Rattle.upload_lanes.specs.declared.group.Party.{Party}
@@ -98,8 +98,8 @@ module _ {R : Type 0} {V : Type 0} (held : V → List (List ℕ × LaneResult R)
         subst (IsDealt (held hand)) also (dealing.making.each g hand two hand_at two_at).1
 
 module _ {R : Type 0} (lanes hand : List (List ℕ × LaneResult R)) (recorders g : ℕ) (is : hand ≡ every recorders g lanes) where
-  pub hand_fresh : AllByRecursion IsFresh lanes → AllByRecursion IsFresh hand
-  hand_fresh all = subst (AllByRecursion IsFresh) (sym is) (every_all IsFresh recorders g lanes all)
+  pub hand_fresh : AllByRecursion IsFreshLane lanes → AllByRecursion IsFreshLane hand
+  hand_fresh all = subst (AllByRecursion IsFreshLane) (sym is) (every_all IsFreshLane recorders g lanes all)
 
   pub hand_lanes : g < length lanes → length lanes ≤ max_lanes → AreLanes (length hand)
   hand_lanes within few =

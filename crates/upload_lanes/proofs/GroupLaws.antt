@@ -11,8 +11,8 @@ use Rattle.upload_reader.specs.Upload.{UploadState, EndsBy}
 use Rattle.upload_reader.specs.declared.ending.Ending.{Ending}
 use Rattle.upload_lanes.specs.Lane.{Continues, EndsWith, IsTaken}
 use Rattle.upload_lanes.specs.inside.Sent.{sent, bodies, sent_messages, ending_behind, is_last, IsMarked, IsReadOn, IsPut}
-use Rattle.upload_lanes.specs.inside.Groups.{Tells}
-use Rattle.upload_lanes.specs.inside.Recording.{IsRecorded}
+use Rattle.upload_lanes.specs.inside.Groups.{TellsUpload}
+use Rattle.upload_lanes.specs.inside.Recording.{IsLaneRecorded}
 use Rattle.upload_lanes.specs.declared.gathered.LaneResult.{LaneResult}
 use Rattle.upload_lanes.specs.declared.sent.Sent.{Sent}
 use Rattle.upload_lanes.specs.declared.sent.Sent.TheVariants.{One, Last}
@@ -84,7 +84,7 @@ sent_more (Last end ∷ items) body one = sent_more items body one
 -- ---- a lane
 
 module _ {R : Type 0} where
-  pub tells : (begun upload : UploadState R) (put items rest : List (Item Sent)) → IsReadOn begun upload → IsPut put upload → put ≡ items ++ rest → Tells begun upload items
+  pub tells : (begun upload : UploadState R) (put items rest : List (Item Sent)) → IsReadOn begun upload → IsPut put upload → put ≡ items ++ rest → TellsUpload begun upload items
   tells begun upload put items rest read is_put split = record {
     read = read;
     more = bodies rest ++ is_put.rest;
@@ -93,7 +93,7 @@ module _ {R : Type 0} where
   }
 
   -- the same of the first of those items
-  pub tells_first : (begun upload : UploadState R) (items first rest : List (Item Sent)) → items ≡ first ++ rest → Tells begun upload items → Tells begun upload first
+  pub tells_first : (begun upload : UploadState R) (items first rest : List (Item Sent)) → items ≡ first ++ rest → TellsUpload begun upload items → TellsUpload begun upload first
   tells_first begun upload items first rest split told = record {
     read = told.read;
     more = bodies rest ++ told.more;
@@ -101,7 +101,7 @@ module _ {R : Type 0} where
     marked = marked_front first rest (subst (AllByRecursion IsMarked) split told.marked);
   }
 
-  module _ (first lane : LaneResult R) (begun upload : UploadState R) (items : List (Item Sent)) (recorded : IsRecorded first lane (bodies items)) (told : Tells begun upload items) where
+  module _ (first lane : LaneResult R) (begun upload : UploadState R) (items : List (Item Sent)) (recorded : IsLaneRecorded first lane (bodies items)) (told : TellsUpload begun upload items) where
     is_front : IsFront upload.given upload.ending (bodies items)
     is_front = front upload.given upload.ending (bodies items) told.more told.front_is
 
@@ -132,7 +132,7 @@ module _ {R : Type 0} where
         sym (length-map items (λ item. item.body)) ∙ is_front.count ∙ ap (λ n. n + ends_in (ending_behind None (bodies items))) (sym recorded.taken) ∙ ap (λ end. lane.taken + ends_in end) (sym recorded.end)
 
     -- a message behind those that were recorded was given
-    pub gave_more : (all : UploadState R) (item : Item Sent) → is_last item.body ≡ false → Tells begun all (items ++ item ∷ []) → lane.taken < length all.given
+    pub gave_more : (all : UploadState R) (item : Item Sent) → is_last item.body ≡ false → TellsUpload begun all (items ++ item ∷ []) → lane.taken < length all.given
     gave_more all item one more_told =
         let many = front all.given all.ending (bodies (items ++ item ∷ [])) more_told.more more_told.front_is in
         let size = ap (λ is. length (sent_messages is)) (map-append (λ one. one.body) items (item ∷ [])) ∙ sent_more (bodies items) item.body one in

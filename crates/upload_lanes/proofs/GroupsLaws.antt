@@ -7,7 +7,7 @@ use Rattle.lane_queue.specs.Queue.{Queue}
 use Rattle.upload_reader.specs.Upload.{UploadState}
 use Rattle.upload_lanes.proofs.JoinLaws.{some_at}
 use Rattle.upload_lanes.specs.Lane.{IsTaken}
-use Rattle.upload_lanes.specs.inside.AllGroups.{ArePlaced, AreGroups}
+use Rattle.upload_lanes.specs.inside.AllGroups.{ArePlaced, AreGroups, StartEach, RunEach, JoinEach}
 use Rattle.upload_lanes.specs.inside.Groups.{AreUploads, IsParty, AreStarted, IsRunning, MayBeJoined, JoinsTo, IsGroup, IsGroupOf, promises_of}
 use Rattle.upload_lanes.specs.inside.Recording.{IsDuty}
 use Rattle.upload_lanes.specs.declared.group.Group.{Group}
@@ -61,7 +61,7 @@ module _ {R : Type 0} (queue : Queue) (party : Party R) (uploading : Uploading R
 -- ---- all of them
 
 module _ {R : Type 0} (queues : List Queue) (parties : List (Party R)) (placed : ArePlaced IsParty queues parties) (uploading : List (Uploading R)) (started_all : length uploading ≡ length parties)
-    (started : (g : ℕ) (queue : Queue) (party : Party R) (one : Uploading R) → slice_get queues g ≡ Some queue → slice_get parties g ≡ Some party → slice_get uploading g ≡ Some one → AreStarted queue party one) where
+    (started : StartEach queues parties uploading) where
   pub duties_placed : ArePlaced (λ queue one. IsDuty queue one.duty) queues uploading
   duties_placed = record {
     count = started_all ∙ placed.count;
@@ -72,7 +72,7 @@ module _ {R : Type 0} (queues : List Queue) (parties : List (Party R)) (placed :
   }
 
   module _ {H : Type 0} (halt : H) (running : List (Running H R)) (running_all : length running ≡ length uploading)
-      (runs : (g : ℕ) (queue : Queue) (before : Uploading R) (one : Running H R) → slice_get queues g ≡ Some queue → slice_get uploading g ≡ Some before → slice_get running g ≡ Some one → IsRunning queue halt before one) where
+      (runs : RunEach queues halt uploading running) where
     pub running_placed : ArePlaced MayBeJoined queues running
     running_placed = record {
       count = running_all ∙ started_all ∙ placed.count;
@@ -84,7 +84,7 @@ module _ {R : Type 0} (queues : List Queue) (parties : List (Party R)) (placed :
     }
 
     pub groups_so : (allows : H → ℕ → Bool → Type 0) (groups : List (Group R)) → length groups ≡ length running
-        → ((g : ℕ) (one : Running H R) (group : Group R) → slice_get running g ≡ Some one → slice_get groups g ≡ Some group → JoinsTo allows one group) → AreGroups (allows halt) parties groups
+        → JoinEach allows running groups → AreGroups (allows halt) parties groups
     groups_so allows groups joined_all joined = record {
       count = joined_all ∙ running_all ∙ started_all;
       each = λ g party group party_at group_at.

@@ -6,7 +6,7 @@ use Rattle.lane_queue.specs.Items.{of_lane}
 use Rattle.lane_queue.specs.declared.item.Item.{Item}
 use Rattle.upload_reader.specs.Upload.{UploadState}
 use Rattle.upload_lanes.proofs.RoundLaws.{in_set}
-use Rattle.upload_lanes.specs.inside.Groups.{Tells, IsJoined, AreJoined, with_upload}
+use Rattle.upload_lanes.specs.inside.Groups.{TellsUpload, IsJoined, AreJoined, with_upload}
 use Rattle.upload_lanes.specs.declared.gathered.LaneResult.{LaneResult}
 use Rattle.upload_lanes.specs.declared.sent.Sent.{Sent}
 use Rattle.upload_lanes.specs.declared.uploader.Uploads.{Uploads}
@@ -67,7 +67,7 @@ module _ {R : Type 0} where
     pub last_within : n < length lanes
     last_within = omega (arith, size, joining.few)
 
-    pub joins_one : (upload : UploadState R) (lanes' : List (List ℕ × LaneResult R)) → Tells promise.upload.value upload (of_lane n got)
+    pub joins_one : (upload : UploadState R) (lanes' : List (List ℕ × LaneResult R)) → TellsUpload promise.upload.value upload (of_lane n got)
         → ((lane : List ℕ × LaneResult R) → slice_get lanes n ≡ Some lane → lanes' ≡ set lanes n (with_upload lane upload)) → IsJoining promises left' got old lanes'
     joins_one upload lanes' told put =
         let (was, at) = some_at lanes n last_within in

@@ -1,8 +1,7 @@
 -- What taking the next of a lane keeps.
 use Rattle.std.proofs.Common.{◌≡◌, ℕ, ◌+◌, ◌≤◌, ◌<◌, List, [], ◌∷◌, ◌++◌, length, take, drop, true, false, is_some, Option, Some, None, refl, sym, ap, subst, ◌∙◌, arith, append_assoc, append-nil, true≢false}
 use Rattle.std.specs.Result.{is_err}
-use Rattle.std.proofs.lemmas.List.{length-append, take-append-drop}
-use Rattle.client_log.proofs.Moving.{take_past}
+use Rattle.std.proofs.lemmas.List.{length-append, take-append-drop, take_all}
 use Rattle.std.specs.Prelude.{IfSome, OnOk, OnErr, Result, Ok, Err}
 use Rattle.std.proofs.Math.Seq.{take-append_seam}
 use Rattle.byte_streams.specs.Reading.{ReadsWhile}
@@ -13,7 +12,7 @@ use Rattle.upload_reader.specs.Stream.{Costed, BeginsWith}
 use Rattle.upload_reader.specs.Upload.{UploadState, GivesFirst, EndsBy, NothingMore}
 use Rattle.upload_reader.specs.declared.ending.Ending.{Ending}
 use Rattle.client_log.specs.Client.{OfClient}
-use Rattle.client_log.specs.Log.{kept}
+use Rattle.client_log.specs.Log.{kept_log}
 use Rattle.client_log.specs.Session.{session_of}
 use Rattle.upload_lanes.specs.Lane.{NotOver, ReadsBeforeEnd, Continues}
 use Rattle.upload_lanes.specs.Round.{IsAsked, IsTakenInTurn}
@@ -69,16 +68,16 @@ when_err (Err e) P is holds = holds
 
 -- a log that one message more was recorded in
 pub continues_more : (before old log : OfClient) (messages : List Costed) (one : Costed) → Continues before old messages → log.client ≡ old.client → log.quota ≡ old.quota
-    → ((earlier : List Costed) → old.log ≡ kept old.quota earlier → log.log ≡ kept old.quota (earlier ++ one ∷ []))
+    → ((earlier : List Costed) → old.log ≡ kept_log old.quota earlier → log.log ≡ kept_log old.quota (earlier ++ one ∷ []))
     → ((earlier : List Costed) → old.session ≡ session_of earlier → log.session ≡ session_of (earlier ++ one ∷ []))
     → Continues before log (messages ++ one ∷ [])
 continues_more before old log messages one was client quota log_is session_is = record {
   client = client ∙ was.client;
   quota = quota ∙ was.quota;
   log_is = λ earlier stood.
-      subst (λ q. log.log ≡ kept q (earlier ++ (messages ++ one ∷ []))) was.quota
-      (log_is (earlier ++ messages) (was.log_is earlier stood ∙ ap (λ q. kept q (earlier ++ messages)) (sym was.quota))
-      ∙ ap (kept old.quota) (append_assoc earlier messages (one ∷ [])));
+      subst (λ q. log.log ≡ kept_log q (earlier ++ (messages ++ one ∷ []))) was.quota
+      (log_is (earlier ++ messages) (was.log_is earlier stood ∙ ap (λ q. kept_log q (earlier ++ messages)) (sym was.quota))
+      ∙ ap (kept_log old.quota) (append_assoc earlier messages (one ∷ [])));
   session_is = λ earlier stood. session_is (earlier ++ messages) (was.session_is earlier stood) ∙ ap session_of (append_assoc earlier messages (one ∷ []));
 }
 
@@ -87,7 +86,7 @@ pub continues_none : (before : OfClient) → Continues before before []
 continues_none before = record {
   client = refl;
   quota = refl;
-  log_is = λ earlier stood. stood ∙ ap (kept before.quota) (sym (append-nil earlier));
+  log_is = λ earlier stood. stood ∙ ap (kept_log before.quota) (sym (append-nil earlier));
   session_is = λ earlier stood. stood ∙ ap session_of (sym (append-nil earlier));
 }
 
@@ -101,7 +100,7 @@ module _ {R : Type 0} where
   given_now before begun asked lane h =
       let t = h.is_taken in
       let count : lane.taken ≡ length t.now.given = omega (arith, t.some, h.ahead_is) in
-      let all : take lane.taken t.now.given ≡ t.now.given = take_past lane.taken t.now.given (omega (arith, h.ahead_is)) in
+      let all : take lane.taken t.now.given ≡ t.now.given = take_all lane.taken t.now.given (omega (arith, h.ahead_is)) in
       record { own = t.own; count = count; goes_on = subst (λ messages. Continues before lane.log messages) all t.goes_on }
 
   same_upload : (known : Option (UploadState R)) (upload upload' : UploadState R) → known ≡ Some upload → known ≡ Some upload' → upload ≡ upload'
@@ -137,13 +136,13 @@ module _ {R : Type 0} where
       -- a message more was recorded
       pub took : (one : Costed) (log : OfClient) → v ≡ record u { lines = v.lines; given = u.given ++ one ∷ []; ending = None }
           → log.client ≡ lane.log.client → log.quota ≡ lane.log.quota
-          → ((messages : List Costed) → lane.log.log ≡ kept lane.log.quota messages → log.log ≡ kept lane.log.quota (messages ++ one ∷ []))
+          → ((messages : List Costed) → lane.log.log ≡ kept_log lane.log.quota messages → log.log ≡ kept_log lane.log.quota (messages ++ one ∷ []))
           → ((messages : List Costed) → lane.log.session ≡ session_of messages → log.session ≡ session_of (messages ++ one ∷ []))
           → IsTakenInTurn before begun (asked + 1) 0 (record { log = log; taken = lane.taken + 1; end = lane.end; upload = Some v })
       took one log is client quota log_is session_is =
           let given : v.given ≡ u.given ++ one ∷ [] = ap (λ upload. upload.given) is in
           let size : length v.given ≡ length u.given + 1 = ap length given ∙ length-append u.given (one ∷ []) in
-          let all : take (lane.taken + 1) v.given ≡ u.given ++ one ∷ [] = take_past (lane.taken + 1) v.given (omega (arith, size, known.count)) ∙ given in
+          let all : take (lane.taken + 1) v.given ≡ u.given ++ one ∷ [] = take_all (lane.taken + 1) v.given (omega (arith, size, known.count)) ∙ given in
           let goes_on = continues_more before lane.log log u.given one known.goes_on client quota log_is session_is in
           record {
             is_taken = record {
@@ -188,7 +187,7 @@ module _ {R : Type 0} where
       ended end is over =
           let given : v.given ≡ u.given = ap (λ upload. upload.given) is ∙ append-nil u.given in
           let size : length v.given ≡ length u.given = ap length given in
-          let all : take lane.taken v.given ≡ u.given = take_past lane.taken v.given (omega (arith, size, known.count)) ∙ given in
+          let all : take lane.taken v.given ≡ u.given = take_all lane.taken v.given (omega (arith, size, known.count)) ∙ given in
           record {
             is_taken = record {
               now = v;

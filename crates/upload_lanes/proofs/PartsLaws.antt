@@ -3,7 +3,7 @@ use Rattle.std.proofs.Common.{◌≡◌, ℕ, ◌+◌, ◌≤◌, List, [], ◌�
 use Rattle.std.proofs.lemmas.List.{length-append, map-append}
 use Rattle.std.specs.List.{AllByRecursion}
 use Rattle.upload_reader.specs.Upload.{UploadState, IsUntouched}
-use Rattle.upload_lanes.specs.inside.AllGroups.{IsFresh, parted}
+use Rattle.upload_lanes.specs.inside.AllGroups.{IsFreshLane, without_upload}
 use Rattle.upload_lanes.specs.declared.gathered.LaneResult.{LaneResult}
 
 pub all_more : {X : Type 0} (P : X → Type 0) (xs : List X) (x : X) → AllByRecursion P xs → P x → AllByRecursion P (xs ++ x ∷ [])
@@ -16,34 +16,34 @@ module _ {R : Type 0} where
 
   -- the first lanes were parted, and those are left
   pub record IsParting (all rest lanes : List (List ℕ × LaneResult R)) (uploads : List (UploadState R)) (room room' : ℕ) : Type 0 where
-    pub lanes_are : lanes ++ map parted rest ≡ map parted all
+    pub lanes_are : lanes ++ map without_upload rest ≡ map without_upload all
     pub uploads_are : map Some uploads ++ map upload_of rest ≡ map upload_of all
-    pub fresh : AllByRecursion IsFresh rest
+    pub fresh : AllByRecursion IsFreshLane rest
     pub untouched : AllByRecursion IsUntouched uploads
     pub fits : length lanes + length rest ≤ room
     pub fits' : length uploads + length rest ≤ room'
 
-  pub parts_none : (all : List (List ℕ × LaneResult R)) (room room' : ℕ) → AllByRecursion IsFresh all → length all ≤ room → length all ≤ room' → IsParting all all [] [] room room'
+  pub parts_none : (all : List (List ℕ × LaneResult R)) (room room' : ℕ) → AllByRecursion IsFreshLane all → length all ≤ room → length all ≤ room' → IsParting all all [] [] room room'
   parts_none all room room' fresh fits fits' = record { lanes_are = refl; uploads_are = refl; fresh = fresh; untouched = tt; fits = omega (arith, fits); fits' = omega (arith, fits') }
 
   module _ (all rest rest' lanes : List (List ℕ × LaneResult R)) (uploads : List (UploadState R)) (room room' : ℕ) (lane : List ℕ × LaneResult R) (first : rest ≡ lane ∷ rest')
       (parting : IsParting all rest lanes uploads room room') where
-    pub next_fresh : IsFresh lane
-    next_fresh = (subst (AllByRecursion IsFresh) first parting.fresh).0
+    pub next_fresh : IsFreshLane lane
+    next_fresh = (subst (AllByRecursion IsFreshLane) first parting.fresh).0
 
-    pub parts_one : (upload : UploadState R) → lane.1.upload ≡ Some upload → IsParting all rest' (lanes ++ parted lane ∷ []) (uploads ++ upload ∷ []) room room'
+    pub parts_one : (upload : UploadState R) → lane.1.upload ≡ Some upload → IsParting all rest' (lanes ++ without_upload lane ∷ []) (uploads ++ upload ∷ []) room room'
     parts_one upload is =
         let same : Some upload ≡ Some next_fresh.upload = sym is ∙ next_fresh.upload_is in
         let one : next_fresh.upload ≡ upload = cc in
         let size : length rest ≡ length (lane ∷ rest') = ap length first in
-        let more = length-append lanes (parted lane ∷ []) in
+        let more = length-append lanes (without_upload lane ∷ []) in
         let more' = length-append uploads (upload ∷ []) in
         record {
-          lanes_are = append_assoc lanes (parted lane ∷ []) (map parted rest') ∙ ap (λ left. lanes ++ map parted left) (sym first) ∙ parting.lanes_are;
+          lanes_are = append_assoc lanes (without_upload lane ∷ []) (map without_upload rest') ∙ ap (λ left. lanes ++ map without_upload left) (sym first) ∙ parting.lanes_are;
           uploads_are =
               ap (λ front. front ++ map upload_of rest') (map-append Some uploads (upload ∷ [])) ∙ append_assoc (map Some uploads) (Some upload ∷ []) (map upload_of rest')
               ∙ ap (λ found. map Some uploads ++ found ∷ map upload_of rest') (sym is) ∙ ap (λ left. map Some uploads ++ map upload_of left) (sym first) ∙ parting.uploads_are;
-          fresh = (subst (AllByRecursion IsFresh) first parting.fresh).1;
+          fresh = (subst (AllByRecursion IsFreshLane) first parting.fresh).1;
           untouched = all_more IsUntouched uploads upload parting.untouched (subst IsUntouched one next_fresh.untouched);
           fits = omega (arith, parting.fits, size, more);
           fits' = omega (arith, parting.fits', size, more');
@@ -55,8 +55,8 @@ module _ {R : Type 0} where
     empty [] is = refl
     empty (x ∷ xs) is = absurd (omega (arith, is))
 
-    pub parted_all : lanes ≡ map parted all
-    parted_all = sym (append-nil lanes) ∙ ap (λ left. lanes ++ map parted left) (sym (empty rest none)) ∙ parting.lanes_are
+    pub parted_all : lanes ≡ map without_upload all
+    parted_all = sym (append-nil lanes) ∙ ap (λ left. lanes ++ map without_upload left) (sym (empty rest none)) ∙ parting.lanes_are
 
     pub ups_all : map Some uploads ≡ map upload_of all
     ups_all = sym (append-nil (map Some uploads)) ∙ ap (λ left. map Some uploads ++ map upload_of left) (sym (empty rest none)) ∙ parting.uploads_are

@@ -6,13 +6,13 @@ use Rattle.std.specs.List.{AllByRecursion, range_with_len}
 use Rattle.std.specs.Option.{option_map}
 use Rattle.crossbeam_queue.specs.Passes.{Pass, view}
 use Rattle.lane_queue.specs.Limits.{AreLanes}
-use Rattle.lane_queue.specs.Opened.{ArePutters, AreOpened, IsFreshOf, fresh_putter, fresh_taker}
+use Rattle.lane_queue.specs.Opened.{ArePutters, IsOpenedQueue, IsNewPutterOf, fresh_putter, fresh_taker}
 use Rattle.lane_queue.specs.Queue.{Queue}
 use Rattle.lane_queue.specs.declared.item.Item.{Item}
-use Rattle.lane_queue.specs.declared.view.View.{View}
+use Rattle.lane_queue.specs.declared.view.QueueView.{QueueView}
 use Rattle.upload_reader.specs.Upload.{IsUntouched}
 use Rattle.upload_lanes.proofs.RoundLaws.{all_at, in_map}
-use Rattle.upload_lanes.specs.inside.AllGroups.{IsFresh, parted}
+use Rattle.upload_lanes.specs.inside.AllGroups.{IsFreshLane, without_upload}
 use Rattle.upload_lanes.specs.inside.Groups.{AreEnds, IsParty}
 use Rattle.upload_lanes.specs.inside.Recording.{AreBegun, IsBegun}
 use Rattle.upload_lanes.specs.declared.gathered.LaneResult.{LaneResult}
@@ -28,7 +28,7 @@ range_length : (first n : ℕ) → length (range_with_len first n) ≡ n
 range_length first zero = refl
 range_length first (suc n) = ap suc (range_length (first + 1) n)
 
-module _ (queue : Queue) (lanes : ℕ) (putters : List (Pass (Item Sent) (View Sent))) (are : ArePutters queue lanes putters) where
+module _ (queue : Queue) (lanes : ℕ) (putters : List (Pass (Item Sent) (QueueView Sent))) (are : ArePutters queue lanes putters) where
   pub putters_count : length putters ≡ lanes
   putters_count = sym (length-map putters (λ putter. view putter)) ∙ ap length are.views ∙ length-map (range_with_len 0 lanes) (λ k. fresh_putter {T = Sent} k) ∙ range_length 0 lanes
 
@@ -39,19 +39,19 @@ module _ (queue : Queue) (lanes : ℕ) (putters : List (Pass (Item Sent) (View S
       sym (slice_get-map (λ p. view p) putters k ∙ ap (option_map (λ p. view p)) at) ∙ ap (λ views. slice_get views k) are.views ∙ slice_get-map (λ n. fresh_putter {T = Sent} n) (range_with_len 0 lanes) k in
       let both : Some (view putter) ≡ Some (fresh_putter {T = Sent} (0 + k)) = seen ∙ ap (option_map (λ n. fresh_putter {T = Sent} n)) (range_at 0 lanes k (omega (arith, within, putters_count))) in
       let same : view putter ≡ fresh_putter {T = Sent} (0 + k) = cc in
-      (subst (IsFreshOf queue) (get_or_from_slice_get putters k putter putter at) (are.fresh k putter within), ap (λ v. v.lane) same ∙ omega arith)
+      (subst (IsNewPutterOf queue) (get_or_from_slice_get putters k putter putter at) (are.fresh k putter within), ap (λ v. v.lane) same ∙ omega arith)
 
-module _ {R : Type 0} (hand : List (List ℕ × LaneResult R)) (all : AllByRecursion IsFresh hand) where
-  begun_parted : AreBegun (map parted hand)
+module _ {R : Type 0} (hand : List (List ℕ × LaneResult R)) (all : AllByRecursion IsFreshLane hand) where
+  begun_parted : AreBegun (map without_upload hand)
   begun_parted k lane at =
-      let (whole, whole_at, is) = in_map parted hand k lane at in
-      let fresh = all_at IsFresh hand k whole all whole_at in
+      let (whole, whole_at, is) = in_map without_upload hand k lane at in
+      let fresh = all_at IsFreshLane hand k whole all whole_at in
       subst (λ l. IsBegun l.1) is (record { taken = fresh.begun.taken; end = fresh.begun.end })
 
-  pub party_is : (queue : Queue) (room : ℕ) (party : Party R) → AreLanes (length hand) → AreOpened (length hand) room queue party.duty.taker party.putters.items → party.duty.lanes.items ≡ map parted hand
+  pub party_is : (queue : Queue) (room : ℕ) (party : Party R) → AreLanes (length hand) → IsOpenedQueue (length hand) room queue party.duty.taker party.putters.items → party.duty.lanes.items ≡ map without_upload hand
       → map Some party.uploads.items ≡ map (λ lane. lane.1.upload) hand → AllByRecursion IsUntouched party.uploads.items → IsParty queue party
   party_is queue room party few opened lanes uploads untouched =
-      let size : length party.duty.lanes.items ≡ length hand = ap length lanes ∙ length-map hand parted in
+      let size : length party.duty.lanes.items ≡ length hand = ap length lanes ∙ length-map hand without_upload in
       let sent : length party.uploads.items ≡ length hand = sym (length-map party.uploads.items (λ upload. Some upload)) ∙ ap length uploads ∙ length-map hand (λ lane. lane.1.upload) in
       let put = putters_count queue (length hand) party.putters.items opened.putters_are in
       record {

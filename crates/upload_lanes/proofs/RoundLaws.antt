@@ -21,7 +21,7 @@ use Rattle.upload_reader.proofs.LaneLaws.{is_stream}
 use Rattle.client_log.specs.Client.{OfClient}
 use Rattle.upload_lanes.proofs.LaneSteps.{continues_none}
 use Rattle.upload_lanes.specs.Lane.{NotOver}
-use Rattle.upload_lanes.specs.Round.{has_twice, clients_of, log_before, resumed, rested, entries_of, ahead_of, have_ended, IsAsked, IsTakenInTurn, IsLane, AreTakenInTurn}
+use Rattle.upload_lanes.specs.Round.{has_twice, clients_of, log_before, resumed, rested, entries_of, ahead_of, have_ended, IsAsked, IsTakenInTurn, IsLaneInTurn, AreTakenInTurn}
 use Rattle.upload_lanes.specs.inside.Lanes.{begun_lane, rested_at, HasFewTaken, HaveFewTaken, one_more, only, none}
 use Rattle.upload_lanes.specs.declared.gathered.Stop.TheVariants as stop
 use Rattle.upload_lanes.specs.declared.gathered.LaneResult.{LaneResult}
@@ -198,7 +198,7 @@ lane_begun {R = R} before upload fresh =
 
 module _ {R : Type 0} (known : List ℕ → Option (LaneResult R)) (quota : ℕ) (uploads : List (UploadState R)) where
   -- a lane is asked as often by both counts
-  lane_asked : (asked asked' ahead ahead' : ℕ → ℕ) (j : ℕ) (lane : List ℕ × LaneResult R) → asked j ≡ asked' j → ahead j ≡ ahead' j → IsLane known quota uploads asked ahead j lane → IsLane known quota uploads asked' ahead' j lane
+  lane_asked : (asked asked' ahead ahead' : ℕ → ℕ) (j : ℕ) (lane : List ℕ × LaneResult R) → asked j ≡ asked' j → ahead j ≡ ahead' j → IsLaneInTurn known quota uploads asked ahead j lane → IsLaneInTurn known quota uploads asked' ahead' j lane
   lane_asked asked asked' ahead ahead' j lane same same_ahead is = record {
     upload = is.upload;
     upload_at = is.upload_at;
@@ -251,16 +251,16 @@ module _ {R : Type 0} (known : List ℕ → Option (LaneResult R)) (quota : ℕ)
   lanes_set : (asked asked' ahead : ℕ → ℕ) (lanes : List (List ℕ × LaneResult R)) (k : ℕ) (old : List ℕ × LaneResult R) (lane : LaneResult R) → slice_get lanes k ≡ Some old
       → AreTakenInTurn known quota uploads asked none lanes
       → ((before : OfClient) (begun : UploadState R) → IsTakenInTurn before begun (asked k) 0 old.1 → IsTakenInTurn before begun (asked' k) (ahead k) lane)
-      → ((j : ℕ) (other : List ℕ × LaneResult R) → j ≢ k → IsLane known quota uploads asked none j other → IsLane known quota uploads asked' ahead j other)
+      → ((j : ℕ) (other : List ℕ × LaneResult R) → j ≢ k → IsLaneInTurn known quota uploads asked none j other → IsLaneInTurn known quota uploads asked' ahead j other)
       → AreTakenInTurn known quota uploads asked' ahead (set lanes k (old.0, lane))
   lanes_set asked asked' ahead lanes k old lane at are step others =
       let was = are.each k old at in
-      let now : IsLane known quota uploads asked' ahead k (old.0, lane) =
+      let now : IsLaneInTurn known quota uploads asked' ahead k (old.0, lane) =
       record { upload = was.upload; upload_at = was.upload_at; client = was.client; in_turn = step _ _ was.in_turn } in
       record {
         count = length-set lanes k (old.0, lane) ∙ are.count;
         each = λ j one there. elim (in_set lanes k j (old.0, lane) one (slice_get_within lanes k old at) there) [
-          | inl (same, is) ↦ subst (λ i. IsLane known quota uploads asked' ahead i one) (sym same) (subst (λ o. IsLane known quota uploads asked' ahead k o) (sym is) now)
+          | inl (same, is) ↦ subst (λ i. IsLaneInTurn known quota uploads asked' ahead i one) (sym same) (subst (λ o. IsLaneInTurn known quota uploads asked' ahead k o) (sym is) now)
           | inr (other, here) ↦ others j one other (are.each j one here)
         ];
       }

@@ -13,7 +13,7 @@ use Rattle.upload_lanes.proofs.RecorderLaws.{total, lanes_total}
 use Rattle.upload_lanes.specs.Lane.{IsTaken}
 use Rattle.upload_lanes.specs.Round.{have_ended}
 use Rattle.upload_lanes.specs.Threads.{is_ended, items_of, items_taken, refused_by, GaveMore}
-use Rattle.upload_lanes.specs.inside.Groups.{Tells, IsJoined, AreJoined, IsGroup}
+use Rattle.upload_lanes.specs.inside.Groups.{TellsUpload, IsJoined, AreJoined, IsGroup}
 use Rattle.upload_lanes.specs.inside.Sent.{is_last}
 use Rattle.upload_lanes.specs.inside.Recording as Recorder
 use Rattle.upload_lanes.specs.inside.Recording.{IsHalted, IsRecording, IsUnrecorded}
@@ -78,7 +78,7 @@ module _ {R : Type 0} where
         record { first = first; first_at = first_at; recorded = recorded; recorded_at = recorded_at; is_joined = joined.each k recorded lane recorded_at lane_at }
 
     module _ (k : ℕ) (lane : List ℕ × LaneResult R) (here : At k lane) where
-      told : Tells here.is_joined.promise.upload.value here.is_joined.upload (of_lane k recording.done)
+      told : TellsUpload here.is_joined.promise.upload.value here.is_joined.upload (of_lane k recording.done)
       told = tells_first here.is_joined.promise.upload.value here.is_joined.upload (of_lane k got) (of_lane k recording.done) (of_lane k recording.rest) (split k) here.is_joined.told
 
       same_end : lane.1.end ≡ here.recorded.1.end
@@ -136,7 +136,7 @@ module _ {R : Type 0} where
         let upload = here.is_joined.upload in
         let got_so : of_lane k got ≡ of_lane k recording.done ++ item ∷ [] = ap (of_lane k) (recording.got_is ∙ ap (λ r. recording.done ++ r) rest) ∙ of_more k recording.done item refl in
         let more = gave_more here.first.1 here.recorded.1 here.is_joined.promise.upload.value upload (of_lane k recording.done) was.1 (told k lane here) upload item one
-        (subst (Tells here.is_joined.promise.upload.value upload) got_so here.is_joined.told) in
+        (subst (TellsUpload here.is_joined.promise.upload.value upload) got_so here.is_joined.told) in
         (k, lane, lane_at, record { upload = upload; upload_is = ap (λ l. l.1.upload) here.is_joined.lane_is; more = subst (λ l. l.1.taken < length upload.given) (sym here.is_joined.lane_is) more })
 
     same_ends : have_ended joined_lanes ≡ have_ended lanes

@@ -5,7 +5,7 @@ use Rattle.round_robin.proofs.Dealing.{every_map}
 use Rattle.round_robin.specs.Dealt.{every}
 use Rattle.upload_reader.specs.Upload.{UploadState, IsUntouched}
 use Rattle.upload_lanes.specs.Round.{resumed}
-use Rattle.upload_lanes.specs.inside.AllGroups.{IsDealt, IsFresh, IsPartyOf, parted}
+use Rattle.upload_lanes.specs.inside.AllGroups.{IsDealt, IsFreshLane, IsPartyOf, without_upload}
 use Rattle.upload_lanes.specs.inside.Lanes.{begun_lane}
 use Rattle.upload_lanes.specs.declared.gathered.LaneResult.{LaneResult}
 use Rattle.upload_lanes.specs.declared.group.Party.{Party}
@@ -29,7 +29,7 @@ module _ {R : Type 0} (known : List ℕ → Option (LaneResult R)) (quota : ℕ)
   fresh_behind upload None untouched = untouched
   fresh_behind upload (Some lane) untouched = record { given = untouched.given; ending = untouched.ending; place = untouched.place }
 
-  pub fresh_begun : (uploads : List (UploadState R)) → AllByRecursion IsUntouched uploads → AllByRecursion IsFresh (map (begun_lane known quota) uploads)
+  pub fresh_begun : (uploads : List (UploadState R)) → AllByRecursion IsUntouched uploads → AllByRecursion IsFreshLane (map (begun_lane known quota) uploads)
   fresh_begun [] all = tt
   fresh_begun (upload ∷ uploads) all = (
     record { upload = resumed upload (known upload.client); upload_is = refl; untouched = fresh_behind upload (known upload.client) all.0; begun = record { taken = refl; end = refl } },
@@ -41,7 +41,7 @@ module _ {R : Type 0} (known : List ℕ → Option (LaneResult R)) (quota : ℕ)
   party_of lanes uploads recorders g party is dealt =
       let mine : every recorders g lanes ≡ map (begun_lane known quota) (every recorders g uploads) = ap (every recorders g) is ∙ every_map (begun_lane known quota) recorders g uploads in
       record {
-        lanes = dealt.lanes_are ∙ ap (map parted) mine ∙ map_both (begun_lane known quota) parted (every recorders g uploads);
+        lanes = dealt.lanes_are ∙ ap (map without_upload) mine ∙ map_both (begun_lane known quota) without_upload (every recorders g uploads);
         begun =
             some_same party.uploads.items (map (λ upload. resumed upload (known upload.client)) (every recorders g uploads))
             (dealt.uploads_are ∙ ap (map (λ lane. lane.1.upload)) mine ∙ map_both (begun_lane known quota) (λ lane. lane.1.upload) (every recorders g uploads)

@@ -8,7 +8,7 @@ use Rattle.byte_streams.proofs.ReadingLaws.{reads_none}
 use Rattle.lane_queue.proofs.Steps.{all_append}
 use Rattle.lane_queue.specs.Items.{next_item}
 use Rattle.lane_queue.specs.declared.item.Item.{Item}
-use Rattle.lane_queue.specs.declared.view.View.{View}
+use Rattle.lane_queue.specs.declared.view.QueueView.{QueueView}
 use Rattle.upload_reader.specs.Limits.{max_messages}
 use Rattle.upload_reader.specs.Next.{given_by, ending_by, next_of, IfOver}
 use Rattle.upload_reader.specs.Stream.{Costed}
@@ -59,11 +59,18 @@ module _ {R : Type 0} where
 
   -- ---- what was put
 
-  pub put_none : (v : View Sent) (upload : UploadState R) → v.put ≡ [] → IsUntouched upload → IsPutting v.put upload
+  pub put_none : (v : QueueView Sent) (upload : UploadState R) → v.put ≡ [] → IsUntouched upload → IsPutting v.put upload
   put_none v upload empty untouched = record {
     going = untouched.ending;
     all = ap bodies empty ∙ ap (map One) (sym untouched.given);
     marked = subst (AllByRecursion IsMarked) (sym empty) tt;
+  }
+
+  pub nothing_put : (put : List (Item Sent)) (u : UploadState R) → IsPutting put u → IsPut put u
+  nothing_put put u putting = record {
+    rest = [];
+    front = ap (λ ending. sent u.given ending) putting.going ∙ append-nil (map One u.given) ∙ sym putting.all ∙ sym (append-nil (bodies put));
+    marked = putting.marked;
   }
 
   pub few_put : (put : List (Item Sent)) (u : UploadState R) → IsPutting put u → length u.given ≤ max_messages → length put ≤ max_messages
@@ -71,7 +78,7 @@ module _ {R : Type 0} where
       let same : length put ≡ length u.given = sym (length-map put (λ item. item.body)) ∙ ap length putting.all ∙ length-map u.given One in
       subst (λ n. n ≤ max_messages) (sym same) few
 
-  module _ (u : UploadState R) (a b : View Sent) (putting : IsPutting a.put u) (v : UploadState R) where
+  module _ (u : UploadState R) (a b : QueueView Sent) (putting : IsPutting a.put u) (v : UploadState R) where
     pub put_one : (one : Costed) (done : Bool) → v.given ≡ u.given ++ one ∷ [] → v.ending ≡ None → Sends a b false (One one) done → MatchBool done (IsPutting b.put v) (IsPut b.put v)
     put_one one true given going sends =
         let after : b.put ≡ a.put ++ next_item a.lane a.put false (One one) ∷ [] = ap (λ view. view.put) sends in

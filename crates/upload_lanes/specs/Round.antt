@@ -61,35 +61,40 @@ module _ {R : Type 0} where
 abbrev pub entries_of : List ℕ → ℕ → ℕ
 entries_of schedule lane = count_by (λ entry. entry == lane) schedule
 
--- Of a lane that was asked so often: without an end, so many messages were taken; with one, it was asked at least once more.
+-- Of a lane that was asked so often: without an end, so many messages were taken; with one, it was asked at least
+-- once more.
 abbrev pub IsAsked : ℕ → ℕ → Option Ending → Type 0
 IsAsked asked taken None = taken ≡ asked
 IsAsked asked taken (Some end) = taken < asked
 
 -- What was taken of a lane that was asked so often, and so many messages more were given than were recorded.
-pub record IsTakenInTurn {R : Type 0} (before : OfClient) (begun : UploadState R) (asked ahead : ℕ) (lane : LaneResult R) : Type 0 where
+pub record IsTakenInTurn {R : Type 0} (before : OfClient) (begun : UploadState R) (asked ahead : ℕ)
+    (lane : LaneResult R) : Type 0 where
   pub is_taken : IsTaken before begun lane
   pub asked_is : IsAsked asked lane.taken lane.end
   pub ahead_is : length is_taken.now.given ≡ lane.taken + ahead
 
-module _ {R : Type 0} (known : List ℕ → Option (LaneResult R)) (quota : ℕ) (uploads : List (UploadState R)) (asked ahead : ℕ → ℕ) where
+module _ {R : Type 0} (known : List ℕ → Option (LaneResult R)) (quota : ℕ) (uploads : List (UploadState R))
+    (asked ahead : ℕ → ℕ) where
   -- the lane of that number is that upload's, and nothing of another's went into it
-  pub record IsLane (k : ℕ) (lane : List ℕ × LaneResult R) : Type 0 where
+  pub record IsLaneInTurn (k : ℕ) (lane : List ℕ × LaneResult R) : Type 0 where
     pub upload : UploadState R
     pub upload_at : slice_get uploads k ≡ Some upload
     pub client : lane.0 ≡ upload.client
-    pub in_turn : IsTakenInTurn (log_before quota upload (known upload.client)) (resumed upload (known upload.client)) (asked k) (ahead k) lane.1
+    pub in_turn : IsTakenInTurn (log_before quota upload (known upload.client))
+        (resumed upload (known upload.client)) (asked k) (ahead k) lane.1
 
   pub record AreTakenInTurn (lanes : List (List ℕ × LaneResult R)) : Type 0 where
     pub count : length lanes ≡ length uploads
-    pub each : (k : ℕ) (lane : List ℕ × LaneResult R) → slice_get lanes k ≡ Some lane → IsLane k lane
+    pub each : (k : ℕ) (lane : List ℕ × LaneResult R) → slice_get lanes k ≡ Some lane → IsLaneInTurn k lane
 
 abbrev pub have_ended : {R : Type 0} → List (List ℕ × LaneResult R) → Bool
 have_ended lanes = list_all (λ lane. is_some lane.1.end) lanes
 
 -- where memory was refused, the lane that was asked then gave one message more than were recorded
 abbrev pub ahead_of : List ℕ → ℕ → Stop → ℕ → ℕ
-ahead_of schedule followed stop.Memory lane = if option_map_or (λ entry. entry == lane) (slice_get schedule followed) false then 1 else 0
+ahead_of schedule followed stop.Memory lane =
+    if option_map_or (λ entry. entry == lane) (slice_get schedule followed) false then 1 else 0
 ahead_of schedule followed other lane = 0
 
 -- So many entries of the schedule were followed: all, unless memory was refused at the next one.
@@ -100,24 +105,32 @@ IsStop schedule followed lanes stop.Memory = followed < length schedule
 
 -- ---- a round
 
-pub record IsFollowed {R : Type 0} (known : List ℕ → Option (LaneResult R)) (quota : ℕ) (uploads : List (UploadState R)) (schedule : List ℕ) (lanes : List (List ℕ × LaneResult R)) (stop : Stop) : Type 0 where
+pub record IsFollowed {R : Type 0} (known : List ℕ → Option (LaneResult R)) (quota : ℕ)
+    (uploads : List (UploadState R)) (schedule : List ℕ) (lanes : List (List ℕ × LaneResult R))
+    (stop : Stop) : Type 0 where
   pub followed : ℕ
-  pub lanes_are : AreTakenInTurn known quota uploads (entries_of (take followed schedule)) (ahead_of schedule followed stop) lanes
+  pub lanes_are : AreTakenInTurn known quota uploads (entries_of (take followed schedule))
+      (ahead_of schedule followed stop) lanes
   pub stop_is : IsStop schedule followed lanes stop
 
--- The clients of the rounds before stand first, in their order, and then the new ones in that of their lanes. Each that has a lane has what was taken of it.
-pub record Gathers {R : Type 0} (earlier : Gathered R) (uploads : List (UploadState R)) (quota : ℕ) (schedule : List ℕ) (gathered : Gathered R) : Type 0 where
+-- The clients of the rounds before stand first, in their order, and then the new ones in that of their lanes. Each
+-- that has a lane has what was taken of it.
+pub record GathersInTurn {R : Type 0} (earlier : Gathered R) (uploads : List (UploadState R)) (quota : ℕ)
+    (schedule : List ℕ) (gathered : Gathered R) : Type 0 where
   pub is_round : IsRound uploads
   pub lanes : List (List ℕ × LaneResult R)
   pub followed : IsFollowed (get bytes_eq earlier.clients) quota uploads schedule lanes gathered.stop
-  pub clients_are : gathered.clients.entries ≡ insert_all bytes_eq (map (λ entry. (entry.0, rested entry.1)) earlier.clients.entries) lanes
+  pub clients_are : gathered.clients.entries ≡ insert_all bytes_eq
+      (map (λ entry. (entry.0, rested entry.1)) earlier.clients.entries) lanes
 
 -- the first round
-abbrev pub GathersFirst : {R : Type 0} → List (UploadState R) → ℕ → List ℕ → Gathered R → Type 0
-GathersFirst uploads quota schedule gathered = (earlier : Gathered _) × (earlier.clients.entries ≡ []) × Gathers earlier uploads quota schedule gathered
+abbrev pub GathersFirstInTurn : {R : Type 0} → List (UploadState R) → ℕ → List ℕ → Gathered R → Type 0
+GathersFirstInTurn uploads quota schedule gathered =
+    (earlier : Gathered _) × (earlier.clients.entries ≡ []) × GathersInTurn earlier uploads quota schedule gathered
 
 -- The round is refused for that, and what was gathered before comes back.
-pub record RefusesRound {R : Type 0} (earlier : Gathered R) (uploads : List (UploadState R)) (fault : GatherFault) (back : Gathered R) : Type 0 where
+pub record RefusesRound {R : Type 0} (earlier : Gathered R) (uploads : List (UploadState R)) (fault : GatherFault)
+    (back : Gathered R) : Type 0 where
   pub why : IsNoRound uploads fault
   pub clients : IsUnchanged earlier.clients back.clients
   pub stop : back.stop ≡ earlier.stop

@@ -61,32 +61,40 @@ module _ {R : Type 0} where
     pub lesser : (n : ℕ) → n < items_taken lanes stop → allows n false
     pub asked : stop ≡ kind.Asked → allows (items_taken lanes stop) true
     pub ended : have_ended lanes ≡ is_ended stop
-    pub refused : stop ≡ kind.Memory → (k : ℕ) × (lane : List ℕ × LaneResult R) × (slice_get lanes k ≡ Some lane) × GaveMore lane.1
+    pub refused : stop ≡ kind.Memory
+        → (k : ℕ) × (lane : List ℕ × LaneResult R) × (slice_get lanes k ≡ Some lane) × GaveMore lane.1
 
   -- ---- lanes
 
   -- that upload's lane, and nothing of another's went into it
-  pub record IsLaneOf (known : List ℕ → Option (LaneResult R)) (quota : ℕ) (upload : UploadState R) (lane : List ℕ × LaneResult R) : Type 0 where
+  pub record IsLaneOf (known : List ℕ → Option (LaneResult R)) (quota : ℕ) (upload : UploadState R)
+      (lane : List ℕ × LaneResult R) : Type 0 where
     pub client : lane.0 ≡ upload.client
     pub is_taken : IsTaken (log_before quota upload (known upload.client)) (resumed upload (known upload.client)) lane.1
 
   -- Lane k is that of upload k, and one of recorder k modulo their number.
-  pub record AreTaken (allows : ℕ → Bool → Type 0) (known : List ℕ → Option (LaneResult R)) (quota : ℕ) (uploads : List (UploadState R)) (lanes : List (List ℕ × LaneResult R)) (stop : Stop) : Type 0 where
+  pub record AreTaken (allows : ℕ → Bool → Type 0) (known : List ℕ → Option (LaneResult R)) (quota : ℕ)
+      (uploads : List (UploadState R)) (lanes : List (List ℕ × LaneResult R)) (stop : Stop) : Type 0 where
     pub lanes_are : AllZip (IsLaneOf known quota) uploads lanes
     pub stops : List Stop
     pub count : length stops ≡ recorders_of (length uploads)
-    pub each : (recorder : ℕ) (one : Stop) → slice_get stops recorder ≡ Some one → Stops allows (every (length stops) recorder lanes) one
+    pub each : (recorder : ℕ) (one : Stop) → slice_get stops recorder ≡ Some one
+        → Stops allows (every (length stops) recorder lanes) one
     pub stop_is : stop ≡ stop_of stops
 
   -- ---- a round
 
-  -- The clients of the rounds before stand first, in their order, and then the new ones in that of their lanes. Each that has a lane has what was taken of it.
-  pub record Gathers (allows : ℕ → Bool → Type 0) (earlier : Gathered R) (uploads : List (UploadState R)) (quota : ℕ) (gathered : Gathered R) : Type 0 where
+  -- The clients of the rounds before stand first, in their order, and then the new ones in that of their lanes. Each
+  -- that has a lane has what was taken of it.
+  pub record Gathers (allows : ℕ → Bool → Type 0) (earlier : Gathered R) (uploads : List (UploadState R)) (quota : ℕ)
+      (gathered : Gathered R) : Type 0 where
     pub is_round : IsRound uploads
     pub lanes : List (List ℕ × LaneResult R)
     pub taken : AreTaken allows (get bytes_eq earlier.clients) quota uploads lanes gathered.stop
-    pub clients_are : gathered.clients.entries ≡ insert_all bytes_eq (map (λ entry. (entry.0, rested entry.1)) earlier.clients.entries) lanes
+    pub clients_are : gathered.clients.entries ≡ insert_all bytes_eq
+        (map (λ entry. (entry.0, rested entry.1)) earlier.clients.entries) lanes
 
   -- the first round
   abbrev pub GathersFirst : (ℕ → Bool → Type 0) → List (UploadState R) → ℕ → Gathered R → Type 0
-  GathersFirst allows uploads quota gathered = (earlier : Gathered R) × (earlier.clients.entries ≡ []) × Gathers allows earlier uploads quota gathered
+  GathersFirst allows uploads quota gathered =
+      (earlier : Gathered R) × (earlier.clients.entries ≡ []) × Gathers allows earlier uploads quota gathered

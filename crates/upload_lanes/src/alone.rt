@@ -1,12 +1,11 @@
 //! A round of one lane.
-ghost use Rattle.std.specs.Prelude.{ℕ, ◌≡◌, ◌≤◌, ◌^◌, List, [], ◌∷◌, length, map, Option, Some};
+ghost use Rattle.std.specs.Prelude.{ℕ, ◌≡◌, ◌≤◌, ◌^◌, [], ◌∷◌, length, Some};
 ghost use Rattle.std.specs.List.{AllByRecursion};
 ghost use Rattle.upload_reader.specs.Upload.{UploadState};
 ghost use Rattle.upload_lanes.specs.Lane.{IsTaken};
-ghost use Rattle.upload_lanes.specs.Threads.{AreTaken, Stops};
-ghost use Rattle.upload_lanes.specs.inside.AllGroups.{IsFresh};
-ghost use Rattle.upload_lanes.specs.inside.Lanes.{begun_lane};
-ghost use Rattle.upload_lanes.specs.declared.gathered.LaneResult.{LaneResult};
+ghost use Rattle.upload_lanes.specs.Threads.{Stops};
+ghost use Rattle.upload_lanes.specs.inside.AllGroups.{IsFreshLane};
+ghost use Rattle.upload_lanes.specs.inside.Lanes.{TakeBegun};
 
 use crate::gathered::{LaneResult, Stop};
 use crate::halt::Halt;
@@ -21,10 +20,10 @@ pub(crate) fn take_only<H: Halt, R: Source + Drop, W: Wait>(
     lanes: Vec<(Client, LaneResult<R>)>,
     halt: &H,
 ) -> (Vec<(Client, LaneResult<R>)>, Stop)
-    requires fresh { AllByRecursion IsFresh lanes.items }
+    requires fresh { AllByRecursion IsFreshLane lanes.items }
     requires one { length lanes.items ≡ 1 }
     requires halt { (n : ℕ) → n ≤ 2 ^ 61 → H.may halt.now n }
-    ensures { (known : List ℕ → Option (LaneResult R)) (quota : ℕ) (uploads : List (UploadState R)) → lanes.items ≡ map (begun_lane known quota) uploads → AreTaken (H.allows halt.now) known quota uploads result.0.items result.1 }
+    ensures { TakeBegun (H.allows halt.now) lanes.items result.0.items result.1 }
 {
     let mut lanes = lanes;
     let stop = take_alone(rt, &mut lanes[0], halt);
@@ -37,7 +36,7 @@ fn take_alone<H: Halt, R: Source + Drop, W: Wait>(
     lane: &mut (Client, LaneResult<R>),
     halt: &H,
 ) -> Stop
-    requires fresh { IsFresh lane.old }
+    requires fresh { IsFreshLane lane.old }
     requires halt { (n : ℕ) → n ≤ 2 ^ 61 → H.may halt.now n }
     ensures client { lane.new.0 ≡ lane.old.0 }
     ensures taken { (begun : UploadState R) → lane.old.1.upload ≡ Some begun → IsTaken lane.old.1.log begun lane.new.1 }

@@ -21,9 +21,11 @@ pub(crate) fn collect_groups<R: Source + Drop>(
     requires hands { (hands.items ≡ []) × (length groups.items ≤ vec_capacity hands) }
     requires lanes { (lanes.items ≡ []) × (count ≤ vec_capacity lanes) }
     requires some { 0 < length groups.items }
-    requires shares { (g : ℕ) (group : Group R) → slice_get groups.items g ≡ Some group → length group.lanes.items ≡ length (every {A = ℕ} (length groups.items) g (replicate count 0)) }
+    requires shares { (g : ℕ) (group : Group R) → slice_get groups.items g ≡ Some group
+        → length group.lanes.items ≡ length (every {A = ℕ} (length groups.items) g (replicate count 0)) }
     ensures count { length result.0.items ≡ count }
-    ensures each { (g : ℕ) (group : Group R) → slice_get groups.items g ≡ Some group → group.lanes.items ≡ every (length groups.items) g result.0.items }
+    ensures each { (g : ℕ) (group : Group R) → slice_get groups.items g ≡ Some group
+        → group.lanes.items ≡ every (length groups.items) g result.0.items }
     ensures stop { result.1 ≡ stop_of (map (λ group. group.stop) groups.items) }
 {
     let mut hands = hands;

@@ -21,7 +21,7 @@ pub enum GatherFault {
 
 /// A round that was refused, and what was gathered before it.
 #[derive(Drop)]
-pub struct Again<R: Source> {
+pub struct RefusedRound<R: Source> {
     pub fault: GatherFault,
     pub earlier: Gathered<R>,
 }

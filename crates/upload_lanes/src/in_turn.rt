@@ -1,12 +1,11 @@
 //! Lanes on one thread, in turn.
-ghost use Rattle.std.specs.Prelude.{ℕ, ◌≡◌, List, Option, map, IfOk, IfErr, OnOk, OnErr};
+ghost use Rattle.std.specs.Prelude.{IfOk, IfErr, OnOk, OnErr};
 ghost use Rattle.std.specs.List.{AllByRecursion};
-ghost use Rattle.upload_reader.specs.Upload.{UploadState, IsUntouched};
-ghost use Rattle.upload_lanes.specs.Round.{AreTakenInTurn, IsFollowed, Gathers, GathersFirst, IsNoRound, RefusesRound};
-ghost use Rattle.upload_lanes.specs.declared.gathered.LaneResult.{LaneResult};
-ghost use Rattle.upload_lanes.specs.inside.Lanes.{begun_lane, one_more, only, none, HaveFewTaken};
+ghost use Rattle.upload_reader.specs.Upload.{IsUntouched};
+ghost use Rattle.upload_lanes.specs.Round.{GathersInTurn, GathersFirstInTurn, IsNoRound, RefusesRound};
+ghost use Rattle.upload_lanes.specs.inside.Lanes.{HaveFewTaken, AsksLane, RefusesLane, FollowBegun};
 
-use crate::fault::{Again, GatherFault};
+use crate::fault::{GatherFault, RefusedRound};
 use crate::gathered::{Gathered, LaneResult, Stop};
 use crate::lane::have_ended;
 use crate::round::{begin_round, put_back, rest_all};
@@ -25,7 +24,7 @@ pub fn gather_in_order<R: Source + Drop>(
     schedule: &[u32],
 ) -> Result<Gathered<R>, GatherFault>
     requires untouched { AllByRecursion IsUntouched uploads.items }
-    ensures ok { IfOk result (GathersFirst uploads.items quota schedule.now) }
+    ensures ok { IfOk result (GathersFirstInTurn uploads.items quota schedule.now) }
     ensures refused { IfErr result (IsNoRound uploads.items) }
 {
     match gather_again_in_order(alloc, Gathered::new(alloc), uploads, quota, schedule) {
@@ -42,14 +41,14 @@ pub fn gather_again_in_order<R: Source + Drop>(
     uploads: Vec<Upload<R>>,
     quota: Quota,
     schedule: &[u32],
-) -> Result<Gathered<R>, Again<R>>
+) -> Result<Gathered<R>, RefusedRound<R>>
     requires untouched { AllByRecursion IsUntouched uploads.items }
-    ensures ok { IfOk result (λ gathered. Gathers earlier uploads.items quota schedule.now gathered) }
+    ensures ok { IfOk result (λ gathered. GathersInTurn earlier uploads.items quota schedule.now gathered) }
     ensures refused { IfErr result (λ again. RefusesRound earlier uploads.items again.fault again.earlier) }
 {
     let mut earlier = earlier;
     match begin_round(alloc, &mut earlier.clients, uploads, quota) {
-        Err(fault) => Err(Again { fault, earlier }),
+        Err(fault) => Err(RefusedRound { fault, earlier }),
         Ok(lanes) => {
             let mut lanes = lanes;
             let stop = take_all(lanes.as_mut_slice(), schedule);
@@ -64,7 +63,7 @@ pub fn gather_again_in_order<R: Source + Drop>(
 // Each entry takes the next of its lane.
 fn take_all<R: Source + Drop>(lanes: &mut [(Client, LaneResult<R>)], schedule: &[u32]) -> Stop
     requires few { HaveFewTaken lanes.old }
-    ensures { (known : List ℕ → Option (LaneResult R)) (quota : ℕ) (uploads : List (UploadState R)) → AllByRecursion IsUntouched uploads → lanes.old ≡ map (begun_lane known quota) uploads → IsFollowed known quota uploads schedule.now lanes.new result }
+    ensures { FollowBegun schedule.now lanes.old lanes.new result }
 {
     for k in schedule {
         if take_at(lanes, *k as usize).is_err() {
@@ -84,8 +83,8 @@ fn take_at<R: Source + Drop>(
 ) -> Result<(), NoMemory>
     requires few { HaveFewTaken lanes.old }
     ensures few { HaveFewTaken lanes.new }
-    ensures goes { (known : List ℕ → Option (LaneResult R)) (quota : ℕ) (uploads : List (UploadState R)) (asked : ℕ → ℕ) → AreTakenInTurn known quota uploads asked none lanes.old → OnOk result (AreTakenInTurn known quota uploads (one_more k asked) none lanes.new) }
-    ensures refused { (known : List ℕ → Option (LaneResult R)) (quota : ℕ) (uploads : List (UploadState R)) (asked : ℕ → ℕ) → AreTakenInTurn known quota uploads asked none lanes.old → OnErr result (AreTakenInTurn known quota uploads asked (only k) lanes.new) }
+    ensures goes { AsksLane (OnOk result) k lanes.old lanes.new }
+    ensures refused { RefusesLane (OnErr result) k lanes.old lanes.new }
 {
     if k >= lanes.len() {
         return Ok(());

@@ -22,9 +22,14 @@ impl<R: Source + Drop> LaneResult<R> {
     pub(crate) fn take_next(&mut self) -> Result<(), NoMemory>
         requires few { HasFewTaken self.old }
         ensures few { HasFewTaken self.new }
-        ensures goes { (before : OfClient) (begun : UploadState R) (asked : ℕ) → IsTakenInTurn before begun asked 0 self.old → OnOk result (IsTakenInTurn before begun (asked + 1) 0 self.new) }
-        ensures refused { (before : OfClient) (begun : UploadState R) (asked : ℕ) → IsTakenInTurn before begun asked 0 self.old → OnErr result (IsTakenInTurn before begun asked 1 self.new) }
-        ensures count { is_some self.old.upload ≡ true → is_some self.old.end ≡ false → OnOk result (items_in self.new ≡ items_in self.old + 1) }
+        ensures goes { (before : OfClient) (begun : UploadState R) (asked : ℕ)
+            → IsTakenInTurn before begun asked 0 self.old
+            → OnOk result (IsTakenInTurn before begun (asked + 1) 0 self.new) }
+        ensures refused { (before : OfClient) (begun : UploadState R) (asked : ℕ)
+            → IsTakenInTurn before begun asked 0 self.old
+            → OnErr result (IsTakenInTurn before begun asked 1 self.new) }
+        ensures count { is_some self.old.upload ≡ true → is_some self.old.end ≡ false
+            → OnOk result (items_in self.new ≡ items_in self.old + 1) }
         ensures same { OnErr result ((self.new.taken ≡ self.old.taken) × (self.new.end ≡ self.old.end)) }
     {
         if self.end.is_some() {

@@ -17,6 +17,7 @@ mod in_turn;
 
 // Lanes on threads.
 mod collected;
+mod gate;
 mod group;
 mod groups;
 mod halt;
@@ -28,7 +29,7 @@ mod threads;
 mod uploader;
 
 pub use checks::has_twice;
-pub use fault::{Again, GatherFault};
+pub use fault::{GatherFault, RefusedRound};
 pub use gathered::{Gathered, LaneResult, Stop};
 pub use in_turn::{gather_again_in_order, gather_in_order};
 pub use threads::{gather, gather_again};

@@ -4,7 +4,7 @@ ghost use Rattle.std.specs.List.{AllByRecursion};
 ghost use Rattle.lane_queue.specs.Limits.{AreLanes, max_lanes};
 ghost use Rattle.round_robin.specs.Dealt.{every};
 ghost use Rattle.upload_reader.specs.Upload.{IsUntouched};
-ghost use Rattle.upload_lanes.specs.inside.AllGroups.{ArePlaced, IsDealt, IsFresh, parted};
+ghost use Rattle.upload_lanes.specs.inside.AllGroups.{ArePlaced, IsDealt, IsFreshLane, without_upload};
 ghost use Rattle.upload_lanes.specs.inside.Groups.{IsParty};
 ghost use Rattle.upload_lanes.specs.declared.group.Party.{Party};
 
@@ -13,7 +13,7 @@ use crate::group::Party;
 use crate::recorder::Duty;
 use crate::sent::Sent;
 use byte_streams::Source;
-use lane_queue::{Lanes, Room};
+use lane_queue::{LaneQueue, Room};
 use round_robin::deal;
 use std::alloc::{AllocError, Global};
 use upload_reader::{Client, Upload};
@@ -30,8 +30,8 @@ fn part<R: Source + Drop>(
     alloc: Global,
     lanes: Vec<(Client, LaneResult<R>)>,
 ) -> Result<Parts<R>, AllocError>
-    requires { AllByRecursion IsFresh lanes.items }
-    ensures lanes { IfOk result (λ parts. parts.lanes.items ≡ map parted lanes.items) }
+    requires { AllByRecursion IsFreshLane lanes.items }
+    ensures lanes { IfOk result (λ parts. parts.lanes.items ≡ map without_upload lanes.items) }
     ensures uploads { IfOk result (λ parts. map Some parts.uploads.items ≡ map (λ lane. lane.1.upload) lanes.items) }
     ensures untouched { IfOk result (λ parts. AllByRecursion IsUntouched parts.uploads.items) }
 {
@@ -64,15 +64,15 @@ fn make_party<R: Source + Drop>(
     alloc: Global,
     lanes: Vec<(Client, LaneResult<R>)>,
     room: Room,
-) -> Result<(Lanes<Sent>, Party<R>), AllocError>
-    requires fresh { AllByRecursion IsFresh lanes.items }
+) -> Result<(LaneQueue<Sent>, Party<R>), AllocError>
+    requires fresh { AllByRecursion IsFreshLane lanes.items }
     requires lanes { AreLanes (length lanes.items) }
     ensures party { IfOk result (λ made. IsParty made.0 made.1) }
     ensures dealt { IfOk result (λ made. IsDealt lanes.items made.1) }
 {
     let count = lanes.len() as u32;
     let Parts { lanes, uploads } = part(alloc, lanes)?;
-    match Lanes::open(alloc, count, room) {
+    match LaneQueue::open(alloc, count, room) {
         Err(_) => Err(AllocError),
         Ok((queue, taker, putters)) => {
             let party = Party {
@@ -91,13 +91,14 @@ pub(crate) fn make_parties<R: Source + Drop>(
     lanes: Vec<(Client, LaneResult<R>)>,
     recorders: usize,
     room: Room,
-) -> Result<(Vec<Lanes<Sent>>, Vec<Party<R>>), AllocError>
-    requires fresh { AllByRecursion IsFresh lanes.items }
+) -> Result<(Vec<LaneQueue<Sent>>, Vec<Party<R>>), AllocError>
+    requires fresh { AllByRecursion IsFreshLane lanes.items }
     requires recorders { (1 ≤ recorders) × (recorders ≤ length lanes.items) }
     requires few { length lanes.items ≤ max_lanes }
     ensures placed { IfOk result (λ made. ArePlaced IsParty made.0.items made.1.items) }
     ensures count { IfOk result (λ made. length made.1.items ≡ recorders) }
-    ensures dealt { IfOk result (λ made. (g : ℕ) (party : Party R) → slice_get made.1.items g ≡ Some party → IsDealt (every recorders g lanes.items) party) }
+    ensures dealt { IfOk result (λ made. (g : ℕ) (party : Party R) → slice_get made.1.items g ≡ Some party
+        → IsDealt (every recorders g lanes.items) party) }
 {
     let hands = deal(alloc, lanes, recorders)?;
     let mut queues = Vec::with_capacity(alloc, recorders)?;

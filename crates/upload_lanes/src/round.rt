@@ -3,8 +3,8 @@ ghost use Rattle.std.specs.Prelude.{◌≡◌, ◌+◌, ◌≤◌, ◌<◌, leng
 ghost use Rattle.std.specs.List.{AllByRecursion};
 ghost use Rattle.indexmap.specs.IndexMap.{get, spare, insert_entry, insert_all, IsUnchanged};
 ghost use Rattle.upload_reader.specs.Upload.{IsUntouched};
-ghost use Rattle.upload_lanes.specs.Round.{IsRound, IsNoRound, resumed, rested};
-ghost use Rattle.upload_lanes.specs.inside.Lanes.{new_lane, begun_lane, rested_at};
+ghost use Rattle.upload_lanes.specs.Round.{IsNoRound, resumed, rested};
+ghost use Rattle.upload_lanes.specs.inside.Lanes.{new_lane, begun_lane, rested_at, BeginsRound};
 
 use crate::checks::check_round;
 use crate::fault::GatherFault;
@@ -25,7 +25,8 @@ pub(crate) fn begin_round<R: Source + Drop>(
 ) -> Result<Vec<(Client, LaneResult<R>)>, GatherFault>
     requires untouched { AllByRecursion IsUntouched uploads.items }
     ensures same { IsUnchanged clients.old clients.new }
-    ensures ok { IfOk result (λ lanes. IsRound uploads.items × (lanes.items ≡ map (begun_lane (get bytes_eq clients.old) quota) uploads.items) × (length lanes.items ≤ spare clients.new)) }
+    ensures ok { IfOk result (λ lanes. BeginsRound (get bytes_eq clients.old) quota uploads.items
+        (spare clients.new) lanes.items) }
     ensures refused { IfErr result (IsNoRound uploads.items) }
 {
     check_round(uploads.as_slice())?;

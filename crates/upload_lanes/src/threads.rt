@@ -1,18 +1,17 @@
 //! Lanes on threads: an uploader for each, and up to four recorders.
-ghost use Rattle.std.specs.Prelude.{ℕ, ◌≡◌, ◌≤◌, ◌^◌, List, Option, length, map, bytes_eq, IfOk, IfErr};
+ghost use Rattle.std.specs.Prelude.{ℕ, ◌≡◌, ◌≤◌, ◌^◌, length, bytes_eq, IfOk, IfErr};
 ghost use Rattle.std.specs.List.{AllByRecursion};
 ghost use Rattle.indexmap.specs.IndexMap.{get, spare, IsUnchanged};
 ghost use Rattle.lane_queue.specs.Limits.{AreLanes};
-ghost use Rattle.upload_reader.specs.Upload.{UploadState, IsUntouched};
-ghost use Rattle.upload_lanes.specs.Round.{IsRound, IsNoRound, RefusesRound};
-ghost use Rattle.upload_lanes.specs.Threads.{recorders_of, AreTaken, Gathers, GathersFirst};
-ghost use Rattle.upload_lanes.specs.inside.AllGroups.{IsFresh};
-ghost use Rattle.upload_lanes.specs.inside.Lanes.{begun_lane};
-ghost use Rattle.upload_lanes.specs.declared.gathered.LaneResult.{LaneResult};
+ghost use Rattle.upload_reader.specs.Upload.{IsUntouched};
+ghost use Rattle.upload_lanes.specs.Round.{IsNoRound, RefusesRound};
+ghost use Rattle.upload_lanes.specs.Threads.{recorders_of, Gathers, GathersFirst};
+ghost use Rattle.upload_lanes.specs.inside.AllGroups.{IsFreshLane};
+ghost use Rattle.upload_lanes.specs.inside.Lanes.{TakeBegun, TakesRound};
 
 use crate::alone::take_only;
 use crate::collected::collect_groups;
-use crate::fault::{Again, GatherFault};
+use crate::fault::{GatherFault, RefusedRound};
 use crate::gathered::{Gathered, LaneResult, Stop};
 use crate::groups::run_groups;
 use crate::halt::{Asks, Halt};
@@ -70,7 +69,7 @@ pub fn gather_again<
     quota: Quota,
     room: Room,
     halt: &H,
-) -> Result<Gathered<R>, Again<R>>
+) -> Result<Gathered<R>, RefusedRound<R>>
     requires untouched { AllByRecursion IsUntouched uploads.items }
     requires halt { (n : ℕ) → n ≤ 2 ^ 61 → H.pre halt.now n }
     ensures ok { IfOk result (λ gathered. Gathers (H.post halt.now) earlier uploads.items quota gathered) }
@@ -86,7 +85,7 @@ pub fn gather_again<
         room,
         &Asks { halt },
     ) {
-        Err(fault) => Err(Again { fault, earlier }),
+        Err(fault) => Err(RefusedRound { fault, earlier }),
         Ok((lanes, stop)) => {
             rest_all(&mut earlier.clients);
             put_back(&mut earlier.clients, lanes);
@@ -109,7 +108,8 @@ fn take_round<H: Halt, R: Source + Drop + Send, T: Threads + Wait + Sync>(
     requires untouched { AllByRecursion IsUntouched uploads.items }
     requires halt { (n : ℕ) → n ≤ 2 ^ 61 → H.may halt.now n }
     ensures same { IsUnchanged clients.old clients.new }
-    ensures ok { IfOk result (λ taken. IsRound uploads.items × AreTaken (H.allows halt.now) (get bytes_eq clients.old) quota uploads.items taken.0.items taken.1 × (length taken.0.items ≤ spare clients.new)) }
+    ensures ok { IfOk result (λ taken. TakesRound (H.allows halt.now) (get bytes_eq clients.old) quota uploads.items
+        (spare clients.new) (taken.0.items, taken.1)) }
     ensures refused { IfErr result (IsNoRound uploads.items) }
 {
     let lanes = begin_round(alloc, clients, uploads, quota)?;
@@ -124,10 +124,10 @@ fn take_lanes<H: Halt, R: Source + Drop + Send, T: Threads + Wait + Sync>(
     room: Room,
     halt: &H,
 ) -> Result<(Vec<(Client, LaneResult<R>)>, Stop), AllocError>
-    requires fresh { AllByRecursion IsFresh lanes.items }
+    requires fresh { AllByRecursion IsFreshLane lanes.items }
     requires lanes { AreLanes (length lanes.items) }
     requires halt { (n : ℕ) → n ≤ 2 ^ 61 → H.may halt.now n }
-    ensures { (known : List ℕ → Option (LaneResult R)) (quota : ℕ) (uploads : List (UploadState R)) → lanes.items ≡ map (begun_lane known quota) uploads → IfOk result (λ taken. AreTaken (H.allows halt.now) known quota uploads taken.0.items taken.1) }
+    ensures { IfOk result (λ taken. TakeBegun (H.allows halt.now) lanes.items taken.0.items taken.1) }
 {
     if lanes.len() == 1 {
         return Ok(take_only(rt, lanes, halt));
@@ -143,10 +143,10 @@ fn take_beside<H: Halt, R: Source + Drop + Send, T: Threads + Wait + Sync>(
     room: Room,
     halt: &H,
 ) -> Result<(Vec<(Client, LaneResult<R>)>, Stop), AllocError>
-    requires fresh { AllByRecursion IsFresh lanes.items }
+    requires fresh { AllByRecursion IsFreshLane lanes.items }
     requires lanes { AreLanes (length lanes.items) }
     requires halt { (n : ℕ) → n ≤ 2 ^ 61 → H.may halt.now n }
-    ensures { (known : List ℕ → Option (LaneResult R)) (quota : ℕ) (uploads : List (UploadState R)) → lanes.items ≡ map (begun_lane known quota) uploads → IfOk result (λ taken. AreTaken (H.allows halt.now) known quota uploads taken.0.items taken.1) }
+    ensures { IfOk result (λ taken. TakeBegun (H.allows halt.now) lanes.items taken.0.items taken.1) }
 {
     let count = lanes.len();
     let recorders = recorders_of(count);

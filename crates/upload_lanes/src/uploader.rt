@@ -1,17 +1,18 @@
 //! A lane's uploader: reads its upload, message by message, and puts each into the lane.
 ghost use Rattle.std.specs.Prelude.{◌≡◌, ◌≤◌, length, Bool, true, false, IfOk, MatchBool};
 ghost use Rattle.crossbeam_queue.specs.Passes.{view};
-ghost use Rattle.lane_queue.specs.Opened.{IsFreshOf};
-ghost use Rattle.lane_queue.specs.Queue.{IsOf};
+ghost use Rattle.lane_queue.specs.Opened.{IsNewPutterOf};
+ghost use Rattle.lane_queue.specs.Queue.{IsPassOf};
 ghost use Rattle.upload_reader.specs.Limits.{max_messages};
 ghost use Rattle.upload_reader.specs.Upload.{UploadState, IsUntouched};
 ghost use Rattle.upload_lanes.specs.inside.Sent.{IsReadOn, IsPutting, IsPut, IsUploaded, Sends, is_done};
 ghost use Rattle.upload_lanes.specs.declared.sent.Sent.TheVariants.{One, Last};
 
+use crate::gate::Gate;
 use crate::heap::{Heap, READ};
 use crate::sent::{Priced, Sent};
 use byte_streams::Source;
-use lane_queue::{Lanes, Put, Putter};
+use lane_queue::{LaneQueue, Put, Putter};
 use std::alloc::AllocError;
 use std::snapshot::Snapshot;
 use std::sync::Wait;
@@ -28,7 +29,7 @@ pub(crate) struct Uploaded<R: Source> {
 /// What its thread promises, by what it was given.
 #[derive(Drop)]
 pub(crate) struct Uploads<R: Source> {
-    queue: Snapshot<Lanes<Sent>>,
+    queue: Snapshot<LaneQueue<Sent>>,
     putter: Snapshot<Putter<Sent>>,
     upload: Snapshot<Upload<R>>,
 }
@@ -40,17 +41,20 @@ impl<R: Source> Promise<Uploaded<R>> for Uploads<R> {
     ghost kept_by = { λ p done. IsUploaded p.queue.value (view p.putter.value).lane p.upload.value done };
 }
 
-/// Starts an uploader on a thread of its own.
+/// Starts an uploader on a thread of its own, which waits at the gate before it reads.
 pub(crate) fn start_upload<'s, E, R: Source + Drop + Send + 's, W: Wait + Sync>(
     scope: &Scope<'s, E>,
     rt: &'s W,
-    queue: &'s Lanes<Sent>,
+    queue: &'s LaneQueue<Sent>,
+    gate: &'s Gate,
     putter: Putter<Sent>,
     upload: Upload<R>,
 ) -> Result<PromisedHandle<Uploaded<R>, Uploads<R>>, AllocError>
-    requires fresh { IsFreshOf queue.now putter }
+    requires fresh { IsNewPutterOf queue.now putter }
     requires untouched { IsUntouched upload }
-    ensures { IfOk result (λ handle. (handle.promise.queue.value ≡ queue.now) × (handle.promise.putter.value ≡ putter) × (handle.promise.upload.value ≡ upload)) }
+    ensures queue { IfOk result (λ handle. handle.promise.queue.value ≡ queue.now) }
+    ensures putter { IfOk result (λ handle. handle.promise.putter.value ≡ putter) }
+    ensures upload { IfOk result (λ handle. handle.promise.upload.value ≡ upload) }
 {
     let promise = Uploads {
         queue: Snapshot::of(queue),
@@ -58,20 +62,39 @@ pub(crate) fn start_upload<'s, E, R: Source + Drop + Send + 's, W: Wait + Sync>(
         upload: Snapshot::of(&upload),
     };
     let run = move || -> Uploaded<R>
-        requires { IsFreshOf queue.now putter × IsUntouched upload }
+        requires { IsNewPutterOf queue.now putter × IsUntouched upload }
         ensures { IsUploaded queue.entry.now (view putter).lane upload result }
-    { upload_all(rt, queue, putter, upload) };
+    { upload_once_open(rt, queue, gate, putter, upload) };
     Ok(scope.spawn_with(promise, run)?)
+}
+
+// Nothing is read where the gate is shut.
+fn upload_once_open<R: Source + Drop, W: Wait>(
+    rt: &W,
+    queue: &LaneQueue<Sent>,
+    gate: &Gate,
+    putter: Putter<Sent>,
+    upload: Upload<R>,
+) -> Uploaded<R>
+    requires fresh { IsNewPutterOf queue.now putter }
+    requires untouched { IsUntouched upload }
+    ensures { IsUploaded queue.now (view putter).lane upload result }
+{
+    if gate.may_pass(rt) {
+        upload_all(rt, queue, putter, upload)
+    } else {
+        Uploaded { upload, putter }
+    }
 }
 
 // Reads the upload to its end, or until the lane is closed.
 fn upload_all<R: Source + Drop, W: Wait>(
     rt: &W,
-    queue: &Lanes<Sent>,
+    queue: &LaneQueue<Sent>,
     putter: Putter<Sent>,
     upload: Upload<R>,
 ) -> Uploaded<R>
-    requires fresh { IsFreshOf queue.now putter }
+    requires fresh { IsNewPutterOf queue.now putter }
     requires untouched { IsUntouched upload }
     ensures { IsUploaded queue.now (view putter).lane upload result }
 {
@@ -90,14 +113,14 @@ fn upload_all<R: Source + Drop, W: Wait>(
 // Whether more may follow.
 fn put_next<R: Source + Drop, W: Wait>(
     rt: &W,
-    queue: &Lanes<Sent>,
+    queue: &LaneQueue<Sent>,
     putter: &mut Putter<Sent>,
     upload: &mut Upload<R>,
 ) -> bool
-    requires of { IsOf queue.now putter.old }
+    requires of { IsPassOf queue.now putter.old }
     requires putting { IsPutting (view putter.old).put upload.old }
     requires few { length upload.old.given ≤ max_messages }
-    ensures of { IsOf queue.now putter.new }
+    ensures of { IsPassOf queue.now putter.new }
     ensures lane { (view putter.new).lane ≡ (view putter.old).lane }
     ensures few { length upload.new.given ≤ max_messages }
     ensures read { (begun : UploadState R) → IsReadOn begun upload.old → IsReadOn begun upload.new }
@@ -111,20 +134,30 @@ fn put_next<R: Source + Drop, W: Wait>(
 }
 
 // Whether it was put.
-fn send<W: Wait>(rt: &W, queue: &Lanes<Sent>, putter: &mut Putter<Sent>, message: Priced) -> bool
-    requires of { IsOf queue.now putter.old }
+fn send<W: Wait>(
+    rt: &W,
+    queue: &LaneQueue<Sent>,
+    putter: &mut Putter<Sent>,
+    message: Priced,
+) -> bool
+    requires of { IsPassOf queue.now putter.old }
     requires few { length (view putter.old).put ≤ max_messages }
-    ensures of { IsOf queue.now putter.new }
+    ensures of { IsPassOf queue.now putter.new }
     ensures sent { Sends (view putter.old) (view putter.new) false (One message) result }
 {
     is_done(putter.put(rt, queue, Sent::One(message)))
 }
 
 // Nothing may follow.
-fn end_lane<W: Wait>(rt: &W, queue: &Lanes<Sent>, putter: &mut Putter<Sent>, ending: Ending) -> bool
-    requires of { IsOf queue.now putter.old }
+fn end_lane<W: Wait>(
+    rt: &W,
+    queue: &LaneQueue<Sent>,
+    putter: &mut Putter<Sent>,
+    ending: Ending,
+) -> bool
+    requires of { IsPassOf queue.now putter.old }
     requires few { length (view putter.old).put ≤ max_messages }
-    ensures of { IsOf queue.now putter.new }
+    ensures of { IsPassOf queue.now putter.new }
     ensures sent { (done : Bool) × Sends (view putter.old) (view putter.new) true (Last ending) done }
     ensures over { result ≡ false }
 {

@@ -8,7 +8,9 @@ use std::alloc::{AllocError, Global};
 use std::process::Abort;
 use std::test::Fail;
 use stream_fakes::Drip;
-use upload_lanes::{Again, GatherFault, Gathered, Stop, gather_again_in_order, gather_in_order};
+use upload_lanes::{
+    GatherFault, Gathered, RefusedRound, Stop, gather_again_in_order, gather_in_order,
+};
 use upload_reader::{Ending, LaneEnd, Upload};
 
 pub(crate) type Reader = Fed<Drip>;
@@ -373,7 +375,7 @@ fn a_refused_round_gives_back_what_was_gathered(rt: HostRuntime) -> Result<(), F
     let twice = pair(alloc, first, upload(alloc, "c1", &[BYE])?)?;
     let quota = Quota::new(100)?;
     let refused = gather_again_in_order(alloc, after_three(alloc)?, twice, quota, &[0, 1]);
-    let Err(Again { fault, earlier }) = refused else {
+    let Err(RefusedRound { fault, earlier }) = refused else {
         return Err(Fail::from("two lanes of one client were taken"));
     };
     assert_eq!(rt; fault, GatherFault::DuplicateClient);

@@ -16,7 +16,8 @@ use std::thread::Threads;
 use std::{io, thread};
 use stream_fakes::Drip;
 use upload_lanes::{
-    Again, GatherFault, Gathered, LaneResult, Stop, gather, gather_again, gather_again_in_order,
+    GatherFault, Gathered, LaneResult, RefusedRound, Stop, gather, gather_again,
+    gather_again_in_order,
 };
 use upload_reader::{Ending, LaneEnd, Upload};
 
@@ -81,7 +82,7 @@ fn take_again<T: AllocGlobal + Threads + Wait + Sync>(
     rt: &T,
     earlier: Gathered<Reader>,
     uploads: Vec<Upload<Reader>>,
-) -> Result<Result<Gathered<Reader>, Again<Reader>>, Fail>
+) -> Result<Result<Gathered<Reader>, RefusedRound<Reader>>, Fail>
     requires { AllByRecursion IsUntouched uploads.items }
 {
     let halt = |_taken: u64| -> bool { false };
@@ -352,7 +353,7 @@ fn a_refused_round_gives_back_what_was_gathered(rt: HostRuntime) -> Result<(), F
     let alloc = rt.alloc();
     let mut twice = alone(alloc, "c2", &THREE_CLICKS)?;
     add(&mut twice, upload(alloc, "c2", &THREE_CLICKS)?)?;
-    let Err(Again { fault, earlier }) = take_again(&rt, after_three(&rt)?, twice)? else {
+    let Err(RefusedRound { fault, earlier }) = take_again(&rt, after_three(&rt)?, twice)? else {
         return Err(Fail::from("two lanes of one client were taken"));
     };
     assert_eq!(rt; fault, GatherFault::DuplicateClient);

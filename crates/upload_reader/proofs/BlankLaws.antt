@@ -4,7 +4,8 @@ use Rattle.std.proofs.Math.Seq.{take-append_seam}
 use Rattle.byte_streams.specs.CompleteLines.{complete_lines}
 use Rattle.byte_streams.specs.declared.fault.LineFault.{LineFault}
 use Rattle.byte_streams.specs.declared.fault.LineFault.TheVariants.{LineTooLong}
-use Rattle.upload_reader.specs.Front.{line_ends, Passes, joined, LinesBetween}
+use Rattle.upload_reader.specs.Front.{line_ends, Passes, bytes_of_lines}
+use Rattle.upload_reader.specs.inside.Between.{LinesBetween}
 use Rattle.upload_reader.specs.Greeting.{lines_length}
 use Rattle.upload_reader.specs.Limits.{max_line_bytes}
 use Rattle.upload_reader.specs.Message.{is_blank}
@@ -21,11 +22,11 @@ module _ {E : Type 0} (judge : List (List ℕ) → List ℕ → Option E) (stop 
       rw (sym (append_assoc front (line ∷ []) blanks)) (passes_blanks (front ++ line ∷ []) blanks (passes_more max_line_bytes judge stop front line passes none) blank.2)
 
 -- a line has at least its line end
-pub joined_long : (lines : List (List ℕ)) → length lines ≤ length (joined lines)
-joined_long [] = omega arith
-joined_long (line ∷ lines) =
-    let rest = joined_long lines in
-    let all = length-append (line ++ 10 ∷ []) (joined lines) in
+pub lines_long : (lines : List (List ℕ)) → length lines ≤ length (bytes_of_lines lines)
+lines_long [] = omega arith
+lines_long (line ∷ lines) =
+    let rest = lines_long lines in
+    let all = length-append (line ++ 10 ∷ []) (bytes_of_lines lines) in
     let one = length-append line (10 ∷ []) in
     omega (arith, rest, all, one)
 
@@ -34,4 +35,4 @@ pub between_length : (input : List ℕ) (from to : ℕ) (lines : List (List ℕ)
 between_length input from to lines between =
     let here : complete_lines (drop from input) ≡ lines ++ complete_lines (drop to (input ++ [])) = ap (λ bytes. complete_lines (drop from bytes)) (sym (append-nil input)) ∙ between.complete [] in
     let first : take (length lines) (complete_lines (drop from input)) ≡ lines = ap (take (length lines)) here ∙ take-append_seam lines (complete_lines (drop to (input ++ []))) in
-    between.bytes ∙ ap (λ lines. from + length (joined lines)) (sym first)
+    between.bytes ∙ ap (λ lines. from + length (bytes_of_lines lines)) (sym first)

@@ -3,7 +3,8 @@ use Rattle.std.proofs.Common.{◌≡◌, ℕ, ◌+◌, ◌<◌, ◌≤◌, List,
 use Rattle.std.specs.Prelude.{IsSome, option_and_then}
 use Rattle.byte_streams.specs.CompleteLines.{complete_lines, unended}
 use Rattle.byte_streams.specs.Cutting.{cut, line_length}
-use Rattle.upload_reader.specs.Front.{line_ends, rest_ends, Passes, EndsBy, IsTaken, LinesBetween}
+use Rattle.upload_reader.specs.Front.{line_ends, rest_ends, Passes, LinesEndBy, AreLinesTaken}
+use Rattle.upload_reader.specs.inside.Between.{LinesBetween}
 use Rattle.byte_streams.specs.GoesOn.{GoesOn}
 use Rattle.byte_streams.specs.declared.fault.LineFault.{LineFault}
 use Rattle.byte_streams.specs.declared.fault.LineFault.TheVariants.{LineTooLong}
@@ -33,12 +34,12 @@ module _ {E : Type 0} (limit : ℕ) (judge : List (List ℕ) → List ℕ → Op
 
   -- how the bytes behind the front end it
   abbrev Ended : List ℕ → Option LineFault → Option E → Type 0
-  Ended bytes ending end = EndsBy limit judge stop front (complete_lines bytes) (unended bytes) ending end
+  Ended bytes ending end = LinesEndBy limit judge stop front (complete_lines bytes) (unended bytes) ending end
 
   -- ---- a fault in the place of a line
 
   long_first : (lines : List (List ℕ)) (rest : List ℕ) (ending : Option LineFault) (e : E) → stop front LineTooLong ≡ Some e → IsLong limit lines
-      → (lines ≡ [] → limit < length rest) → EndsBy limit judge stop front lines rest ending (Some e)
+      → (lines ≡ [] → limit < length rest) → LinesEndBy limit judge stop front lines rest ending (Some e)
   long_first [] rest ending e said first all = sym (rest_long rest ending (all refl) ∙ said)
   long_first (line ∷ lines) rest ending e said first all = (sym (line_long line first ∙ said), refl)
 
@@ -71,7 +72,7 @@ module _ {E : Type 0} (limit : ℕ) (judge : List (List ℕ) → List ℕ → Op
     (start at : ℕ) (input : List ℕ) (front : List (List ℕ)) (between : LinesBetween input start at front)
     (passes : Passes limit judge stop front) where
   taken_by : (more : List ℕ) (ending : Option LineFault) (end : Option E) → Ended limit judge stop front (drop at (input ++ more)) ending end
-      → IsTaken limit judge stop (drop start (input ++ more)) ending front end
+      → AreLinesTaken limit judge stop (drop start (input ++ more)) ending front end
   taken_by more ending end by = record {
     lines = complete_lines (drop at (input ++ more));
     split = between.complete more;
@@ -97,7 +98,7 @@ module _ {E : Type 0} (limit : ℕ) (judge : List (List ℕ) → List ℕ → Op
   -- A line that was cut and ends it does so however the input goes on.
   pub ends_by_line : (line : List ℕ) (ending : Option LineFault) (e : E) → cut limit (drop at input) ending ≡ Some (Ok line)
       → judge front line ≡ Some e → (input' : List ℕ) (ending' : Option LineFault) → GoesOn input input' ending ending'
-      → IsTaken limit judge stop (drop start input') ending' front (Some e)
+      → AreLinesTaken limit judge stop (drop start input') ending' front (Some e)
   ends_by_line line ending e is said input' ending' goes =
       let few = cut_is_short limit at input line ending is in
       let by : (Some e ≡ line_ends limit judge stop front line) × IsSome (Some e) = (sym (line_short limit judge stop front line few ∙ said), refl) in
@@ -106,14 +107,14 @@ module _ {E : Type 0} (limit : ℕ) (judge : List (List ℕ) → List ℕ → Op
   -- A fault in the place of a line that ends it does so however the input goes on.
   pub ends_by_fault : (ending : Option LineFault) (fault : LineFault) (e : E) → cut limit (drop at input) ending ≡ Some (Err fault)
       → stop front fault ≡ Some e → (input' : List ℕ) (ending' : Option LineFault) → GoesOn input input' ending ending'
-      → IsTaken limit judge stop (drop start input') ending' front (Some e)
+      → AreLinesTaken limit judge stop (drop start input') ending' front (Some e)
   ends_by_fault ending fault e is said input' ending' goes =
       let why = stops limit (drop at input) ending fault is in
       rw (goes.bytes_are)
       (taken_by goes.more ending' (Some e) (fault_by limit judge stop front at input goes.more ending ending' fault e why said goes.ended))
 
   -- Where nothing can be cut yet, nothing has ended it.
-  pub none_yet : cut limit (drop at input) None ≡ None → IsTaken limit judge stop (drop start input) None front None
+  pub none_yet : cut limit (drop at input) None ≡ None → AreLinesTaken limit judge stop (drop start input) None front None
   none_yet is =
       let (none, few) = waits limit (drop at input) is in
       let same : input ++ [] ≡ input = append-nil input in

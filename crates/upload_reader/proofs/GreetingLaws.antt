@@ -1,24 +1,25 @@
 -- How an upload begins, by the first line that isn't blank.
-use Rattle.std.proofs.Common.{◌≡◌, ◌≢◌, ℕ, ◌+◌, List, [], ◌∷◌, ◌++◌, length, drop, true, false, Option, Some, None, Result, Ok, Err, IfSome, inr, refl, ap, ◌∙◌, arith, length-append}
+use Rattle.std.proofs.Common.{◌≡◌, ◌≢◌, ℕ, ◌+◌, ◌≤◌, List, [], ◌∷◌, ◌++◌, length, drop, true, false, Option, Some, None, Result, Ok, Err, IfSome, inr, refl, ap, ◌∙◌, arith, length-append}
 use Rattle.byte_streams.specs.Answers.{Answer, bytes_of}
 use Rattle.byte_streams.specs.Cutting.{cut, ending_of}
 use Rattle.byte_streams.specs.Reading.{Reading, ReadsWhile, input}
 use Rattle.byte_streams.specs.declared.fault.LineFault.{LineFault}
 use Rattle.byte_streams.specs.declared.fault.LineFault.TheVariants as line
 use Rattle.byte_streams.proofs.ReadingLaws.{reads_where}
-use Rattle.upload_reader.specs.Front.{Passes, LinesBetween}
-use Rattle.upload_reader.specs.Greeting.{Greeting, greeting_by, no_greeting, lines_length, hello_fault_of}
+use Rattle.upload_reader.specs.Front.{Passes}
+use Rattle.upload_reader.specs.inside.Between.{LinesBetween}
+use Rattle.upload_reader.specs.Greeting.{Greeting, greeting_at, greeting_by, no_greeting, lines_length, hello_fault_of}
 use Rattle.upload_reader.specs.Hello.{hello_said}
 use Rattle.upload_reader.specs.Limits.{max_line_bytes}
 use Rattle.upload_reader.specs.Message.{is_blank}
 use Rattle.upload_reader.specs.Stream.{kind_of}
-use Rattle.upload_reader.specs.Upload.{Greets, NotGreeted, LeavesFault, Refuses}
-use Rattle.upload_reader.specs.inside.Greeted.{BeginsLines, SaysHello}
+use Rattle.upload_reader.specs.Upload.{Greets, NotGreeted, upload_behind, Begins, LeavesFault, Refuses}
+use Rattle.upload_reader.specs.inside.Greeted.{SaysHello}
 use Rattle.upload_reader.specs.inside.Text.{BlanksBetween, OnlyBlanks, NextText}
 use Rattle.upload_reader.specs.declared.hello_fault.HelloFault.{HelloFault}
 use Rattle.upload_reader.specs.declared.hello_fault.HelloFault.TheVariants.{BadClient, NoHello, Line, NoMemory}
 use Rattle.upload_reader.specs.declared.lane_fault.LaneFault.{LaneFault}
-use Rattle.upload_reader.proofs.BlankLaws.{passes_blanks, between_length, joined_long}
+use Rattle.upload_reader.proofs.BlankLaws.{passes_blanks, between_length, lines_long}
 use Rattle.upload_reader.proofs.FrontLaws.{passes_none}
 use Rattle.upload_reader.proofs.FrontSteps.{ends_by_line, ends_by_fault, none_yet}
 use Rattle.upload_reader.proofs.HelloFaults.{leaves_none}
@@ -29,7 +30,7 @@ skips : (before : List (List ℕ)) (line : List ℕ) → is_blank line ≡ true 
 unfolding greeting_by
 skips before line blank = rw blank refl
 
-greets_by : (before : List (List ℕ)) (line : List ℕ) → is_blank line ≡ false → greeting_by before line ≡ Some (record { lines = length before + 1; answer = hello_said (length before + 1) line })
+greets_by : (before : List (List ℕ)) (line : List ℕ) → is_blank line ≡ false → greeting_by before line ≡ Some (greeting_at (length before + 1) line)
 unfolding greeting_by
 greets_by before line text = rw text refl
 
@@ -73,15 +74,19 @@ module _ {R : Type 0} (old new : Reading R) (number : ℕ) where
     behind : new.place ≡ old.place + lines_length number (drop old.place (input new))
     behind = rw (← counted) (between_length (input new) old.place new.place (next.blanks ++ new.line ∷ []) between)
 
-    pub begins_by : (client : List ℕ) → hello_said number new.line ≡ Ok client → BeginsLines old new client number
+    pub begins_by : (client : List ℕ) → hello_said number new.line ≡ Ok client → Begins old (upload_behind client new [] number)
     begins_by client is = record {
       going = going;
       reads = reads_for_hello cut_one next;
       greets = greets_line (Ok client) is;
+      lane = ap (λ fault. record { earlier = []; lines = number; fault = fault }) next.fault;
+      start = refl;
       behind = behind;
-      fault = next.fault;
-      few = omega (arith, joined_long (next.blanks ++ new.line ∷ []), between.bytes, counted);
+      fresh = (refl, refl);
     }
+
+    pub hello_few : number ≤ new.place
+    hello_few = omega (arith, lines_long (next.blanks ++ new.line ∷ []), between.bytes, counted)
 
     greets_unless : (fault : HelloFault) → SaysHello (Err fault) (hello_said number new.line) → fault ≢ NoMemory → Greets old.place new (record { lines = number; answer = Err fault })
     greets_unless BadClient says some = greets_line (Err BadClient) says

@@ -8,19 +8,20 @@ use Rattle.byte_streams.specs.declared.fault.LineFault.{LineFault}
 use Rattle.byte_streams.specs.declared.fault.LineFault.TheVariants as line
 use Rattle.byte_streams.proofs.ReadingLaws.{bytes_of-append, reads_none, reads_then}
 use Rattle.byte_streams.specs.GoesOn.{GoesOn}
-use Rattle.upload_reader.specs.Front.{IsTaken, LinesBetween, joined}
+use Rattle.upload_reader.specs.Front.{AreLinesTaken, bytes_of_lines}
+use Rattle.upload_reader.specs.inside.Between.{LinesBetween}
 use Rattle.upload_reader.specs.Limits.{max_line_bytes}
 use Rattle.upload_reader.specs.Message.{is_blank, line_said}
 use Rattle.upload_reader.specs.Next.{next_of, failed_reads, IfOver}
-use Rattle.upload_reader.specs.Real.{IfReal}
-use Rattle.upload_reader.specs.Stream.{Costed, Stream, Lane, IsSaid, UnlessHad, IsStreamOf, messages_in, message_in, message_said, said_end, next_number, line_end, stop_end, kind_of}
-use Rattle.upload_reader.specs.inside.Ended.{fault_ending}
-use Rattle.upload_reader.specs.inside.Taken.{Taken, EndsLane, LaneFront, LaneTaken, TakesText, EndsByText, SaysNoMore}
+use Rattle.upload_reader.specs.Stream.{Costed, Stream, StreamStart, IsSaid, UnlessHad, IsStreamOf, messages_in, message_in, message_said, said_end, next_number, line_end, stop_end, kind_of}
+use Rattle.upload_reader.specs.inside.Ended.{fault_ending, EndsByText, IfReal}
+use Rattle.upload_reader.specs.inside.Taken.{Taken, LaneFront, LaneTaken, TakesSaid}
+use Rattle.upload_reader.specs.Upload.{EndsLane, SaysNoMore}
 use Rattle.upload_reader.specs.inside.Text.{AreBlank, BlanksBetween, OnlyBlanks, NextText}
 use Rattle.upload_reader.specs.declared.ending.Ending.{Ending}
 use Rattle.upload_reader.specs.declared.message.Message.{Message}
 use Rattle.upload_reader.specs.declared.ending.Ending.TheVariants.{Over, GaveUp}
-use Rattle.upload_reader.proofs.BlankLaws.{passes_blanks, joined_long}
+use Rattle.upload_reader.proofs.BlankLaws.{passes_blanks, lines_long}
 use Rattle.upload_reader.proofs.FrontLaws.{passes_none}
 use Rattle.upload_reader.proofs.FrontSteps.{takes_line, ends_by_line, ends_by_fault, none_yet}
 use Rattle.upload_reader.proofs.LinesBetween.{between_none, between_then, between_longer}
@@ -28,7 +29,7 @@ use Rattle.upload_reader.proofs.TextLaws.{cut_one, no_line, text_behind}
 
 -- ---- one line
 
-module _ (lane : Lane) where
+module _ (lane : StreamStart) where
   skips : (before : List (List ℕ)) (line : List ℕ) → is_blank line ≡ true → line_end lane before line ≡ None
   unfolding line_end
   skips before line blank = rw blank refl
@@ -57,42 +58,41 @@ stop_calm number line.NoMemory = refl
 stop_calm number fault = refl
 
 -- where the lines had no fault before
-pub is_stream : (lane : Lane) (bytes : List ℕ) (ending : Option LineFault) (stream : Stream) → lane.fault ≡ None → IsSaid lane bytes ending stream → IsStreamOf lane bytes ending stream
+pub is_stream : (lane : StreamStart) (bytes : List ℕ) (ending : Option LineFault) (stream : Stream) → lane.fault ≡ None → IsSaid lane bytes ending stream → IsStreamOf lane bytes ending stream
 is_stream lane bytes ending stream none said = subst (λ had. UnlessHad had lane stream (IsSaid lane bytes ending stream)) (sym none) said
 
 -- ---- a lane that begins
 
-pub begins_taken : {R : Type 0} (lane : Lane) (lines : Reading R) (taken : Taken) → taken ≡ record { lines = lane.lines; given = [] } → lane.lines ≤ lines.place → lane.fault ≡ lines.fault → (lane.fault ≡ None → failures_told lines.fault ≡ 0)
-    → LaneTaken lane lines.place lines taken None
-begins_taken lane lines taken is few same calm = record {
+pub begins_taken : {R : Type 0} (lines : Reading R) (taken : Taken) → taken.lines ≡ taken.lane.lines → taken.given ≡ [] → taken.lines ≤ lines.place → taken.lane.fault ≡ lines.fault
+    → (taken.lane.fault ≡ None → failures_told lines.fault ≡ 0) → LaneTaken lines.place lines taken None
+begins_taken lines taken is none few same calm = record {
   at = lines.place;
-  behind = record { front = []; between = between_none (input lines) lines.place; passes = passes_none max_line_bytes (line_end lane) (stop_end lane); says = ap (λ taken. taken.given) is };
+  behind = record { front = []; between = between_none (input lines) lines.place; passes = passes_none max_line_bytes (line_end taken.lane) (stop_end taken.lane); says = none };
   had = λ some. refl;
-  numbered = rw is few;
-  here = λ going. (refl, ap (λ taken. taken.lines) is ∙ omega arith, sym same);
+  numbered = few;
+  here = λ going. (refl, is ∙ omega arith, sym same);
   ended = tt;
   real = tt;
   failures = calm;
 }
 
-taken_by : (taken : Taken) (lines : ℕ) (given : List Costed) → taken.lines ≡ lines → taken.given ≡ given → taken ≡ record { lines = lines; given = given }
-taken_by taken lines given is same = rw (← is, ← same) refl
-
 -- one of which nothing was taken begins behind any other messages
-pub begins_again : {R : Type 0} (lane : Lane) (earlier : List Message) (start : ℕ) (lines : Reading R) (taken : Taken) → LaneTaken lane start lines taken None → taken.given ≡ [] → lines.place ≡ start
-    → LaneTaken (record lane { earlier = earlier }) start lines taken None
-begins_again lane earlier start lines taken stands none place =
+pub begins_again : {R : Type 0} (earlier : List Message) (start : ℕ) (lines : Reading R) (taken : Taken) → LaneTaken start lines taken None → taken.given ≡ [] → lines.place ≡ start
+    → LaneTaken start lines (record taken { lane = record taken.lane { earlier = earlier } }) None
+begins_again earlier start lines taken stands none place =
     let (at, number, same) = stands.here refl in
-    let long : length stands.behind.front ≤ length (joined stands.behind.front) = joined_long stands.behind.front in
-    let bytes : stands.at ≡ start + length (joined stands.behind.front) = stands.behind.between.bytes in
-    let lines_are : taken.lines ≡ lane.lines = omega (arith, at, number, long, bytes, place) in
-    let few : lane.lines ≤ lines.place = omega (arith, lines_are, stands.numbered) in
-    subst (λ s. LaneTaken (record lane { earlier = earlier }) s lines taken None) place
-    (begins_taken (record lane { earlier = earlier }) lines taken (taken_by taken lane.lines [] lines_are none) few (sym same) stands.failures)
+    let long : length stands.behind.front ≤ length (bytes_of_lines stands.behind.front) = lines_long stands.behind.front in
+    let bytes : stands.at ≡ start + length (bytes_of_lines stands.behind.front) = stands.behind.between.bytes in
+    let lines_are : taken.lines ≡ taken.lane.lines = omega (arith, at, number, long, bytes, place) in
+    let again : Taken = record taken { lane = record taken.lane { earlier = earlier } } in
+    subst (λ s. LaneTaken s lines again None) place (begins_taken lines again lines_are none stands.numbered (sym same) stands.failures)
 
 -- ---- behind blank lines
 
-module _ {R : Type 0} (lane : Lane) (start : ℕ) (old new : Reading R) (taken : Taken) (number : ℕ) (stands : LaneTaken lane start old taken None) where
+module _ {R : Type 0} (start : ℕ) (old new : Reading R) (taken : Taken) (number : ℕ) (stands : LaneTaken start old taken None) where
+  abbrev lane : StreamStart
+  lane = taken.lane
+
   -- blank lines behind the front give nothing more
   abbrev past_blanks : (later more : List Answer) (to : ℕ) (blanks : List (List ℕ)) → later ≡ old.answers ++ more → BlanksBetween (bytes_of later) old.place to blanks → LaneFront lane start (bytes_of later) to taken.given
   past_blanks later more to blanks grown passed =
@@ -116,75 +116,80 @@ module _ {R : Type 0} (lane : Lane) (start : ℕ) (old new : Reading R) (taken :
 
 -- ---- what the line there does
 
-module _ {R : Type 0} (lane : Lane) (start : ℕ) (old new : Reading R) (taken taken' : Taken) (number : ℕ) (stands : LaneTaken lane start old taken None) (none : lane.fault ≡ None) where
+module _ {R : Type 0} (start : ℕ) (old new : Reading R) (taken taken' : Taken) (number : ℕ) (stands : LaneTaken start old taken None) (none : taken.lane.fault ≡ None) where
+  abbrev begun : StreamStart
+  begun = taken.lane
+
   going : old.fault ≡ None
   going = (stands.here refl).2 ∙ none
 
-  no_had : {X : Type 0} → IsSome lane.fault → X
+  no_had : {X : Type 0} → IsSome begun.fault → X
   no_had some = let never : IsSome {T = LineFault} None = rw none at some in absurd (cc)
 
   module _ {result : Result (Unit {0}) LineFault} (next : NextText taken.lines old new number result) where
-    abbrev here : LaneFront lane start (input new) next.at taken.given
-    here = past_blanks lane start old new taken number stands new.answers next.reads.more next.at next.blanks next.reads.answers next.passed
+    abbrev here : LaneFront begun start (input new) next.at taken.given
+    here = past_blanks start old new taken number stands new.answers next.reads.more next.at next.blanks next.reads.answers next.passed
 
-    number_is : number ≡ next_number lane here.front
+    number_is : number ≡ next_number begun here.front
     number_is = omega (arith, next.number_is, (stands.here refl).1, length-append stands.behind.front next.blanks)
 
     -- so the lane ends behind that front, however the input goes on
     abbrev EndsHere : Ending → Type 0
-    EndsHere ending = IfOver (next_of ending) (λ end. (input' : List ℕ) (ending' : Option LineFault) → GoesOn (input new) input' (ending_of new.answers) ending' → IsTaken max_line_bytes (line_end lane) (stop_end lane) (drop start input') ending' here.front (Some end))
+    EndsHere ending = IfOver (next_of ending) (λ end. (input' : List ℕ) (ending' : Option LineFault) → GoesOn (input new) input' (ending_of new.answers) ending' → AreLinesTaken max_line_bytes (line_end begun) (stop_end begun) (drop start input') ending' here.front (Some end))
 
-    ended_by : (ending : Ending) → EndsHere ending → IfOver (next_of ending) (EndsLane lane start new taken.given)
-    ended_by (Over end) ends = λ input' ending' goes. is_stream lane (drop start input') ending' _ none (record { front = here.front; taken = ends input' ending' goes; messages = here.says })
+    ended_by : (ending : Ending) → EndsHere ending → IfOver (next_of ending) (EndsLane begun start new taken.given)
+    ended_by (Over end) ends = λ input' ending' goes. is_stream begun (drop start input') ending' _ none (record { front = here.front; taken = ends input' ending' goes; messages = here.says })
     ended_by GaveUp ends = tt
 
-    over_by : (ending : Ending) → taken' ≡ taken → EndsHere ending → IfReal ending → failures_told new.fault ≡ failed_reads (Some ending) → LaneTaken lane start new taken' (Some ending)
-    over_by ending same ends real calm = record {
-      at = next.at;
-      behind = rw same here;
-      had = λ some. no_had some;
-      numbered = rw same (omega (arith, stands.numbered, next.passed.between.bytes, text_behind result next));
-      here = λ never. absurd (cc);
-      ended = rw same (ended_by ending ends);
-      real = real;
-      failures = λ none. calm;
-    }
+    over_by : (ending : Ending) → taken' ≡ taken → EndsHere ending → IfReal ending → failures_told new.fault ≡ failed_reads (Some ending) → LaneTaken start new taken' (Some ending)
+    over_by ending same ends real calm = rw same
+        (record {
+          at = next.at;
+          behind = here;
+          had = λ some. no_had some;
+          numbered = omega (arith, stands.numbered, next.passed.between.bytes, text_behind result next);
+          here = λ never. absurd (cc);
+          ended = ended_by ending ends;
+          real = real;
+          failures = λ none. calm;
+        })
 
   module _ (next : NextText taken.lines old new number cut_one) where
-    ends_here : line_end lane (here next).front new.line ≡ said_end lane.earlier taken.given number (line_said new.line)
-    ends_here = ends_as lane (here next).front new.line next.text ∙ ap (λ given. said_end lane.earlier given (next_number lane (here next).front) (line_said new.line)) (sym (here next).says) ∙ ap (λ n. said_end lane.earlier taken.given n (line_said new.line)) (sym (number_is next))
+    ends_here : line_end begun (here next).front new.line ≡ said_end begun.earlier taken.given number (line_said new.line)
+    ends_here = ends_as begun (here next).front new.line next.text ∙ ap (λ given. said_end begun.earlier given (next_number begun (here next).front) (line_said new.line)) (sym (here next).says) ∙ ap (λ n. said_end begun.earlier taken.given n (line_said new.line)) (sym (number_is next))
 
     -- a message was given
-    pub taken_message : (costed : Costed) → TakesText lane number new.line taken taken' (Ok costed) → LaneTaken lane start new taken' None
+    pub taken_message : (costed : Costed) → TakesSaid number (line_said new.line) (length new.line) taken taken' (Ok costed) → LaneTaken start new taken' None
     taken_message costed (says, fits, is) =
         let front = (here next).front in
-        let (between, passes) = takes_line max_line_bytes (line_end lane) (stop_end lane) start next.at (input new) front (here next).between (here next).passes new.line (ending_of new.answers) (next.tells going) (ends_here ∙ fits) in
-        record {
+        let (between, passes) = takes_line max_line_bytes (line_end begun) (stop_end begun) start next.at (input new) front (here next).between (here next).passes new.line (ending_of new.answers) (next.tells going) (ends_here ∙ fits) in
+        rw is
+        (record {
           at = next.at + length new.line + 1;
           behind = record {
             front = front ++ new.line ∷ [];
             between = between;
             passes = passes;
-            says = ap (λ taken. taken.given) is ∙ ap (λ given. given ++ costed ∷ []) (here next).says ∙ sym (messages_more front (new.line ∷ []) ∙ ap (λ more. messages_in front ++ more) (text_says new.line costed next.text says));
+            says = ap (λ given. given ++ costed ∷ []) (here next).says ∙ sym (messages_more front (new.line ∷ []) ∙ ap (λ more. messages_in front ++ more) (text_says new.line costed next.text says));
           };
           had = λ some. no_had some;
-          numbered = rw is (omega (arith, next.number_is, stands.numbered, next.passed.between.bytes, joined_long next.blanks, next.place));
-          here = λ still. (sym next.place, ap (λ taken. taken.lines) is ∙ omega (arith, number_is next, length-append front (new.line ∷ [])), next.fault ∙ sym none);
+          numbered = omega (arith, next.number_is, stands.numbered, next.passed.between.bytes, lines_long next.blanks, next.place);
+          here = λ still. (sym next.place, omega (arith, number_is next, length-append front (new.line ∷ [])), next.fault ∙ sym none);
           ended = tt;
           real = tt;
           failures = λ none. rw next.fault refl;
-        }
+        })
 
     -- the lane ended by what the line says
-    pub taken_end : (ending : Ending) → TakesText lane number new.line taken taken' (Err ending) → EndsByText ending → LaneTaken lane start new taken' (Some ending)
+    pub taken_end : (ending : Ending) → TakesSaid number (line_said new.line) (length new.line) taken taken' (Err ending) → EndsByText ending → LaneTaken start new taken' (Some ending)
     taken_end (Over end) (says, same) (real, calm) =
-        over_by next (Over end) same (ends_by_line max_line_bytes (line_end lane) (stop_end lane) start next.at (input new) (here next).front (here next).between (here next).passes new.line (ending_of new.answers) end (next.tells going) (ends_here ∙ says)) real (rw next.fault (sym calm))
+        over_by next (Over end) same (ends_by_line max_line_bytes (line_end begun) (stop_end begun) start next.at (input new) (here next).front (here next).between (here next).passes new.line (ending_of new.answers) end (next.tells going) (ends_here ∙ says)) real (rw next.fault (sym calm))
     taken_end GaveUp same (real, calm) = over_by next GaveUp same tt tt (rw next.fault refl)
 
   -- there is no line
-  pub taken_stop : (fault : LineFault) (next : NextText taken.lines old new number (no_line fault)) → taken' ≡ taken → LaneTaken lane start new taken' (Some (fault_ending number (kind_of fault)))
+  pub taken_stop : (fault : LineFault) (next : NextText taken.lines old new number (no_line fault)) → taken' ≡ taken → LaneTaken start new taken' (Some (fault_ending number (kind_of fault)))
   taken_stop fault next same = over_by next _ same (stops fault next) (stop_real number fault) (rw next.fault (stop_calm number fault))
     where
       stops : (fault : LineFault) (next : NextText taken.lines old new number (no_line fault)) → EndsHere next (fault_ending number (kind_of fault))
       stops line.NoMemory next = tt
-      stops fault next = ends_by_fault max_line_bytes (line_end lane) (stop_end lane) start next.at (input new) (here next).front (here next).between (here next).passes (ending_of new.answers) fault _ (next.tells going) (rw (← number_is next) refl)
+      stops fault next = ends_by_fault max_line_bytes (line_end begun) (stop_end begun) start next.at (input new) (here next).front (here next).between (here next).passes (ending_of new.answers) fault _ (next.tells going) (rw (← number_is next) refl)

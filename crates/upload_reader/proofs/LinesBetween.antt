@@ -3,7 +3,8 @@ use Rattle.std.proofs.Common.{◌≡◌, ℕ, ◌+◌, List, [], ◌∷◌, ◌+
 use Rattle.std.proofs.lemmas.Grind.{flat_map-append}
 use Rattle.byte_streams.specs.CompleteLines.{complete_lines}
 use Rattle.byte_streams.specs.Cutting.{cut}
-use Rattle.upload_reader.specs.Front.{joined, LinesBetween}
+use Rattle.upload_reader.specs.Front.{bytes_of_lines}
+use Rattle.upload_reader.specs.inside.Between.{LinesBetween}
 use Rattle.byte_streams.specs.declared.fault.LineFault.{LineFault}
 use Rattle.byte_streams.proofs.CutLaws.{lines_from, unended_from}
 
@@ -15,8 +16,8 @@ between_none input at = record { complete = λ more. refl; rest = λ more. refl;
 pub between_then : (input : List ℕ) (a b c : ℕ) (xs ys : List (List ℕ)) → LinesBetween input a b xs → LinesBetween input b c ys
     → LinesBetween input a c (xs ++ ys)
 between_then input a b c xs ys first second =
-    let both : joined (xs ++ ys) ≡ joined xs ++ joined ys = flat_map-append (λ line. line ++ 10 ∷ []) xs ys in
-    let size : length (joined (xs ++ ys)) ≡ length (joined xs) + length (joined ys) = ap length both ∙ length-append (joined xs) (joined ys) in
+    let both : bytes_of_lines (xs ++ ys) ≡ bytes_of_lines xs ++ bytes_of_lines ys = flat_map-append (λ line. line ++ 10 ∷ []) xs ys in
+    let size : length (bytes_of_lines (xs ++ ys)) ≡ length (bytes_of_lines xs) + length (bytes_of_lines ys) = ap length both ∙ length-append (bytes_of_lines xs) (bytes_of_lines ys) in
     let here = first.bytes in
     let there = second.bytes in
     record {

@@ -16,10 +16,9 @@ use Rattle.xpath_child.specs.declared.fault.PathFaultKind.TheVariants as path_fa
 use Rattle.xpath_child.proofs.RealFaults.{path_fault_real}
 use Rattle.upload_reader.specs.Limits.{max_number}
 use Rattle.upload_reader.specs.Member.{if_within, number_in, member_text, page_said, path_said, path_if_any, value_in, json_said}
-use Rattle.upload_reader.specs.Message.{visit_in, load_in, input_in, click_in, submit_in, ended_in, says, kind_said, value_said, is_blank, line_said}
-use Rattle.upload_reader.specs.Positive.{IsPositive}
+use Rattle.upload_reader.specs.Message.{visit_in, load_in, input_in, click_in, submit_in, ended_in, says, kind_said, value_said, is_blank, line_said, IsPositive}
 use Rattle.upload_reader.specs.Real.{is_page_fault, is_path_fault}
-use Rattle.upload_reader.specs.inside.Taken.{EndsByText}
+use Rattle.upload_reader.specs.inside.Ended.{EndsByText}
 use Rattle.upload_reader.specs.declared.ending.Ending.TheVariants.{Over}
 use Rattle.upload_reader.specs.declared.lane_fault.LaneEnd.TheVariants.{Fault}
 use Rattle.upload_reader.specs.declared.lane_fault.LaneFault.{LaneFault}

@@ -8,11 +8,11 @@ use Rattle.byte_streams.specs.Reading.{Reading, ReadsWhile, NoLineYet, Advances,
 use Rattle.byte_streams.specs.declared.fault.LineFault.{LineFault}
 use Rattle.byte_streams.proofs.CutLaws.{cut_is_short}
 use Rattle.byte_streams.proofs.ReadingLaws.{bytes_of-append, reads_none, reads_then}
-use Rattle.upload_reader.specs.Front.{LinesBetween}
+use Rattle.upload_reader.specs.inside.Between.{LinesBetween}
 use Rattle.upload_reader.specs.Limits.{max_line_bytes}
 use Rattle.upload_reader.specs.Message.{is_blank}
 use Rattle.upload_reader.specs.inside.Text.{AreBlank, BlanksBetween, OnlyBlanks, NextText, PassesBlanks}
-use Rattle.upload_reader.proofs.BlankLaws.{joined_long}
+use Rattle.upload_reader.proofs.BlankLaws.{lines_long}
 use Rattle.upload_reader.proofs.LinesBetween.{between_none, between_then, between_longer, between_line}
 
 blanks_longer : (input more : List ℕ) (from to : ℕ) (blanks : List (List ℕ)) → BlanksBetween input from to blanks → BlanksBetween (input ++ more) from to blanks
@@ -99,7 +99,7 @@ module _ {R : Type 0} (before lines : ℕ) (old now new : Reading R) (passes : P
 
   -- there are at most as many lines as bytes
   pub lines_few : before ≤ old.place → lines ≤ now.place
-  lines_few few = let long = joined_long passes.blanks in let bytes = passes.passed.between.bytes in omega (arith, passes.lines_are, long, bytes, few)
+  lines_few few = let long = lines_long passes.blanks in let bytes = passes.passed.between.bytes in omega (arith, passes.lines_are, long, bytes, few)
 
 -- ---- what stands behind the blank lines
 

@@ -3,7 +3,7 @@ use Rattle.std.specs.Prelude.{ℕ, ◌+◌, List, length, take, if◌then◌else
 use Rattle.std.specs.Option.{option_map_or}
 use Rattle.byte_streams.specs.CompleteLines.{complete_lines}
 use Rattle.byte_streams.specs.declared.fault.LineFault.{LineFault}
-use Rattle.upload_reader.specs.Front.{IsTaken, joined}
+use Rattle.upload_reader.specs.Front.{AreLinesTaken, bytes_of_lines}
 use Rattle.upload_reader.specs.Hello.{hello_said}
 use Rattle.upload_reader.specs.Limits.{max_line_bytes}
 use Rattle.upload_reader.specs.Message.{is_blank}
@@ -16,22 +16,28 @@ pub record Greeting : Type 0 where
   pub lines : ℕ
   pub answer : Result (List ℕ) HelloFault
 
--- what a line says as a hello behind these; none where it is blank
-unfoldable pub greeting_by : List (List ℕ) → List ℕ → Option Greeting
-greeting_by before line = if is_blank line then None else Some (record { lines = length before + 1; answer = hello_said (length before + 1) line })
+-- what the line of that number says as a hello
+abbrev pub greeting_at : ℕ → List ℕ → Greeting
+greeting_at number line = record { lines = number; answer = hello_said number line }
 
--- why there is no line behind these
+-- what a line says so behind these; none where it is blank
+unfoldable pub greeting_by : List (List ℕ) → List ℕ → Option Greeting
+greeting_by before line = if is_blank line then None else Some (greeting_at (length before + 1) line)
+
+-- why there is no line behind these (`U3`)
 abbrev pub no_greeting : List (List ℕ) → LineFault → Option Greeting
-no_greeting before fault = option_map (λ kind. record { lines = length before; answer = Err (Line (length before + 1) kind) }) (kind_of fault)
+no_greeting before fault =
+    option_map (λ kind. record { lines = length before; answer = Err (Line (length before + 1) kind) }) (kind_of fault)
 
 -- How an upload begins whose bytes are these, which end so; none where the input may go on.
 abbrev pub IsGreetingOf : List ℕ → Option LineFault → Option Greeting → Type 0
-IsGreetingOf bytes ending greeting = (front : List (List ℕ)) × IsTaken max_line_bytes greeting_by no_greeting bytes ending front greeting
+IsGreetingOf bytes ending greeting =
+    (front : List (List ℕ)) × AreLinesTaken max_line_bytes greeting_by no_greeting bytes ending front greeting
 
 -- how many bytes the first lines have, with their line ends
 abbrev pub lines_length : ℕ → List ℕ → ℕ
-lines_length n bytes = length (joined (take n (complete_lines bytes)))
+lines_length n bytes = length (bytes_of_lines (take n (complete_lines bytes)))
 
--- why there is no next line, as a hello's fault
+-- why there is no next line, as a hello's fault; `U4` for want of memory
 abbrev pub hello_fault_of : ℕ → LineFault → HelloFault
 hello_fault_of number fault = option_map_or (Line number) (kind_of fault) NoMemory

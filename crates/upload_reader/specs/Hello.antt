@@ -1,4 +1,5 @@
--- What the first line of an upload that isn't blank says: this project's own format, over RFC 8259. Unknown members are ignored.
+-- What the first line of an upload that isn't blank says: this project's own format, over RFC 8259. Unknown members are
+-- ignored.
 use Rattle.std.specs.Prelude.{ℕ, List, if◌then◌else◌, Bool, false, Option, Some, None, Result, Ok, Err, codes}
 use Rattle.std.specs.Option.{option_map_or}
 use Rattle.std.specs.Result.{result_map_both}
@@ -13,15 +14,18 @@ use Rattle.upload_reader.specs.declared.hello_fault.HelloFault.TheVariants.{BadC
 abbrev pub is_hello : Option (List ℕ) → Bool
 is_hello kind = option_map_or (λ given. bytes_eq given (codes "hello")) kind false
 
+-- `U1` where there is no client's name
 abbrev pub client_said : Option (List ℕ) → Result (List ℕ) HelloFault
 client_said None = Err BadClient
 client_said (Some text) = if is_client text then Ok text else Err BadClient
 
--- by the members `t` and `client`
+-- by the members `t` and `client`; `U2` where it is no hello
 unfoldable pub greeting_said : Data → Result (List ℕ) HelloFault
-greeting_said d = if is_hello (text_in (codes "t") d) then client_said (text_in (codes "client") d) else Err NoHello
+greeting_said d =
+    if is_hello (text_in (codes "t") d) then client_said (text_in (codes "client") d) else Err NoHello
 
--- The name that the line of that number says as a hello. A line that is no JSON text has that fault, with its number (`U3`).
+-- The name that the line of that number says as a hello. A line that is no JSON text has that fault, with its number
+-- (`U3`).
 abbrev pub hello_said : ℕ → List ℕ → Result (List ℕ) HelloFault
 hello_said number line = result_map_both (λ d. d) (Line number) (json_said line) >>= greeting_said
 

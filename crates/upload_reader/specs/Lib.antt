@@ -11,5 +11,4 @@ pub mod Greeting
 pub mod Upload
 pub mod Next
 pub mod Real
-pub mod Positive
 pub mod inside

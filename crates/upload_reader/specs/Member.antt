@@ -19,11 +19,11 @@ use Rattle.upload_reader.specs.Limits.{max_number}
 unfoldable pub value_in : List ℕ → Option Data
 value_in line = if is_utf8 line then read line else None
 
--- the same with the fault of a line that is none
+-- the same with the fault of a line that is none (`E5`)
 abbrev pub json_said : List ℕ → Result Data LaneFault
 json_said line = ok_or (value_in line) NotJson
 
--- the member's value, whatever it is
+-- The member's value, whatever it is. Each fault of a member is `E6`.
 abbrev pub member_at : List ℕ → Data → Result Data LaneFault
 member_at name d = ok_or (get name d) BadMessage
 
@@ -53,13 +53,14 @@ member_text name d = ok_or (text_in name d) BadMessage
 
 -- none where the member is absent
 abbrev pub optional_text_at : List ℕ → Data → Result (Option (List ℕ)) LaneFault
-optional_text_at name d = ok_or (option_map_or (λ value. option_map Some (as_str value)) (get name d) (Some None)) BadMessage
+optional_text_at name d =
+    ok_or (option_map_or (λ value. option_map Some (as_str value)) (get name d) (Some None)) BadMessage
 
--- the page that a value stands for
+-- the page that a value stands for; else `E7`
 unfoldable pub page_said : Data → Result Tree LaneFault
 page_said d = result_map_both (λ page. page) BadPage (page_or_fault d)
 
--- the path that has the text
+-- the path that has the text; else `E8`
 unfoldable pub path_said : List ℕ → Result (List Step) LaneFault
 path_said text = result_map_both (λ path. path) BadTarget (path_in text)
 

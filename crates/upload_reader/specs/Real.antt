@@ -1,11 +1,9 @@
 -- Which faults an input can have by itself: this project's own rule. Want of memory is no fault of the input.
-use Rattle.std.specs.Prelude.{◌≡◌, Bool, true, false}
+use Rattle.std.specs.Prelude.{Bool, true, false}
 use Rattle.page_tree.specs.declared.fault.PageFault.{PageFault}
 use Rattle.page_tree.specs.declared.fault.PageFault.TheVariants as page_fault
 use Rattle.xpath_child.specs.declared.fault.PathFaultKind.{PathFaultKind}
 use Rattle.xpath_child.specs.declared.fault.PathFaultKind.TheVariants as path_fault
-use Rattle.upload_reader.specs.declared.ending.Ending.{Ending}
-use Rattle.upload_reader.specs.declared.ending.Ending.TheVariants.{Over, GaveUp}
 use Rattle.upload_reader.specs.declared.lane_fault.LaneEnd.{LaneEnd}
 use Rattle.upload_reader.specs.declared.lane_fault.LaneEnd.TheVariants.{Bye, Fault}
 use Rattle.upload_reader.specs.declared.lane_fault.LaneFault.{LaneFault}
@@ -36,8 +34,3 @@ is_lane_fault kind = true
 abbrev pub is_real : LaneEnd → Bool
 is_real Bye = true
 is_real (Fault line kind) = is_lane_fault kind
-
--- an upload that is over ended so; one that gave up did not
-abbrev pub IfReal : Ending → Type 0
-IfReal (Over end) = is_real end ≡ true
-IfReal GaveUp = Unit {0}

@@ -8,19 +8,22 @@ use Rattle.byte_streams.specs.declared.fault.LineFault.{LineFault}
 use Rattle.byte_streams.specs.declared.fault.LineFault.TheVariants as line
 use Rattle.byte_streams.specs.declared.fault.LineFault.TheVariants.{ReadFailed, TooManyReads, Truncated, LineTooLong}
 use Rattle.upload_reader.specs.Greeting.{Greeting, IsGreetingOf, lines_length, hello_fault_of}
-use Rattle.upload_reader.specs.Stream.{Costed, Stream, Lane, IsStreamOf, BeginsWith}
+use Rattle.upload_reader.specs.Next.{given_by, ending_by}
+use Rattle.upload_reader.specs.Stream.{Costed, Stream, StreamStart, IsStreamOf, BeginsWith}
 use Rattle.upload_reader.specs.declared.ending.Ending.{Ending}
 use Rattle.upload_reader.specs.declared.hello_fault.HelloFault.{HelloFault}
 use Rattle.upload_reader.specs.declared.hello_fault.HelloFault.TheVariants.{Line, NoMemory}
 use Rattle.upload_reader.specs.declared.lane_fault.LaneEnd.{LaneEnd}
 use Rattle.upload_reader.specs.declared.lane_fault.LaneFault.TheVariants as lane
+use Rattle.upload_reader.specs.declared.message.Message.{Message}
+use Rattle.upload_reader.specs.declared.next.Next.{Next}
 
 pub record UploadState (R : Type 0) : Type 0 where
   -- its client's name
   pub client : List ℕ
   pub lines : Reading R
   -- the lane, and behind how many of the bytes it begins
-  pub lane : Lane
+  pub lane : StreamStart
   pub start : ℕ
   -- the messages that were given, in order, and the last answer where that ended it
   pub given : List Costed
@@ -30,16 +33,28 @@ pub record UploadState (R : Type 0) : Type 0 where
 abbrev pub lane_bytes : {R : Type 0} → UploadState R → List ℕ → List ℕ
 lane_bytes upload bytes = drop upload.start bytes
 
+-- it is so however the input of these lines goes on
+abbrev pub OnEachInput : {R : Type 0} → Reading R → (List ℕ → Option LineFault → Type 0) → Type 0
+OnEachInput lines IsSo =
+    (input' : List ℕ) → (ending' : Option LineFault)
+    → GoesOn (input lines) input' (ending_of lines.answers) ending' → IsSo input' ending'
+
 -- ---- how an upload begins
 
 -- however the input of these lines goes on, the upload that begins at this place begins so
 abbrev pub Greets : {R : Type 0} → ℕ → Reading R → Greeting → Type 0
 Greets place lines greeting =
-    (input' : List ℕ) → (ending' : Option LineFault) → GoesOn (input lines) input' (ending_of lines.answers) ending' → IsGreetingOf (drop place input') ending' (Some greeting)
+    OnEachInput lines (λ input' ending'. IsGreetingOf (drop place input') ending' (Some greeting))
 
 -- what was read doesn't tell how the upload begins
 abbrev pub NotGreeted : ℕ → List Answer → Type 0
 NotGreeted place answers = IsGreetingOf (drop place (bytes_of answers)) None None
+
+-- the upload of that client whose lane begins here, behind that session and so many lines
+abbrev pub upload_behind : {R : Type 0} → List ℕ → Reading R → List Message → ℕ → UploadState R
+upload_behind client lines earlier number =
+    let lane : StreamStart = record { earlier = earlier; lines = number; fault = lines.fault } in
+    record { client = client; lines = lines; lane = lane; start = lines.place; given = []; ending = None }
 
 -- The upload begins behind its hello, which the lines hold: its client, and a lane with nothing said before.
 pub record Begins {R : Type 0} (old : Reading R) (upload : UploadState R) : Type 0 where
@@ -64,8 +79,10 @@ LeavesFault refused fault = fault ≡ None
 pub record Refuses {R : Type 0} (old new : Reading R) (fault : HelloFault) : Type 0 where
   pub reads : ReadsWhile (NotGreeted old.place) old new
   pub lines : ℕ
-  pub greets : old.fault ≡ None → fault ≢ NoMemory → Greets old.place new (record { lines = lines; answer = Err fault })
-  pub place : old.fault ≡ None → fault ≢ NoMemory → new.place ≡ old.place + lines_length lines (drop old.place (input new))
+  pub greets : old.fault ≡ None → fault ≢ NoMemory
+      → Greets old.place new (record { lines = lines; answer = Err fault })
+  pub place : old.fault ≡ None → fault ≢ NoMemory
+      → new.place ≡ old.place + lines_length lines (drop old.place (input new))
   pub behind : old.place ≤ new.place
   pub leaves : LeavesFault fault new.fault
   pub again : IfSome old.fault (λ had. (fault ≡ hello_fault_of 1 had) × (new ≡ old))
@@ -78,18 +95,32 @@ pub record IsUntouched {R : Type 0} (upload : UploadState R) : Type 0 where
 
 -- ---- what is given of it
 
+-- the upload after that answer, for which its lines were read so far
+abbrev pub with_answer : {R : Type 0} → Next → Reading R → UploadState R → UploadState R
+with_answer answer lines upload =
+    record upload { lines = lines; given = upload.given ++ given_by answer; ending = ending_by answer }
+
 -- however the input goes on, the messages of the lane begin with those that were given
 abbrev pub GivesFirst : {R : Type 0} → UploadState R → Type 0
 GivesFirst upload =
-    (more : List ℕ) → (ending : Option LineFault)
-    → (stream : Stream) × IsStreamOf upload.lane (lane_bytes upload (input upload.lines ++ more)) ending stream × BeginsWith upload.given stream.messages
+    (more : List ℕ) (ending : Option LineFault) → (stream : Stream)
+    × IsStreamOf upload.lane (lane_bytes upload (input upload.lines ++ more)) ending stream
+    × BeginsWith upload.given stream.messages
 
--- however it goes on, these are the messages of the lane, and this is its end
+-- However the input of these lines goes on, the lane that begins at this place has these messages and this end.
+abbrev pub EndsLane : {R : Type 0} → StreamStart → ℕ → Reading R → List Costed → LaneEnd → Type 0
+EndsLane lane start lines given end =
+    OnEachInput lines (λ input' ending'.
+    IsStreamOf lane (drop start input') ending' (record { messages = given; end = Some end }))
+
+-- so its messages are these, and its end is this
 abbrev pub EndsBy : {R : Type 0} → UploadState R → LaneEnd → Type 0
-EndsBy upload end =
-    (input' : List ℕ) → (ending' : Option LineFault) → GoesOn (input upload.lines) input' (ending_of upload.lines.answers) ending'
-    → IsStreamOf upload.lane (lane_bytes upload input') ending' (record { messages = upload.given; end = Some end })
+EndsBy upload end = EndsLane upload.lane upload.start upload.lines upload.given end
 
--- what was read holds no further message and no end
+-- what was read holds no further message of that lane and no end
+abbrev pub SaysNoMore : StreamStart → ℕ → List Costed → List Answer → Type 0
+SaysNoMore lane start given answers =
+    IsStreamOf lane (drop start (bytes_of answers)) None (record { messages = given; end = None })
+
 abbrev pub NothingMore : {R : Type 0} → UploadState R → List Answer → Type 0
-NothingMore upload answers = IsStreamOf upload.lane (lane_bytes upload (bytes_of answers)) None (record { messages = upload.given; end = None })
+NothingMore upload answers = SaysNoMore upload.lane upload.start upload.given answers

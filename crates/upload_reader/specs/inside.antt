@@ -1,3 +1,4 @@
+pub mod Between
 pub mod Counting
 pub mod Ended
 pub mod Greeted

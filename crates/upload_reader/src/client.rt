@@ -33,7 +33,7 @@ impl Model for Client {
 }
 
 impl Client {
-    /// The client of that name.
+    /// The client of that name; U1 where a client can't have it.
     pub fn read(alloc: Global, text: &str) -> Result<Client, HelloFault>
         ensures ok { IfOk result (λ client. (client ≡ text.now) × IsTrue (is_client text.now)) }
         ensures refused { IfErr result (λ fault. fault ≢ NoMemory → (fault ≡ BadClient) × ¬ IsTrue (is_client text.now)) }

@@ -1,8 +1,5 @@
 //! What is kept of an open visit.
 ghost use Rattle.std.specs.Prelude.{◌≡◌, ◌+◌, ◌<◌, ◌^◌};
-ghost use Rattle.upload_reader.specs.Session.{request_of};
-
-use crate::message::Event;
 
 /// The largest request that its events made, 0 for none, and how many events it has.
 #[derive(Clone, Drop)]
@@ -12,12 +9,11 @@ pub(crate) struct Counts {
 }
 
 impl Counts {
-    ghost use Rattle.upload_reader.specs.inside.Counting.{counts_with};
+    ghost use Rattle.upload_reader.specs.inside.Counting.{no_events, counts_with};
 
     /// With no event.
     pub(crate) fn new() -> Counts
-        ensures largest { result.largest ≡ 0 }
-        ensures events { result.events ≡ 0 }
+        ensures { result ≡ no_events }
     {
         Counts {
             largest: 0,
@@ -32,16 +28,5 @@ impl Counts {
     {
         self.largest = self.largest.max(req);
         self.events += 1;
-    }
-}
-
-/// The number of the request that an event made, 0 for none.
-pub(crate) fn request_of(event: &Event) -> u64
-    ensures { result ≡ request_of event.now }
-{
-    match event {
-        Event::Input { .. } => 0,
-        Event::Click { req, .. } => *req,
-        Event::Submit { req, .. } => *req,
     }
 }

@@ -1,8 +1,7 @@
 //! How an upload begins.
-ghost use Rattle.std.specs.Prelude.{◌≡◌, IfOk, IfErr};
+ghost use Rattle.std.specs.Prelude.{◌≡◌, ◌≤◌, [], IfOk, IfErr};
 ghost use Rattle.upload_reader.specs.Greeting.{hello_fault_of};
-ghost use Rattle.upload_reader.specs.Upload.{Refuses};
-ghost use Rattle.upload_reader.specs.inside.Greeted.{BeginsLines};
+ghost use Rattle.upload_reader.specs.Upload.{Begins, Refuses, upload_behind};
 
 use crate::client::Client;
 use crate::hello_fault::HelloFault;
@@ -17,7 +16,8 @@ pub(crate) fn greet<R: Source>(
     alloc: Global,
     lines: &mut Lines<R>,
 ) -> Result<(Client, u64), HelloFault>
-    ensures begins { IfOk result (λ hello. BeginsLines lines.old lines.new hello.0 hello.1) }
+    ensures begins { IfOk result (λ hello. Begins lines.old (upload_behind hello.0 lines.new [] hello.1)) }
+    ensures few { IfOk result (λ hello. hello.1 ≤ lines.new.place) }
     ensures refused { IfErr result (λ fault. Refuses lines.old lines.new fault) }
 {
     let (number, next) = next_text(lines, 0);
@@ -30,6 +30,7 @@ pub(crate) fn greet<R: Source>(
     }
 }
 
+// U3 where there is no line, and U4 for want of memory.
 fn without_hello(number: u64, fault: LineFault) -> HelloFault
     ensures { result ≡ hello_fault_of number fault }
 {

@@ -1,7 +1,6 @@
 //! What a session looks at in a message.
 ghost use Rattle.std.specs.Prelude.{◌≡◌};
 
-use crate::counts::request_of;
 use crate::message::Message;
 use std::marker::Model;
 use std::snapshot::Snapshot;
@@ -10,13 +9,13 @@ use std::snapshot::Snapshot;
 #[derive(Drop)]
 pub struct Header {
     pub(crate) visit: u64,
-    pub(crate) step: Step,
+    pub(crate) step: HeaderStep,
     pub(crate) message: Snapshot<Message>,
 }
 
 /// What a message does to its visit.
 #[derive(Drop)]
-pub(crate) enum Step {
+pub(crate) enum HeaderStep {
     Load { parent: u64 },
     /// By an event that made the request of that number, 0 for none.
     Act { req: u64 },
@@ -43,14 +42,14 @@ impl Header {
         ensures { result ≡ message.now }
     {
         let (visit, step) = match message {
-            Message::Load { visit, parent, .. } => (*visit, Step::Load { parent: *parent }),
+            Message::Load { visit, parent, .. } => (*visit, HeaderStep::Load { parent: *parent }),
             Message::Act { visit, event } => (
                 *visit,
-                Step::Act {
-                    req: request_of(event),
+                HeaderStep::Act {
+                    req: event.request(),
                 },
             ),
-            Message::Ended { visit, .. } => (*visit, Step::End),
+            Message::Ended { visit, .. } => (*visit, HeaderStep::End),
         };
         Header {
             visit,

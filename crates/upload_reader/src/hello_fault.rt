@@ -10,13 +10,13 @@ use std::fmt;
 /// Why an upload doesn't begin. Its text is its code, as `U2`.
 #[derive(Clone, Copy, Debug, PartialEq, Eq)]
 pub enum HelloFault {
-    /// The client is no text of 1 to 64 of `[A-Za-z0-9_-]`.
+    /// U1: the client is no text of 1 to 64 of `[A-Za-z0-9_-]`.
     BadClient,
-    /// The first line that isn't blank is no hello.
+    /// U2: the first line that isn't blank is no hello.
     NoHello,
-    /// There is no such line, or it is no JSON text: `ReadFailed`, `TooManyReads`, `Truncated`, `LineTooLong` or `NotJson`.
+    /// U3: there is no such line, or it is no JSON text: `ReadFailed`, `TooManyReads`, `Truncated`, `LineTooLong` or `NotJson`.
     Line { line: u64, fault: LaneFault },
-    /// An allocation was refused.
+    /// U4: an allocation was refused.
     NoMemory,
 }
 

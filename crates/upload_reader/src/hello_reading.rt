@@ -11,7 +11,7 @@ use crate::unread::Unread;
 use serde_json::Value;
 use std::alloc::Global;
 
-/// The client of the line of that number, the first that isn't blank.
+/// The client of the line of that number, the first that isn't blank. U3 where it is no JSON text, and U4 for want of memory.
 pub(crate) fn read_hello(alloc: Global, number: u64, line: &[u8]) -> Result<Client, HelloFault>
     ensures { SaysHello result (hello_said number line.now) }
 {
@@ -25,6 +25,7 @@ pub(crate) fn read_hello(alloc: Global, number: u64, line: &[u8]) -> Result<Clie
     }
 }
 
+// U2 where it is no hello.
 #[tactic(auto, unfolding(crate::specs::Hello::greeting_said))]
 fn read_greeting(alloc: Global, value: &Value) -> Result<Client, HelloFault>
     ensures { SaysHello result (greeting_said (view value.now)) }
@@ -44,6 +45,7 @@ fn is_hello(value: &Value) -> bool
     }
 }
 
+// U1 where it names no client.
 fn read_client(alloc: Global, value: &Value) -> Result<Client, HelloFault>
     ensures { SaysHello result (client_said (text_in (codes "client") (view value.now))) }
 {

@@ -14,25 +14,25 @@ use xpath_child::PathFault;
 /// in the order `LineTooLong`, `NotJson`, `BadMessage`, `BadPage`, `BadTarget`, `LaneFull`, `BadSession`.
 #[derive(Clone, Copy, Debug, PartialEq, Eq)]
 pub enum LaneFault {
-    /// A read failed.
+    /// E1: a read failed.
     ReadFailed,
-    /// As many reads were made as may be.
+    /// E2: as many reads were made as may be.
     TooManyReads,
-    /// The input ended before a bye.
+    /// E3: the input ended before a bye.
     Truncated,
-    /// A line of more than 65,536 bytes.
+    /// E4: a line of more than 65,536 bytes.
     LineTooLong,
-    /// A line that is no JSON text (RFC 8259).
+    /// E5: a line that is no JSON text (RFC 8259).
     NotJson,
-    /// A JSON text that is none of the messages.
+    /// E6: a JSON text that is none of the messages.
     BadMessage,
-    /// A load of something that is no page.
+    /// E7: a load of something that is no page.
     BadPage(PageFault),
-    /// A target, or the button of a submit, that is no path.
+    /// E8: a target, or the button of a submit, that is no path.
     BadTarget(PathFault),
-    /// A message that doesn't fit what came before it.
+    /// E9: a message that doesn't fit what came before it.
     BadSession(SessionFault),
-    /// One message more than may be.
+    /// E10: one message more than may be.
     LaneFull,
 }
 

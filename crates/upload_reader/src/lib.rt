@@ -35,6 +35,7 @@ pub use ending::Ending;
 pub use header::Header;
 pub use hello_fault::HelloFault;
 pub use lane_fault::{LaneEnd, LaneFault};
+pub use limits::MAX_NUMBER;
 pub use message::{Event, Message};
 pub use next::Next;
 pub use refused::Refused;

@@ -12,9 +12,10 @@ use serde_json::Value;
 use std::alloc::Global;
 use xpath_child::{Path, PathFaultKind};
 
+// E6: each fault of a member.
 const BAD_MESSAGE: Unread = Unread::Fault(LaneFault::BadMessage);
 
-/// The value that a line is.
+/// The value that a line is; else E5.
 pub(crate) fn line_value(alloc: Global, line: &[u8]) -> Result<Value, Unread>
     ensures { ReadsAs view result (json_said line.now) }
 {
@@ -98,7 +99,7 @@ pub(crate) fn optional_text_at<'a>(
     }
 }
 
-/// The page that a value stands for.
+/// The page that a value stands for; else E7.
 #[tactic(auto, unfolding(crate::specs::Member::page_said))]
 pub(crate) fn read_page(alloc: Global, value: &Value) -> Result<Page, Unread>
     ensures { IsReadAs result (page_said (view value.now)) }
@@ -110,7 +111,7 @@ pub(crate) fn read_page(alloc: Global, value: &Value) -> Result<Page, Unread>
     }
 }
 
-/// The path that has the text.
+/// The path that has the text; else E8.
 #[tactic(auto, unfolding(crate::specs::Member::path_said))]
 pub(crate) fn read_path(alloc: Global, text: &str) -> Result<Path, Unread>
     ensures { IsReadAs result (path_said text.now) }

@@ -1,5 +1,6 @@
 //! What a browser's upload says.
 ghost use Rattle.std.specs.Prelude.{◌≡◌, IfOk};
+ghost use Rattle.upload_reader.specs.Session.{request_of};
 
 use page_tree::{NoMemory, Page, Text};
 use xpath_child::Path;
@@ -29,6 +30,17 @@ pub enum Event {
 }
 
 impl Event {
+    /// The number of the request that it made, 0 for none.
+    pub fn request(&self) -> u64
+        ensures { result ≡ request_of self.now }
+    {
+        match self {
+            Event::Input { .. } => 0,
+            Event::Click { req, .. } => *req,
+            Event::Submit { req, .. } => *req,
+        }
+    }
+
     /// An equal event.
     pub fn copy(&self) -> Result<Event, NoMemory>
         ensures { IfOk result (λ event. event ≡ self.now) }

@@ -1,7 +1,7 @@
 //! How far a lane was taken.
 ghost use Rattle.std.specs.Prelude.{◌≡◌, ◌≤◌, [], ◌++◌, length, false, IfOk, IfErr};
-ghost use Rattle.upload_reader.specs.Limits.{max_messages};
-ghost use Rattle.upload_reader.specs.Message.{is_blank};
+ghost use Rattle.upload_reader.specs.Limits.{max_line_bytes, max_messages};
+ghost use Rattle.upload_reader.specs.Message.{is_blank, line_said, IsPositive};
 ghost use Rattle.upload_reader.specs.Stream.{messages_of};
 
 use crate::ending::Ending;
@@ -34,14 +34,14 @@ pub(crate) struct Progress {
 }
 
 impl Progress {
-    ghost use Rattle.upload_reader.specs.inside.Taken.{lane_of, taken_of, TakesText, TakesMessage, EndsByText};
+    ghost use Rattle.upload_reader.specs.inside.Taken.{taken_of, nothing_taken, TakesSaid};
+    ghost use Rattle.upload_reader.specs.declared.line.Line.TheVariants.{Says};
+    ghost use Rattle.upload_reader.specs.inside.Ended.{EndsByText};
     ghost use Rattle.upload_reader.specs.Stream.{MayFollow};
-    ghost use Rattle.upload_reader.specs.Positive.{IsPositive};
 
     /// A lane that begins behind this session and so many lines. The fault is the one that its lines have.
     pub(crate) fn begin(session: Session, lines: u64, fault: Option<LineFault>) -> Progress
-        ensures lane { lane_of result ≡ record { earlier = session; lines = lines; fault = fault } }
-        ensures taken { taken_of result ≡ record { lines = lines; given = [] } }
+        ensures { taken_of result ≡ nothing_taken (record { earlier = session; lines = lines; fault = fault }) }
     {
         Progress {
             first_session: Snapshot::of(&session),
@@ -57,8 +57,7 @@ impl Progress {
     /// The same lines behind another session. No message was given.
     pub(crate) fn resume(self, session: Session) -> Progress
         requires { (taken_of self).given ≡ [] }
-        ensures lane { lane_of result ≡ record (lane_of self) { earlier = session } }
-        ensures taken { taken_of result ≡ taken_of self }
+        ensures { taken_of result ≡ record (taken_of self) { lane = record (taken_of self).lane { earlier = session } } }
     {
         Progress {
             first_session: Snapshot::of(&session),
@@ -72,7 +71,7 @@ impl Progress {
     }
 
     pub(crate) fn session(&self) -> &Session
-        ensures { result.now ≡ (lane_of self.now).earlier ++ messages_of (taken_of self.now).given }
+        ensures { result.now ≡ (taken_of self.now).lane.earlier ++ messages_of (taken_of self.now).given }
     {
         &self.session
     }
@@ -92,11 +91,10 @@ impl Progress {
         line: &[u8],
     ) -> Result<(Message, u32), Ending>
         requires text { is_blank line.now ≡ false }
-        requires short { length line.now ≤ 65536 }
-        ensures lane { lane_of self.new ≡ lane_of self.old }
-        ensures takes { TakesText (lane_of self.old) number line.now (taken_of self.old) (taken_of self.new) result }
+        requires short { length line.now ≤ max_line_bytes }
+        ensures takes { TakesSaid number (line_said line.now) (length line.now) (taken_of self.old) (taken_of self.new) result }
         ensures priced { IfOk result (λ costed. IsPositive costed.0 costed.1) }
-        ensures lawful { IfOk result (λ costed. MayFollow (lane_of self.old) (taken_of self.old).given costed.0) }
+        ensures lawful { IfOk result (λ costed. MayFollow (taken_of self.old).lane (taken_of self.old).given costed.0) }
         ensures own { IfErr result EndsByText }
     {
         let cost = line.len() as u32;
@@ -108,6 +106,7 @@ impl Progress {
         }
     }
 
+    // E10 where there is no room for it, E9 where it doesn't fit.
     fn take_message(
         &mut self,
         number: u64,
@@ -115,10 +114,9 @@ impl Progress {
         cost: u32,
     ) -> Result<(Message, u32), Ending>
         requires priced { IsPositive message cost }
-        ensures lane { lane_of self.new ≡ lane_of self.old }
-        ensures takes { TakesMessage (lane_of self.old) number message cost (taken_of self.old) (taken_of self.new) result }
+        ensures takes { TakesSaid number (Ok (Says message)) cost (taken_of self.old) (taken_of self.new) result }
         ensures priced { IfOk result (λ costed. IsPositive costed.0 costed.1) }
-        ensures lawful { IfOk result (λ costed. MayFollow (lane_of self.old) (taken_of self.old).given costed.0) }
+        ensures lawful { IfOk result (λ costed. MayFollow (taken_of self.old).lane (taken_of self.old).given costed.0) }
         ensures own { IfErr result EndsByText }
     {
         if self.count == MAX_MESSAGES {

@@ -9,21 +9,21 @@ use std::fmt;
 /// Why a message doesn't fit what came before it. Its text is its code, as `S4`.
 #[derive(Clone, Copy, Debug, PartialEq, Eq)]
 pub enum SessionFault {
-    /// A load whose number isn't above that of every earlier load.
+    /// S1: a load whose number isn't above that of every earlier load.
     VisitOrder,
-    /// A load whose parent was never loaded.
+    /// S2: a load whose parent was never loaded.
     NoParent,
-    /// The visit was never loaded.
+    /// S3: the visit was never loaded.
     NoVisit,
-    /// The visit has ended.
+    /// S4: the visit has ended.
     AfterEnd,
-    /// A request whose number is neither 0 nor one more than the visit's largest.
+    /// S5: a request whose number is neither 0 nor one more than the visit's largest.
     RequestOrder,
-    /// The visit has as many events as may be.
+    /// S6: the visit has as many events as may be.
     VisitFull,
-    /// As many visits are open as may be.
+    /// S7: as many visits are open as may be.
     TooManyOpen,
-    /// An allocation was refused.
+    /// S8: an allocation was refused.
     NoMemory,
 }
 

@@ -4,12 +4,13 @@ ghost use Rattle.byte_streams.specs.Answers.{failures_of};
 ghost use Rattle.byte_streams.specs.Cutting.{StopsAtEnd};
 ghost use Rattle.byte_streams.specs.Reading.{WasRead, ReadsWhile};
 ghost use Rattle.upload_reader.specs.Limits.{max_messages};
-ghost use Rattle.upload_reader.specs.Next.{given_by, ending_by, next_of, failed_reads, IfGot, IfOver};
-ghost use Rattle.upload_reader.specs.Positive.{IsPositive};
-ghost use Rattle.upload_reader.specs.Real.{is_real, IfReal};
+ghost use Rattle.upload_reader.specs.Next.{next_of, failed_reads, IfGot, IfOver};
+ghost use Rattle.upload_reader.specs.Message.{IsPositive};
+ghost use Rattle.upload_reader.specs.Real.{is_real};
 ghost use Rattle.upload_reader.specs.Stream.{messages_of, MayFollow};
-ghost use Rattle.upload_reader.specs.Upload.{Begins, Refuses, IsUntouched, GivesFirst, EndsBy, NothingMore};
-ghost use Rattle.upload_reader.specs.inside.Taken.{lane_of, taken_of, LaneTaken, TakesNext};
+ghost use Rattle.upload_reader.specs.Upload.{Begins, Refuses, IsUntouched, upload_behind, with_answer, GivesFirst, EndsBy, NothingMore};
+ghost use Rattle.upload_reader.specs.inside.Ended.{IfReal};
+ghost use Rattle.upload_reader.specs.inside.Taken.{taken_of, GoesOnBy};
 
 use crate::client::Client;
 use crate::ending::Ending;
@@ -44,18 +45,18 @@ impl<R: Source> Model for Upload<R> {
 
     ghost coded = { Prim.hlevel (codes, pages.the_row.coded) };
 
-    ghost use Rattle.upload_reader.specs.inside.Taken.{lane_of, taken_of, LaneTaken};
+    ghost use Rattle.upload_reader.specs.inside.Taken.{taken_of, LaneTaken};
 
     ghost view = { λ u. record {
       client = u.client;
       lines = u.lines;
-      lane = lane_of u.progress;
+      lane = (taken_of u.progress).lane;
       start = u.start.value.place;
       given = (taken_of u.progress).given;
       ending = u.ending;
     } };
 
-    ghost invariant = { λ u. LaneTaken (lane_of u.progress) u.start.value.place u.lines (taken_of u.progress) u.ending };
+    ghost invariant = { λ u. LaneTaken u.start.value.place u.lines (taken_of u.progress) u.ending };
 }
 
 impl<R: Source> Upload<R> {
@@ -74,7 +75,7 @@ impl<R: Source> Upload<R> {
 
     /// A lane without a hello, behind that session. Its lines are numbered from 1.
     pub fn open(lines: Lines<R>, client: Client, session: Session) -> Upload<R>
-        ensures { result ≡ record { client = client; lines = lines; lane = record { earlier = session; lines = 0; fault = lines.fault }; start = lines.place; given = []; ending = None } }
+        ensures { result ≡ upload_behind client lines session 0 }
     {
         Upload::begin(lines, client, session, 0)
     }
@@ -103,7 +104,7 @@ impl<R: Source> Upload<R> {
     // A lane behind so many lines.
     fn begin(lines: Lines<R>, client: Client, session: Session, number: u64) -> Upload<R>
         requires { number ≤ lines.place }
-        ensures { result ≡ record { client = client; lines = lines; lane = record { earlier = session; lines = number; fault = lines.fault }; start = lines.place; given = []; ending = None } }
+        ensures { result ≡ upload_behind client lines session number }
     {
         Upload {
             progress: Progress::begin(session, number, lines.fault()),
@@ -149,7 +150,7 @@ impl<R: Source> Upload<R> {
         // what was given.
         ensures reads { ReadsWhile (NothingMore self.old) self.old.lines self.new.lines }
         ensures unread { IsSome self.old.lines.fault → self.new.lines ≡ self.old.lines }
-        ensures given { self.new ≡ record self.old { lines = self.new.lines; given = self.old.given ++ given_by result; ending = ending_by result } }
+        ensures given { self.new ≡ with_answer result self.new.lines self.old }
 
         // The messages that were given are the first ones of the stream, however the input goes on, and the end follows the last of them.
         ensures first { GivesFirst self.new }
@@ -186,10 +187,9 @@ fn next_message<R: Source>(
     progress: &mut Progress,
 ) -> Result<(Message, u32), Ending>
     requires numbered { (taken_of progress.old).lines ≤ lines.old.place }
-    ensures lane { lane_of progress.new ≡ lane_of progress.old }
-    ensures takes { (start : ℕ) → LaneTaken (lane_of progress.old) start lines.old (taken_of progress.old) None → TakesNext (lane_of progress.old) start lines.old lines.new (taken_of progress.old) (taken_of progress.new) result }
+    ensures takes { GoesOnBy lines.old lines.new (taken_of progress.old) (taken_of progress.new) result }
     ensures priced { IfOk result (λ costed. IsPositive costed.0 costed.1) }
-    ensures lawful { IfOk result (λ costed. MayFollow (lane_of progress.old) (taken_of progress.old).given costed.0) }
+    ensures lawful { IfOk result (λ costed. MayFollow (taken_of progress.old).lane (taken_of progress.old).given costed.0) }
     ensures real { IfErr result IfReal }
 {
     let (number, next) = next_text(lines, progress.lines());

@@ -6,9 +6,10 @@ use Rattle.std.proofs.lemmas.Bool.Decides.{eqb_tells}
 use Rattle.std.proofs.lemmas.Iterator.Adapters.{position_from-zero}
 use Rattle.std.proofs.lemmas.List.{take_more, length-take-le}
 use Rattle.std.proofs.lemmas.List.Folds.{find-append}
+use Rattle.upload_reader.specs.Session.{request_of}
 use Rattle.upload_reader.specs.declared.message.Event.{Event}
 use Rattle.client_log.specs.declared.visit.Visit.{Visit}
-use Rattle.visit_replay.specs.Moved.{number_of, event_numbered, own_request, request_now, are_apart}
+use Rattle.visit_replay.specs.Moved.{event_numbered, own_request, request_now, are_apart}
 use Rattle.visit_replay.specs.inside.Moves.{moved_by, address_of}
 use Rattle.visit_replay.specs.declared.outcome.Outcome.{Outcome}
 use Rattle.visit_replay.specs.declared.requests.Request.{Request}
@@ -124,39 +125,39 @@ module _ (visit : Visit) (outcome : Outcome) (k : ℕ) (event : Event) (below : 
   count_taken : length (take k visit.events) ≡ k
   count_taken = length-take-le k visit.events (omega (arith, below))
 
-  next_place : (number : ℕ) → option_map (apart_at number) (option_or (place number) (next_if (number_of event == number) k)) ≡ option_map (apart_at number) (event_numbered (take (k + 1) visit.events) number)
+  next_place : (number : ℕ) → option_map (apart_at number) (option_or (place number) (next_if (request_of event == number) k)) ≡ option_map (apart_at number) (event_numbered (take (k + 1) visit.events) number)
   next_place number =
       ap (option_map (apart_at number))
-      (ap (λ n. option_or (place number) (next_if (number_of event == number) n)) (sym count_taken) ∙ sym (position_push (λ e. number_of e == number) (take k visit.events) event)
+      (ap (λ n. option_or (place number) (next_if (request_of event == number) n)) (sym count_taken) ∙ sym (position_push (λ e. request_of e == number) (take k visit.events) event)
       ∙ ap (λ es. event_numbered es number) (sym (taken_here visit.events k event below is)))
 
-  known_there : (number : ℕ) → (number == 0) ≡ false → (number_of event == number) ≡ true → is_some (place number) ≡ is_some (moves (number_of event))
+  known_there : (number : ℕ) → (number == 0) ≡ false → (request_of event == number) ≡ true → is_some (place number) ≡ is_some (moves (request_of event))
   known_there number some same =
       sym (some_map (apart_at number) (place number)) ∙ ap is_some (sym (not_zero (number == 0) (option_map (apart_at number) (place number)) some)) ∙ ap is_some (sym (are number))
-      ∙ ap (λ n. is_some (moves n)) (sym (same_number (number_of event) number same))
+      ∙ ap (λ n. is_some (moves n)) (sym (same_number (request_of event) number same))
 
-  pub move_stays : (number_of event == 0) ≡ false → is_some (moves (number_of event)) ≡ true → (number : ℕ) → moves number ≡ moved_by visit outcome (k + 1) number
+  pub move_stays : (request_of event == 0) ≡ false → is_some (moves (request_of event)) ≡ true → (number : ℕ) → moves number ≡ moved_by visit outcome (k + 1) number
   move_stays some there number =
       are number
-      ∙ zero_or (number == 0) _ _ (λ other. stays (apart_at number) (place number) (number_of event == number) k (λ same. known_there number other same ∙ there) ∙ next_place number)
+      ∙ zero_or (number == 0) _ _ (λ other. stays (apart_at number) (place number) (request_of event == number) k (λ same. known_there number other same ∙ there) ∙ next_place number)
 
-  pub no_move : (number_of event == 0) ≡ true → (number : ℕ) → moves number ≡ moved_by visit outcome (k + 1) number
+  pub no_move : (request_of event == 0) ≡ true → (number : ℕ) → moves number ≡ moved_by visit outcome (k + 1) number
   no_move none number =
       are number
       ∙ zero_or (number == 0) _ _ (λ other.
-      stays (apart_at number) (place number) (number_of event == number) k
-      (λ same. absurd (true≢false (sym (zero_is (number_of event) number (same_number (number_of event) 0 none) (same_number (number_of event) number same)) ∙ other))) ∙ next_place number)
+      stays (apart_at number) (place number) (request_of event == number) k
+      (λ same. absurd (true≢false (sym (zero_is (request_of event) number (same_number (request_of event) 0 none) (same_number (request_of event) number same)) ∙ other))) ∙ next_place number)
 
-  pub move_comes : (apart : Bool) (new : ℕ → Option Bool) → ((number : ℕ) → new number ≡ (if number_of event == number then Some apart else moves number)) → (number_of event == 0) ≡ false
-      → is_some (moves (number_of event)) ≡ false → apart ≡ apart_at (number_of event) k → (number : ℕ) → new number ≡ moved_by visit outcome (k + 1) number
+  pub move_comes : (apart : Bool) (new : ℕ → Option Bool) → ((number : ℕ) → new number ≡ (if request_of event == number then Some apart else moves number)) → (request_of event == 0) ≡ false
+      → is_some (moves (request_of event)) ≡ false → apart ≡ apart_at (request_of event) k → (number : ℕ) → new number ≡ moved_by visit outcome (k + 1) number
   move_comes apart new put some none value number = elim (eqb_tells number 0) [
     | inl none_is ↦ put number ∙ ap (λ b. if b then Some apart else moves number) (other_number number none_is.1) ∙ are number ∙ zero_or (number == 0) _ _ (λ other. absurd (true≢false (sym none_is.0 ∙ other)))
     | inr more ↦
-        put number ∙ ap (λ o. if number_of event == number then Some apart else o) (are number ∙ not_zero (number == 0) (option_map (apart_at number) (place number)) more.0)
-        ∙ comes (apart_at number) (place number) (number_of event == number) k apart (λ same. known_there number more.0 same ∙ none)
-        (λ same. value ∙ ap (λ n. apart_at n k) (same_number (number_of event) number same))
+        put number ∙ ap (λ o. if request_of event == number then Some apart else o) (are number ∙ not_zero (number == 0) (option_map (apart_at number) (place number)) more.0)
+        ∙ comes (apart_at number) (place number) (request_of event == number) k apart (λ same. known_there number more.0 same ∙ none)
+        (λ same. value ∙ ap (λ n. apart_at n k) (same_number (request_of event) number same))
         ∙ next_place number ∙ sym (not_zero (number == 0) _ more.0)
   ]
     where
-      other_number : (number : ℕ) → number ≡ 0 → (number_of event == number) ≡ false
-      other_number number none_is = ap (λ n. number_of event == n) none_is ∙ some
+      other_number : (number : ℕ) → number ≡ 0 → (request_of event == number) ≡ false
+      other_number number none_is = ap (λ n. request_of event == n) none_is ∙ some

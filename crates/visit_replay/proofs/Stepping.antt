@@ -8,6 +8,7 @@ use Rattle.std.proofs.Math.ListN.{drop_of_length-le}
 use Rattle.std.proofs.lemmas.Iterator.Adapters.{position_from-zero}
 use Rattle.page_tree.specs.Tree.{Tree}
 use Rattle.upload_reader.specs.declared.message.Event.{Event}
+use Rattle.client_log.specs.declared.visit.Visit.{Visit}
 use Rattle.visit_replay.specs.declared.requests.Request.{Request}
 use Rattle.visit_replay.specs.declared.outcome.ConflictKind.{ConflictKind}
 use Rattle.visit_replay.specs.declared.fields.Fields.{Fields}
@@ -50,20 +51,20 @@ pub first_request : (address : List ℕ) (new : Tree) (events : List Event) (non
 first_request address new events none load empty is = rw (empty, is) refl
 
 -- an event that can't be replayed makes no request
-pub not_added : (address : List ℕ) (new : Tree) (event : Event) (fields fields' : Fields) (made made' : List Request) (found : Option ConflictKind) (kind : ConflictKind) → TakesEvent address new event fields fields' made made' found → found ≡ Some kind → made' ≡ made
-not_added address new event fields fields' made made' (Some found) kind step is = step
-not_added address new event fields fields' made made' None kind step is = absurd (none-some kind is)
+pub not_added : (visit : Visit) (new : Tree) (event : Event) (fields fields' : Fields) (made made' : List Request) (found : Option ConflictKind) (kind : ConflictKind) → TakesEvent visit new event fields fields' made made' found → found ≡ Some kind → made' ≡ made
+not_added visit new event fields fields' made made' (Some found) kind step is = step
+not_added visit new event fields fields' made made' None kind step is = absurd (none-some kind is)
 
-pub made_on : (address : List ℕ) (new : Tree) (events : List Event) (i : ℕ) (event : Event) (fields fields' : Fields) (made made' : List Request) (found : Option ConflictKind) → i < length events → event ≡ get_or events i event
-    → Keeps fields new (take i events) → made ≡ requests_before address new events i → TakesEvent address new event fields fields' made made' found → found ≡ None → made' ≡ requests_before address new events (i + 1)
-made_on address new events i event fields fields' made made' (Some kind) below is kept so_far step none = absurd (none-some kind (sym none))
-made_on address new events i event fields fields' made made' None below is kept so_far step none =
-    step.added (take i events) kept ∙ (ap (λ m. m ++ cons_option (event_request address new (take i events) event) []) so_far ∙ sym (one_more address new events i ∙ ap (λ r. requests_before address new events i ++ cons_option r []) (nth address new events i event (event_here events i event below is))))
+pub made_on : (visit : Visit) (new : Tree) (events : List Event) (i : ℕ) (event : Event) (fields fields' : Fields) (made made' : List Request) (found : Option ConflictKind) → i < length events → event ≡ get_or events i event
+    → Keeps fields new (take i events) → made ≡ requests_before visit.address new events i → TakesEvent visit new event fields fields' made made' found → found ≡ None → made' ≡ requests_before visit.address new events (i + 1)
+made_on visit new events i event fields fields' made made' (Some kind) below is kept so_far step none = absurd (none-some kind (sym none))
+made_on visit new events i event fields fields' made made' None below is kept so_far step none =
+    step.added (take i events) kept ∙ (ap (λ m. m ++ cons_option (event_request visit.address new (take i events) event) []) so_far ∙ sym (one_more visit.address new events i ∙ ap (λ r. requests_before visit.address new events i ++ cons_option r []) (nth visit.address new events i event (event_here events i event below is))))
 
-pub kept_on : (address : List ℕ) (new : Tree) (events : List Event) (i : ℕ) (event : Event) (fields fields' : Fields) (made made' : List Request) (found : Option ConflictKind) → i < length events → event ≡ get_or events i event
-    → Keeps fields new (take i events) → TakesEvent address new event fields fields' made made' found → found ≡ None → Keeps fields' new (take (i + 1) events)
-kept_on address new events i event fields fields' made made' (Some kind) below is kept step none = absurd (none-some kind (sym none))
-kept_on address new events i event fields fields' made made' None below is kept step none = rw (taken_here events i event below is) (step.kept (take i events) kept)
+pub kept_on : (visit : Visit) (new : Tree) (events : List Event) (i : ℕ) (event : Event) (fields fields' : Fields) (made made' : List Request) (found : Option ConflictKind) → i < length events → event ≡ get_or events i event
+    → Keeps fields new (take i events) → TakesEvent visit new event fields fields' made made' found → found ≡ None → Keeps fields' new (take (i + 1) events)
+kept_on visit new events i event fields fields' made made' (Some kind) below is kept step none = absurd (none-some kind (sym none))
+kept_on visit new events i event fields fields' made made' None below is kept step none = rw (taken_here events i event below is) (step.kept (take i events) kept)
 
 -- ---- the first that can't be replayed
 

@@ -1,5 +1,5 @@
--- Why one event can't be replayed: from the page that it was made on, the page that stands there now, and the event alone (this project's own rules).
--- Each rule has the code that reports show for it.
+-- Why one event can't be replayed: from the page that it was made on, the page that stands there now, and the event
+-- alone (this project's own rules). Each rule has the code that reports show for it.
 use Rattle.std.specs.Prelude.{ℕ, List, Bool, true, false, not, ◌&&◌, ◌==◌, if◌then◌else◌, Option, Some, None, is_some, option_and_then, codes}
 use Rattle.std.specs.Option.{option_map_or}
 use Rattle.std.specs.Str.{bytes_eq}
@@ -18,7 +18,8 @@ use Rattle.upload_reader.specs.declared.message.Event.TheVariants.{Input, Click,
 use Rattle.visit_replay.specs.declared.outcome.ConflictKind.{ConflictKind}
 use Rattle.visit_replay.specs.declared.outcome.ConflictKind.TheVariants.{NoPage, NoTarget, ManyTargets, NotAField, BaseChanged, NotALink, NotAForm, LogCut, Ui, Moved}
 
--- K2 to K7 are of one event, and their rules stand below; K1, K8 and K9 are of a whole visit (`Outcome`), and K10 is of a visit behind another (`Following`)
+-- K2 to K7 are of one event, and their rules stand below; K1, K8 and K9 are of a whole visit (`Outcome`), and K10 is of
+-- a visit behind another (`Following`)
 abbrev pub conflict_code : ConflictKind → List ℕ
 conflict_code NoPage = codes "K1"
 conflict_code NoTarget = codes "K2"
@@ -43,7 +44,8 @@ is_disabled place page = is_some (attribute_at place (codes "disabled") page)
 -- ---- inputs: into a text control that isn't disabled (K4), over an unchanged start text (K5)
 
 unfoldable pub input_conflict_on : Control → Bool → Bool → Option ConflictKind
-input_conflict_on control.Text disabled unchanged = if disabled then Some NotAField else (if unchanged then None else Some BaseChanged)
+input_conflict_on control.Text disabled unchanged =
+    if disabled then Some NotAField else (if unchanged then None else Some BaseChanged)
 input_conflict_on _ disabled unchanged = Some NotAField
 
 -- an absent start text is the same as no other, an absent one too
@@ -51,19 +53,22 @@ abbrev pub is_same_start : Option (List ℕ) → Option (List ℕ) → Bool
 is_same_start (Some before) (Some now) = bytes_eq before now
 is_same_start before now = false
 
--- whether the path selected, on the old page, one text control that started as the one at the place does now
+-- whether the path selected, on the old page, one text control that started as the one at the place does now; else K5
 abbrev pub is_unchanged : Tree → Tree → List Step → List ℕ → Bool
 is_unchanged old new path place =
-    is_same_start (option_and_then (λ there. start_text_at there old) (only_place (target_in path old))) (start_text_at place new)
+    is_same_start (option_and_then (λ there. start_text_at there old) (only_place (target_in path old)))
+    (start_text_at place new)
 
 abbrev pub input_conflict : Tree → Tree → List Step → List ℕ → Option ConflictKind
-input_conflict old new path place = input_conflict_on (control_at place new) (is_disabled place new) (is_unchanged old new path place)
+input_conflict old new path place =
+    input_conflict_on (control_at place new) (is_disabled place new) (is_unchanged old new path place)
 
 -- ---- clicks: on no radio button and no disabled checkbox (K4); one that made a request, on a link (K6)
 
 abbrev pub off_link : ℕ → Option ConflictKind
 off_link req = if req == 0 then None else Some NotALink
 
+-- K4, K6
 unfoldable pub click_conflict_on : Control → Bool → ℕ → Option ConflictKind
 click_conflict_on control.Radio disabled req = Some NotAField
 click_conflict_on control.Check disabled req = if disabled then Some NotAField else off_link req
@@ -82,11 +87,12 @@ is_enabled_submit _ disabled = false
 abbrev pub is_button_of : Tree → List ℕ → List ℕ → Bool
 is_button_of new form place = is_under form place && is_enabled_submit (control_at place new) (is_disabled place new)
 
--- none was pressed, or the only place that its path selects is an enabled one under the form
+-- none was pressed, or the only place that its path selects is an enabled one under the form; else K7
 abbrev pub has_button : Tree → List ℕ → Option (List Step) → Bool
 has_button new form None = true
 has_button new form (Some path) = option_map_or (is_button_of new form) (only_place (target_in path new)) false
 
+-- K7 where it is no form, or the button none of it
 unfoldable pub submit_conflict_on : Control → Bool → Option ConflictKind
 submit_conflict_on control.Form button = if button then None else Some NotAForm
 submit_conflict_on _ button = Some NotAForm

@@ -1,5 +1,6 @@
--- What a field holds before an event: the value of the last input into it, and a checkbox's start state turned once for each click on it. A field is
--- a place of the page, however the paths to it are spelled (HTML 4.01, section 17.13.2: current value).
+-- What a field holds before an event: the value of the last input into it, and a checkbox's start state turned once for
+-- each click on it. A field is a place of the page, however the paths to it are spelled (HTML 4.01, section 17.13.2:
+-- current value).
 use Rattle.std.specs.Prelude.{ℕ, zero, suc, List, [], Bool, false, not, if◌then◌else◌, Option, Some, None, unwrap_or, count_by}
 use Rattle.std.specs.List.{filter_map, last_or}
 use Rattle.std.specs.Option.{option_map_or}
@@ -18,7 +19,8 @@ is_there place found = option_map_or (λ other. bytes_eq other place) found fals
 
 -- what an event writes into the field there
 abbrev pub written : Tree → List ℕ → Event → Option (List ℕ)
-written new place (Input at target value) = if is_there place (only_place (target_in target new)) then Some value else None
+written new place (Input at target value) =
+    if is_there place (only_place (target_in target new)) then Some value else None
 written new place other = None
 
 -- the value of the last input into it, or the start text where there was none, or else an empty text

@@ -1,10 +1,11 @@
--- The outcomes of a list of visits, of which each follows the visit that opened it, its parent (this project's own rule).
+-- The outcomes of a list of visits, of which each follows the visit that opened it, its parent (this project's own
+-- rule).
 use Rattle.std.specs.Prelude.{ℕ, List, [], ◌∷◌, ◌++◌, Bool, true, false, nat_lt, ◌==◌, if◌then◌else◌, Option, Some, None, map, filter, fold}
 use Rattle.std.specs.List.{last_or}
-use Rattle.page_tree.specs.Tree.{Tree}
 use Rattle.client_log.specs.declared.visit.Visit.{Visit}
 use Rattle.visit_replay.specs.Moved.{is_moved}
 use Rattle.visit_replay.specs.Outcome.{outcome}
+use Rattle.visit_replay.specs.RepairedSite.{RepairedSite}
 use Rattle.visit_replay.specs.declared.outcome.ConflictKind.TheVariants.{Moved}
 use Rattle.visit_replay.specs.declared.outcome.Outcome.{Outcome}
 use Rattle.visit_replay.specs.declared.outcome.Outcome.TheVariants.{Untouched, Conflict}
@@ -33,10 +34,11 @@ is_untouched other = false
 abbrev pub moved_away : Outcome
 moved_away = Conflict [] 0 Moved
 
--- what the visit gives behind these, by what it gives by itself: a visit that is untouched stays so; any other is a conflict at its load where its parent
--- leads elsewhere now (K10)
+-- what the visit gives behind these, by what it gives by itself: a visit that is untouched stays so; any other is a
+-- conflict at its load where its parent leads elsewhere now (K10)
 abbrev pub outcome_behind : List Replayed → Visit → Outcome → Outcome
-outcome_behind before visit own = if is_untouched own then Untouched else (if is_elsewhere visit (parent_among before visit) then moved_away else own)
+outcome_behind before visit own =
+    if is_untouched own then Untouched else (if is_elsewhere visit (parent_among before visit) then moved_away else own)
 
 abbrev pub with_next : List Replayed → Replayed → List Replayed
 with_next before one = before ++ (one.0, outcome_behind before one.0 one.1) ∷ []
@@ -45,6 +47,6 @@ with_next before one = before ++ (one.0, outcome_behind before one.0 one.1) ∷ 
 abbrev pub following : List Replayed → List Replayed
 following visits = fold with_next [] visits
 
--- by a site's law
-abbrev pub outcomes : (List ℕ → Option Tree) → (List ℕ → Tree → Tree → Bool) → List (List ℕ) → List Visit → List Outcome
-outcomes page_of signals patch visits = map (λ one. one.1) (following (map (λ visit. (visit, outcome page_of signals patch visit)) visits))
+-- of these visits, each behind its parent
+abbrev pub outcomes : RepairedSite → List Visit → List Outcome
+outcomes site visits = map (λ one. one.1) (following (map (λ visit. (visit, outcome site visit)) visits))

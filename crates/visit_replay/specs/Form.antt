@@ -1,6 +1,6 @@
--- What a form sends (HTML 4.01, section 17.13; where it says nothing, or another thing, these are this project's own rules: `on` for an absent
--- `value`, an empty text for that of a button, no pair of an empty name, nested forms' nodes too, the visit's address for no action, no query or fragment of the
--- action's own under Get).
+-- What a form sends (HTML 4.01, section 17.13; where it says nothing, or another thing, these are this project's own
+-- rules: `on` for an absent `value`, an empty text for that of a button, no pair of an empty name, nested forms' nodes
+-- too, the visit's address for no action, no query or fragment of the action's own under Get).
 use Rattle.std.specs.Prelude.{ℕ, List, [], ◌∷◌, ◌++◌, Bool, false, ◌||◌, ◌==◌, if◌then◌else◌, Option, Some, None, unwrap_or, option_map, option_and_then, codes}
 use Rattle.std.specs.List.{filter_map, before_first}
 use Rattle.std.specs.Option.{option_map_or}
@@ -41,7 +41,8 @@ value_or default place new = unwrap_or (attribute_at place (codes "value") new) 
 unfoldable pub sent_value : Control → List ℕ → Bool → Option (List ℕ) → Tree → List ℕ → Option (List ℕ)
 sent_value control.Text text on by new place = Some text
 sent_value control.Check text on by new place = if on then Some (value_or (codes "on") place new) else None
-sent_value control.Radio text on by new place = if start_checked_at place new then Some (value_or (codes "on") place new) else None
+sent_value control.Radio text on by new place =
+    if start_checked_at place new then Some (value_or (codes "on") place new) else None
 sent_value control.Submit text on by new place = if is_there place by then Some (value_or [] place new) else None
 sent_value _ text on by new place = None
 
@@ -50,7 +51,8 @@ paired name value = option_and_then (λ n. option_map (λ v. (n, v)) value) name
 
 abbrev pub pair_of : Tree → List Event → Option (List ℕ) → List ℕ → Option Pair
 pair_of new before by place =
-    paired (sent_name place new) (sent_value (control_at place new) (value_before new before place) (is_on_before new before place) by new place)
+    paired (sent_name place new)
+    (sent_value (control_at place new) (value_before new before place) (is_on_before new before place) by new place)
 
 -- of all nodes under the form, in document order
 abbrev pub pairs_of : Tree → List Event → Option (List ℕ) → List ℕ → List Pair
@@ -74,7 +76,9 @@ abbrev pub bare : List ℕ → List ℕ
 bare address = before_first is_mark address
 
 abbrev pub is_post : List ℕ → Tree → Bool
-is_post form new = option_map_or (λ method. str_eq_ignore_ascii_case method (codes "post")) (attribute_at form (codes "method") new) false
+is_post form new =
+    option_map_or (λ method. str_eq_ignore_ascii_case method (codes "post")) (attribute_at form (codes "method") new)
+    false
 
 -- where the form sends to: its action, or the visit's address where that is absent or empty
 abbrev pub action_of : List ℕ → List ℕ → Tree → List ℕ
@@ -85,10 +89,17 @@ post_request number action pairs = record { number = number; method = Post; addr
 
 -- the pairs stand in the address, in the place of the action's own query and fragment
 abbrev pub get_request : ℕ → List ℕ → List ℕ → Request
-get_request number action pairs = record { number = number; method = Get; address = bare action ++ codes "?" ++ pairs; pairs = pairs }
+get_request number action pairs =
+    record { number = number; method = Get; address = bare action ++ codes "?" ++ pairs; pairs = pairs }
 
 abbrev pub form_request_of : Bool → ℕ → List ℕ → List ℕ → Request
-form_request_of post number action pairs = if post then post_request number action pairs else get_request number action pairs
+form_request_of post number action pairs =
+    if post then post_request number action pairs else get_request number action pairs
+
+-- of the form at that place, with these pairs
+abbrev pub sent_by : List ℕ → List ℕ → Tree → ℕ → List ℕ → Request
+sent_by address form new number pairs = form_request_of (is_post form new) number (action_of address form new) pairs
 
 abbrev pub form_request : List ℕ → Tree → List Event → Option (List Step) → List ℕ → ℕ → Request
-form_request address new before by form number = form_request_of (is_post form new) number (action_of address form new) (encoded new before by form)
+form_request address new before by form number =
+    sent_by address form new number (encoded new before by form)

@@ -1,11 +1,11 @@
--- Whether a request of a visit goes elsewhere now: what the visit asked for on the page that it was made on, beside what its replay asks for (this
--- project's own rule). Only the addresses count.
+-- Whether a request of a visit goes elsewhere now: what the visit asked for on the page that it was made on, beside
+-- what its replay asks for (this project's own rule). Only the addresses count.
 use Rattle.std.specs.Prelude.{ℕ, List, [], Bool, false, true, not, ◌==◌, if◌then◌else◌, Option, Some, None, option_and_then, slice_get}
 use Rattle.std.specs.List.{find, position}
 use Rattle.std.specs.Option.{option_map_or}
 use Rattle.std.specs.Str.{bytes_eq}
 use Rattle.upload_reader.specs.declared.message.Event.{Event}
-use Rattle.upload_reader.specs.declared.message.Event.TheVariants.{Input, Click, Submit}
+use Rattle.upload_reader.specs.Session.{request_of}
 use Rattle.client_log.specs.declared.visit.Visit.{Visit}
 use Rattle.visit_replay.specs.Outcome.{is_bad}
 use Rattle.visit_replay.specs.Requests.{nth_request}
@@ -27,20 +27,16 @@ request_now outcome number = find (λ request. request.number == number) (reques
 
 -- ---- what the visit asked for
 
--- 0 where the event made none
-abbrev pub number_of : Event → ℕ
-number_of (Input at target value) = 0
-number_of (Click at target req) = req
-number_of (Submit at target by req) = req
-
 -- where the first event stands that made the request of that number
 abbrev pub event_numbered : List Event → ℕ → Option ℕ
-event_numbered events number = position (λ event. number_of event == number) events
+event_numbered events number = position (λ event. request_of event == number) events
 
--- of the event with k events before it, behind all these, whether they can be replayed or not; none where it can't itself
+-- of the event with k events before it, behind all these, whether they can be replayed or not; none where it can't
+-- itself
 abbrev pub own_request : Visit → ℕ → Option Request
 own_request visit k =
-    if option_map_or (is_bad visit.page visit.page) (slice_get visit.events k) true then None else nth_request visit.address visit.page visit.events k
+    if option_map_or (is_bad visit.page visit.page) (slice_get visit.events k) true then None
+    else nth_request visit.address visit.page visit.events k
 
 abbrev pub request_then : Visit → ℕ → Option Request
 request_then visit number = option_and_then (own_request visit) (event_numbered visit.events number)
@@ -51,6 +47,8 @@ abbrev pub are_apart : Option Request → Option Request → Bool
 are_apart (Some before) (Some now) = not (bytes_eq before.address now.address)
 are_apart before now = false
 
--- a request that is missing stays where it is, and 0 is the number of no link or form
+-- K10 of the visit that the request opened. A request that is missing stays where it is, and 0 is the number of no link
+-- or form.
 abbrev pub is_moved : Visit → Outcome → ℕ → Bool
-is_moved visit outcome from = if from == 0 then false else are_apart (request_then visit from) (request_now outcome from)
+is_moved visit outcome from =
+    if from == 0 then false else are_apart (request_then visit from) (request_now outcome from)

@@ -7,6 +7,7 @@ use Rattle.upload_reader.specs.declared.message.Event.{Event}
 use Rattle.client_log.specs.declared.visit.Visit.{Visit}
 use Rattle.visit_replay.specs.Conflict.{conflict}
 use Rattle.visit_replay.specs.Form.{bare}
+use Rattle.visit_replay.specs.RepairedSite.{RepairedSite}
 use Rattle.visit_replay.specs.Requests.{requests_before}
 use Rattle.visit_replay.specs.declared.outcome.ConflictKind.{ConflictKind}
 use Rattle.visit_replay.specs.declared.outcome.ConflictKind.TheVariants.{NoPage, LogCut, Ui}
@@ -50,19 +51,22 @@ at_end visit new signalled =
     (if signalled then behind_the_events visit new Ui else Done (all_requests visit new))
 
 abbrev pub at_event : Visit → Tree → Bool → Option (ℕ × ConflictKind) → Outcome
-at_event visit new signalled (Some found) = Conflict (requests_before visit.address new visit.events found.0) (found.0 + 1) found.1
+at_event visit new signalled (Some found) =
+    Conflict (requests_before visit.address new visit.events found.0) (found.0 + 1) found.1
 at_event visit new signalled None = at_end visit new signalled
 
 -- its place among the events, and why
 abbrev pub first_conflict : Tree → Tree → List Event → Option (ℕ × ConflictKind)
-first_conflict old new events = option_and_then (λ k. option_map (λ kind. (k, kind)) (conflict_of old new events k)) (first_bad old new events)
+first_conflict old new events =
+    option_and_then (λ k. option_map (λ kind. (k, kind)) (conflict_of old new events k)) (first_bad old new events)
 
 -- on the page that the site has there now, if it has one (K1)
 abbrev pub on_page : Visit → (Tree → Bool) → Option Tree → Outcome
 on_page visit signalled None = Conflict [] 0 NoPage
 on_page visit signalled (Some new) = at_event visit new (signalled new) (first_conflict visit.page new visit.events)
 
--- by a site's law: the page that it has at an address, and whether it signals a conflict between the old page and the new one there
-abbrev pub outcome : (List ℕ → Option Tree) → (List ℕ → Tree → Tree → Bool) → List (List ℕ) → Visit → Outcome
-outcome page_of signals patch visit =
-    if is_affected patch visit.address then on_page visit (signals visit.address visit.page) (page_of visit.address) else Untouched
+-- where the patch doesn't list the visit's address it is left alone
+abbrev pub outcome : RepairedSite → Visit → Outcome
+outcome site visit =
+    if is_affected site.patch visit.address
+    then on_page visit (site.signals visit.address visit.page) (site.page_of visit.address) else Untouched

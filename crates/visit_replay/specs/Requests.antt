@@ -17,18 +17,26 @@ load_request address = record { number = 0; method = Load; address = address; pa
 abbrev pub link_request : ℕ → List ℕ → Request
 link_request number address = record { number = number; method = Get; address = address; pairs = [] }
 
+-- of the link at that place, with its address as it is written
+abbrev pub link_request_at : ℕ → List ℕ → Tree → Option Request
+link_request_at number place new = option_map (link_request number) (attribute_at place (codes "href") new)
+
 -- with 0 for its number an event makes none
 abbrev pub numbered : ℕ → Option Request → Option Request
 numbered req request = if req == 0 then None else request
 
--- of an event at that place, behind those events: a click sends the address of its link as it is written, a submit its form
+-- of an event at that place, behind those events: a click sends the address of its link as it is written, a submit its
+-- form
 abbrev pub request_at : List ℕ → Tree → List Event → Event → List ℕ → Option Request
 request_at address new before (Input at target value) place = None
-request_at address new before (Click at target req) place = numbered req (option_map (link_request req) (attribute_at place (codes "href") new))
-request_at address new before (Submit at target by req) place = numbered req (Some (form_request address new before by place req))
+request_at address new before (Click at target req) place =
+    numbered req (link_request_at req place new)
+request_at address new before (Submit at target by req) place =
+    numbered req (Some (form_request address new before by place req))
 
 abbrev pub event_request : List ℕ → Tree → List Event → Event → Option Request
-event_request address new before event = option_and_then (request_at address new before event) (only_place (target_in (path_of event) new))
+event_request address new before event =
+    option_and_then (request_at address new before event) (only_place (target_in (path_of event) new))
 
 -- of the event with k events before it
 abbrev pub nth_request : List ℕ → Tree → List Event → ℕ → Option Request
@@ -36,4 +44,5 @@ nth_request address new events k = option_and_then (event_request address new (t
 
 -- of the load and of the first n events, in order
 abbrev pub requests_before : List ℕ → Tree → List Event → ℕ → List Request
-requests_before address new events n = load_request address ∷ filter_map (nth_request address new events) (range_with_len 0 n)
+requests_before address new events n =
+    load_request address ∷ filter_map (nth_request address new events) (range_with_len 0 n)

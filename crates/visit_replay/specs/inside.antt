@@ -1,3 +1,4 @@
+pub mod Setting
 pub mod FieldsNow
 pub mod KeptFields
 pub mod OneEvent

@@ -5,7 +5,7 @@ ghost use Rattle.page_tree.specs.Number.{place_numbered};
 ghost use Rattle.page_tree.specs.Under.{is_under};
 ghost use Rattle.xpath_child.specs.Targets.{target_in, only_place};
 ghost use Rattle.visit_replay.specs.Conflict.{path_of, is_disabled, input_conflict, input_conflict_on, is_unchanged, off_link, click_conflict, click_conflict_on, is_enabled_submit, is_button_of, has_button, submit_conflict, submit_conflict_on, conflict_at};
-ghost use Rattle.visit_replay.specs.inside.OneEvent.{Locates, IsTargetOf, IsButton, by_of};
+ghost use Rattle.visit_replay.specs.inside.OneEvent.{Locates, IsNodeOf, IsTargetOf, IsButton, by_of};
 
 use crate::outcome::ConflictKind;
 use page_tree::{Control, NoMemory, Page};
@@ -19,7 +19,7 @@ pub(crate) enum Located {
     At { target: u32, button: Option<u32> },
 }
 
-/// Where an event can be replayed, or why it can't.
+/// Where an event can be replayed, or why it can't: K2, K3 where its path doesn't select one node.
 pub(crate) fn find(old: &Page, new: &Page, event: &Event) -> Result<Located, NoMemory>
     ensures { IfOk result (Locates old.now new.now event.now) }
 {
@@ -40,10 +40,7 @@ pub(crate) fn target_of(page: &Page, event: &Event) -> Option<u32>
     ensures target { IfSome result (IsTargetOf page.now event.now) }
     ensures none { IfNone result (only_place (target_in (path_of event.now) page.now) ≡ None) }
 {
-    match path_of(event).find(page) {
-        Found::One(number) => Some(number),
-        Found::Missing | Found::Several => None,
-    }
+    only(path_of(event), page)
 }
 
 fn path_of(event: &Event) -> &Path
@@ -68,8 +65,8 @@ fn button_of(new: &Page, event: &Event) -> Option<u32>
 
 // The node that a path selects, if it is the only one.
 fn only(path: &Path, page: &Page) -> Option<u32>
-    ensures there { IfSome result (λ number. number < nodes page.now) }
-    ensures place { option_map (λ number. place_numbered number page.now) result ≡ only_place (target_in path.now page.now) }
+    ensures some { IfSome result (IsNodeOf path.now page.now) }
+    ensures place { option_map (λ n. place_numbered n page.now) result ≡ only_place (target_in path.now page.now) }
 {
     match path.find(page) {
         Found::One(number) => Some(number),
@@ -115,6 +112,7 @@ fn input_conflict(
     Ok(input_conflict_on(new.control_of(number), is_disabled(new, number), unchanged))
 }
 
+// K4 off a text control or into a disabled one, K5 over a changed text.
 #[tactic(auto, unfolding(crate::specs::Conflict::input_conflict_on))]
 fn input_conflict_on(control: Control, disabled: bool, unchanged: bool) -> Option<ConflictKind>
     ensures { result ≡ input_conflict_on control disabled unchanged }
@@ -148,6 +146,7 @@ fn click_conflict(new: &Page, req: u64, number: u32) -> Option<ConflictKind>
     click_conflict_on(new.control_of(number), is_disabled(new, number), req)
 }
 
+// K4 on a radio button or a disabled checkbox.
 #[tactic(auto, unfolding(crate::specs::Conflict::click_conflict_on))]
 fn click_conflict_on(control: Control, disabled: bool, req: u64) -> Option<ConflictKind>
     ensures { result ≡ click_conflict_on control disabled req }
@@ -160,6 +159,7 @@ fn click_conflict_on(control: Control, disabled: bool, req: u64) -> Option<Confl
     }
 }
 
+// K6 where a request was made.
 fn off_link(req: u64) -> Option<ConflictKind>
     ensures { result ≡ off_link req }
 {
@@ -186,6 +186,7 @@ fn submit_conflict(
     submit_conflict_on(new.control_of(form), has)
 }
 
+// K7 off a form, or without its button.
 #[tactic(auto, unfolding(crate::specs::Conflict::submit_conflict_on))]
 fn submit_conflict_on(control: Control, button: bool) -> Option<ConflictKind>
     ensures { result ≡ submit_conflict_on control button }

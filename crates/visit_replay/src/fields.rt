@@ -1,8 +1,7 @@
 //! The fields of a page that events have changed so far.
-ghost use Rattle.std.specs.Prelude.{◌≡◌, [], ◌∷◌, ◌++◌, List, OnOk, option_map, unwrap_or};
+ghost use Rattle.std.specs.Prelude.{◌≡◌, [], OnOk, option_map, unwrap_or};
 ghost use Rattle.page_tree.specs.Tree.{Tree};
-ghost use Rattle.upload_reader.specs.declared.message.Event.{Event as AnEvent};
-ghost use Rattle.visit_replay.specs.inside.KeptFields.{Keeps, IsWritten, IsClicked, text_written, check_turned};
+ghost use Rattle.visit_replay.specs.inside.KeptFields.{Keeps, TakesIn, IsWritten, IsClicked, text_written, check_turned};
 ghost use Rattle.visit_replay.specs.inside.OneEvent.{IsTargetOf};
 
 use page_tree::{Control, NoMemory, Page};
@@ -45,7 +44,7 @@ impl<'a> Fields<'a> {
     /// Takes in one event more, whose target has that number.
     pub(crate) fn note(&mut self, new: &Page, event: &'a Event, number: u32) -> Result<(), NoMemory>
         requires { IsTargetOf new.now event.now number }
-        ensures { OnOk result ((before : List AnEvent) → Keeps self.old new.now before → Keeps self.new new.now (before ++ event.now ∷ [])) }
+        ensures { OnOk result (TakesIn new.now event.now self.old self.new) }
     {
         match event {
             Event::Input { value, .. } => self.note_input(value.as_str(), number),

@@ -1,12 +1,11 @@
 //! The outcomes of a list of visits, of which each follows its parent.
-ghost use Rattle.std.specs.Prelude.{◌≡◌, ◌≢◌, ◌<◌, ◌==◌, if◌then◌else◌, List, ℕ, length, map, zip, slice_get, Some, IfOk, IfSome, OnOk};
+ghost use Rattle.std.specs.Prelude.{◌≡◌, ◌≢◌, ◌<◌, ℕ, length, map, zip, slice_get, IfOk, IfSome, OnOk};
 ghost use Rattle.std.specs.BTreeMap.{get};
 ghost use Rattle.std.specs.Ordering.{nat_cmp};
-ghost use Rattle.client_log.specs.declared.visit.Visit.{Visit as AVisit};
 ghost use Rattle.visit_replay.specs.Moved.{is_moved};
-ghost use Rattle.visit_replay.specs.Following.{Replayed, parent_among, is_elsewhere, is_untouched, moved_away, outcome_behind, following};
-ghost use Rattle.visit_replay.specs.inside.Families.{IsKnown, AreKnown, Stands};
-ghost use Rattle.visit_replay.specs.declared.outcome.Outcome.{Outcome as AnOutcome};
+ghost use Rattle.visit_replay.specs.Following.{is_untouched, moved_away, following};
+ghost use Rattle.visit_replay.specs.inside.Families.{IsKnown, AreKnown, ArePlaces, TellsElsewhere, IsBehind};
+ghost use Rattle.visit_replay.specs.inside.Setting.{IsSetAt};
 
 use crate::moves::{has_moved, moves_of};
 use crate::outcome::{ConflictKind, Outcome};
@@ -46,7 +45,7 @@ pub fn follow_parents(
     Ok(outcomes)
 }
 
-// Gives the visit there the outcome that it has behind those before it.
+// Gives the visit there the outcome that it has behind those before it: K10 where its parent leads elsewhere.
 fn settle(
     alloc: Global,
     visits: &[Visit],
@@ -60,7 +59,7 @@ fn settle(
     requires known { AreKnown visits.now outcomes.old slots.old }
     ensures known { AreKnown visits.now outcomes.new slots.new }
     ensures others { (j : ℕ) → j ≢ k → slice_get outcomes.new j ≡ slice_get outcomes.old j }
-    ensures settled { (before : List Replayed) (visit : AVisit) (mine : AnOutcome) → Stands visits.now outcomes.old (get nat_cmp places.now) before → slice_get visits.now k ≡ Some visit → slice_get outcomes.old k ≡ Some mine → OnOk result (slice_get outcomes.new k ≡ Some (outcome_behind before visit mine)) }
+    ensures settled { OnOk result (IsBehind visits.now (get nat_cmp places.now) k outcomes.old outcomes.new) }
 {
     if is_untouched(&outcomes[k]) {
         return Ok(());
@@ -81,6 +80,7 @@ fn is_untouched(outcome: &Outcome) -> bool
     }
 }
 
+// K10.
 fn moved_away(alloc: Global) -> Outcome
     ensures { result ≡ moved_away }
 {
@@ -92,7 +92,7 @@ fn moved_away(alloc: Global) -> Outcome
 }
 
 fn put_place(places: &mut BTreeMap<u64, usize>, number: u64, place: usize) -> Result<(), AllocError>
-    ensures { OnOk result ((other : ℕ) → get nat_cmp places.new other ≡ (if number == other then Some place else get nat_cmp places.old other)) }
+    ensures { OnOk result (IsSetAt number place (get nat_cmp places.old) (get nat_cmp places.new)) }
 {
     places.insert(number, place)?;
     Ok(())
@@ -107,10 +107,10 @@ fn is_elsewhere(
     slots: &mut [Option<BTreeMap<u64, bool>>],
     visit: &Visit,
 ) -> Result<bool, NoMemory>
-    requires within { (number : ℕ) → IfSome (get nat_cmp places.now number) (λ j. (j < length visits.now) × (j < length outcomes.now) × (j < length slots.old)) }
+    requires within { ArePlaces (get nat_cmp places.now) visits.now outcomes.now slots.old }
     requires known { AreKnown visits.now outcomes.now slots.old }
     ensures known { AreKnown visits.now outcomes.now slots.new }
-    ensures answer { (before : List Replayed) → Stands visits.now outcomes.now (get nat_cmp places.now) before → IfOk result (λ answer. answer ≡ is_elsewhere visit.now (parent_among before visit.now)) }
+    ensures answer { IfOk result (TellsElsewhere visits.now outcomes.now (get nat_cmp places.now) visit.now) }
 {
     if visit.parent >= visit.number {
         return Ok(false);

@@ -1,15 +1,11 @@
 //! What a form sends.
-ghost use Rattle.std.specs.Prelude.{◌≡◌, ◌<◌, [], List, Option, IfOk, OnOk, option_map};
+ghost use Rattle.std.specs.Prelude.{◌≡◌, ◌<◌, [], ◌∷◌, IfOk, OnOk, option_map};
 ghost use Rattle.std.specs.List.{cons_option};
-ghost use Rattle.form_urlencoded.specs.Form.{append_pair, extend_pairs};
+ghost use Rattle.form_urlencoded.specs.Form.{append_pair};
 ghost use Rattle.page_tree.specs.Limits.{nodes};
 ghost use Rattle.page_tree.specs.Number.{place_numbered};
-ghost use Rattle.upload_reader.specs.declared.message.Event.{Event as AnEvent};
-ghost use Rattle.xpath_child.specs.Path.{Step};
-ghost use Rattle.visit_replay.specs.Form.{unless_empty, sent_name, value_or, encoded, is_post, action_of};
-ghost use Rattle.visit_replay.specs.inside.KeptFields.{Keeps};
-ghost use Rattle.visit_replay.specs.inside.FieldsNow.{text_now, is_on_now, is_pressed, value_now, pair_now, pairs_now};
-ghost use Rattle.visit_replay.specs.inside.OneEvent.{IsButton};
+ghost use Rattle.visit_replay.specs.Form.{unless_empty, sent_name, value_or, is_post, action_of};
+ghost use Rattle.visit_replay.specs.inside.FieldsNow.{text_now, is_on_now, is_pressed, named_now, pair_now, pairs_now, with_pairs, IsEncoded};
 
 use crate::conflicts::is_disabled;
 use crate::fields::Fields;
@@ -29,7 +25,7 @@ pub(crate) struct Filled<'a, 'v> {
 /// The form's pairs as `application/x-www-form-urlencoded`, in one pass over the nodes under it.
 pub(crate) fn encoded(alloc: Global, filled: &Filled<'_, '_>, form: u32) -> Result<Text, NoMemory>
     requires { form < nodes filled.now.page.now }
-    ensures { IfOk result (λ text. (before : List AnEvent) (by : Option (List Step)) → Keeps filled.now.fields.now filled.now.page.now before → IsButton filled.now.page.now by filled.now.button → text ≡ encoded filled.now.page.now before by (place_numbered form filled.now.page.now)) }
+    ensures { IfOk result (IsEncoded filled.now form) }
 {
     let mut pairs = Serializer::new(String::new(alloc));
     add_pairs(&mut pairs, filled, filled.page.nodes_under(form))?;
@@ -70,7 +66,7 @@ fn add_pairs(
     filled: &Filled<'_, '_>,
     numbers: Range<u32>,
 ) -> Result<(), NoMemory>
-    ensures { OnOk result (pairs.new ≡ record pairs.old { form = extend_pairs pairs.old.form (pairs_now filled.now numbers.start numbers.end) }) }
+    ensures { OnOk result (pairs.new ≡ with_pairs pairs.old (pairs_now filled.now numbers.start numbers.end)) }
 {
     for number in numbers.start..numbers.end {
         add_pair(pairs, filled, number)?;
@@ -80,7 +76,7 @@ fn add_pairs(
 
 // Adds what the node with that number sends, if anything.
 fn add_pair(pairs: &mut Serializer, filled: &Filled<'_, '_>, number: u32) -> Result<(), NoMemory>
-    ensures { OnOk result (pairs.new ≡ record pairs.old { form = extend_pairs pairs.old.form (cons_option (pair_now filled.now number) []) }) }
+    ensures { OnOk result (pairs.new ≡ with_pairs pairs.old (cons_option (pair_now filled.now number) [])) }
 {
     match sent_name(filled.page, number) {
         Some(name) => add_named(pairs, name, filled, number),
@@ -96,7 +92,7 @@ fn add_named(
     filled: &Filled<'_, '_>,
     number: u32,
 ) -> Result<(), NoMemory>
-    ensures { OnOk result (pairs.new ≡ record pairs.old { form = extend_pairs pairs.old.form (cons_option (option_map (λ value. (name.now, value)) (value_now filled.now number)) []) }) }
+    ensures { OnOk result (pairs.new ≡ with_pairs pairs.old (cons_option (named_now filled.now name.now number) [])) }
 {
     let page = filled.page;
     match page.control_of(number) {
@@ -121,7 +117,7 @@ fn add_text(
     filled: &Filled<'_, '_>,
     number: u32,
 ) -> Result<(), NoMemory>
-    ensures { OnOk result (pairs.new ≡ record pairs.old { form = append_pair pairs.old.form name.now (text_now filled.now number) }) }
+    ensures { OnOk result (pairs.new ≡ with_pairs pairs.old ((name.now, text_now filled.now number) ∷ [])) }
 {
     match filled.fields.text(number) {
         Some(text) => pairs.append_pair(name, text),

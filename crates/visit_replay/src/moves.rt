@@ -1,14 +1,14 @@
 //! Which requests of a visit go elsewhere now: all of them at once, for visits that open many others.
-ghost use Rattle.std.specs.Prelude.{◌≡◌, ◌<◌, ◌+◌, ◌==◌, if◌then◌else◌, List, ℕ, length, take, Bool, Some, IfOk, OnOk, option_map};
+ghost use Rattle.std.specs.Prelude.{◌≡◌, ◌<◌, length, take, IfOk, OnOk, option_map};
 ghost use Rattle.std.specs.BTreeMap.{get};
 ghost use Rattle.std.specs.Ordering.{nat_cmp};
-ghost use Rattle.visit_replay.specs.Moved.{are_apart, own_request, request_now, is_moved, requests_of};
+ghost use Rattle.visit_replay.specs.Moved.{own_request};
 ghost use Rattle.visit_replay.specs.inside.KeptFields.{Keeps};
-ghost use Rattle.visit_replay.specs.inside.Moves.{Knows, address_of};
-ghost use Rattle.visit_replay.specs.declared.outcome.Outcome.{Outcome as AnOutcome};
+ghost use Rattle.visit_replay.specs.inside.Moves.{Knows, TellsMoved, AreAddresses, TellsApart, KnowsMore, address_in};
+ghost use Rattle.visit_replay.specs.inside.Setting.{IsSetAt};
 
 use crate::fields::Fields;
-use crate::moving::{note, number_of, own_request_on, requests_of};
+use crate::moving::{note, own_request_on, requests_of};
 use crate::outcome::Outcome;
 use crate::requests::Request;
 use client_log::Visit;
@@ -37,7 +37,7 @@ pub(crate) fn moves_of(
 
 /// Whether the request of that number goes elsewhere.
 pub(crate) fn has_moved(moves: &BTreeMap<u64, bool>, number: u64) -> bool
-    ensures { (visit : _) (outcome : AnOutcome) → Knows visit outcome (length visit.events) moves.now → result ≡ is_moved visit outcome number }
+    ensures { TellsMoved moves.now number result }
 {
     moves.get(&number).copied().unwrap_or(false)
 }
@@ -47,7 +47,7 @@ fn addresses_of<'a>(
     alloc: Global,
     requests: &'a [Request],
 ) -> Result<BTreeMap<u64, &'a str>, AllocError>
-    ensures { IfOk result (λ addresses. (number : ℕ) → option_map (λ address. address.now) (get nat_cmp addresses number) ≡ address_of requests.now number) }
+    ensures { IfOk result (AreAddresses requests.now) }
 {
     let mut addresses = BTreeMap::new(alloc);
     for request in requests {
@@ -64,7 +64,7 @@ fn put_address<'a>(
     number: u64,
     address: &'a str,
 ) -> Result<(), AllocError>
-    ensures { OnOk result ((other : ℕ) → option_map (λ text. text.now) (get nat_cmp addresses.new other) ≡ (if number == other then Some address.now else option_map (λ text. text.now) (get nat_cmp addresses.old other))) }
+    ensures { OnOk result (IsSetAt number address.now (address_in addresses.old) (address_in addresses.new)) }
 {
     addresses.insert(number, address)?;
     Ok(())
@@ -81,9 +81,9 @@ fn add_move(
 ) -> Result<(), NoMemory>
     requires there { k < length visit.now.events }
     requires fields { Keeps fields.now visit.now.page (take k visit.now.events) }
-    ensures { (outcome : AnOutcome) → ((number : ℕ) → option_map (λ address. address.now) (get nat_cmp addresses.now number) ≡ address_of (requests_of outcome) number) → Knows visit.now outcome k moves.old → OnOk result (Knows visit.now outcome (k + 1) moves.new) }
+    ensures { OnOk result (KnowsMore visit.now k addresses.now moves.old moves.new) }
 {
-    let number = number_of(&visit.events.as_slice()[k]);
+    let number = visit.events.as_slice()[k].request();
     if number == 0 || moves.contains_key(&number) {
         return Ok(());
     }
@@ -93,7 +93,7 @@ fn add_move(
 }
 
 fn is_apart(before: &Option<Request>, now: Option<&str>) -> bool
-    ensures { (other : _) → option_map (λ address. address.now) now.entry ≡ option_map (λ request. request.address) other → result ≡ are_apart before.now other }
+    ensures { TellsApart before.now (option_map (λ address. address.now) now.entry) result }
 {
     match (before, now) {
         (Some(before), Some(now)) => before.address.as_str() != now,
@@ -102,7 +102,7 @@ fn is_apart(before: &Option<Request>, now: Option<&str>) -> bool
 }
 
 fn put_move(moves: &mut BTreeMap<u64, bool>, number: u64, apart: bool) -> Result<(), AllocError>
-    ensures { OnOk result ((other : ℕ) → get nat_cmp moves.new other ≡ (if number == other then Some apart else get nat_cmp moves.old other)) }
+    ensures { OnOk result (IsSetAt number apart (get nat_cmp moves.old) (get nat_cmp moves.new)) }
 {
     moves.insert(number, apart)?;
     Ok(())

@@ -1,8 +1,7 @@
 //! Whether a request of a visit goes elsewhere now.
-ghost use Rattle.std.specs.Prelude.{◌≡◌, ◌<◌, [], ◌∷◌, ◌++◌, List, length, take, IfOk, IfSome, OnOk, option_map};
-ghost use Rattle.upload_reader.specs.declared.message.Event.{Event as AnEvent};
-ghost use Rattle.visit_replay.specs.Moved.{requests_of, request_now, number_of, event_numbered, own_request, request_then, is_moved};
-ghost use Rattle.visit_replay.specs.inside.KeptFields.{Keeps};
+ghost use Rattle.std.specs.Prelude.{◌≡◌, ◌<◌, length, take, IfOk, IfSome, OnOk, option_map};
+ghost use Rattle.visit_replay.specs.Moved.{requests_of, request_now, event_numbered, own_request, request_then, is_moved};
+ghost use Rattle.visit_replay.specs.inside.KeptFields.{Keeps, TakesIn};
 
 use crate::conflicts::{Located, find, target_of};
 use crate::fields::Fields;
@@ -53,22 +52,12 @@ fn request_now(outcome: &Outcome, number: u64) -> Option<&Request>
 
 // ---- what the visit asked for
 
-pub(crate) fn number_of(event: &Event) -> u64
-    ensures { result ≡ number_of event.now }
-{
-    match event {
-        Event::Input { .. } => 0,
-        Event::Click { req, .. } => *req,
-        Event::Submit { req, .. } => *req,
-    }
-}
-
 // Where the first event stands that made the request of that number.
 fn event_numbered(events: &[Event], number: u64) -> Option<usize>
     ensures place { result ≡ event_numbered events.now number }
     ensures within { IfSome result (λ k. k < length events.now) }
 {
-    events.iter().position(|event| number_of(event) == number)
+    events.iter().position(|event| event.request() == number)
 }
 
 fn request_then(alloc: Global, visit: &Visit, number: u64) -> Result<Option<Request>, NoMemory>
@@ -137,7 +126,7 @@ pub(crate) fn note<'a>(
     event: &'a Event,
     fields: &mut Fields<'a>,
 ) -> Result<(), NoMemory>
-    ensures { OnOk result ((before : List AnEvent) → Keeps fields.old page.now before → Keeps fields.new page.now (before ++ event.now ∷ [])) }
+    ensures { OnOk result (TakesIn page.now event.now fields.old fields.new) }
 {
     match target_of(page, event) {
         Some(target) => fields.note(page, event, target),

@@ -1,8 +1,9 @@
 //! The outcome of a visit: the walk over its events, up to the first that can't be replayed, and what stands at its end.
 ghost use Rattle.std.specs.Prelude.{ℕ, ◌≡◌, ◌<◌, ◌+◌, ◌^◌, IfOk, IfSome, Some};
 ghost use Rattle.visit_replay.specs.Conflict.{conflict};
-ghost use Rattle.visit_replay.specs.Outcome.{outcome, on_page, at_end, all_requests, first_conflict};
-ghost use Rattle.visit_replay.specs.inside.OneEvent.{TakesEvent, made_until};
+ghost use Rattle.visit_replay.specs.Outcome.{outcome, all_requests, first_conflict};
+ghost use Rattle.visit_replay.specs.RepairedSite.{site_by};
+ghost use Rattle.visit_replay.specs.inside.OneEvent.{TakesEvent, made_until, outcome_on_page, outcome_at_end};
 
 use crate::conflicts::{Located, find};
 use crate::fields::Fields;
@@ -27,7 +28,7 @@ pub fn replay<H: SiteHooks>(
     patch: &Patch,
     visit: &Visit,
 ) -> Result<Outcome, NoMemory>
-    ensures { IfOk result (λ answer. answer ≡ outcome (H.page_of hooks.now) (H.signals hooks.now) patch.now visit.now) }
+    ensures { IfOk result (λ answer. answer ≡ outcome (site_by H.page_of H.signals hooks.now patch.now) visit.now) }
 {
     if !affected(patch, visit) {
         return Ok(Outcome::Untouched);
@@ -49,7 +50,7 @@ fn replay_on<H: SiteHooks>(
     visit: &Visit,
     new: &Page,
 ) -> Result<Outcome, NoMemory>
-    ensures { IfOk result (λ answer. answer ≡ on_page visit.now (H.signals hooks.now visit.now.address visit.now.page) (Some new.now)) }
+    ensures { IfOk result (λ answer. answer ≡ outcome_on_page (H.signals hooks.now) visit.now new.now) }
 {
     let walked = walk(alloc, visit, new)?;
     match walked.stop {
@@ -62,7 +63,7 @@ fn replay_on<H: SiteHooks>(
     }
 }
 
-// Behind the last event.
+// Behind the last event: K8, K9, or done.
 fn finish<H: SiteHooks>(
     hooks: &H,
     visit: &Visit,
@@ -70,7 +71,7 @@ fn finish<H: SiteHooks>(
     requests: Requests,
 ) -> Result<Outcome, NoMemory>
     requires { requests ≡ all_requests visit.now new.now }
-    ensures { IfOk result (λ answer. answer ≡ at_end visit.now new.now (H.signals hooks.now visit.now.address visit.now.page new.now)) }
+    ensures { IfOk result (λ answer. answer ≡ outcome_at_end (H.signals hooks.now) visit.now new.now) }
 {
     let at = visit.events.as_slice().len() as u64 + 1;
     if visit.cut {
@@ -122,7 +123,7 @@ fn step<'a>(
     requests: &mut Requests,
 ) -> Result<Option<ConflictKind>, NoMemory>
     ensures conflict { IfOk result (λ found. found ≡ conflict visit.now.page new.now event.now) }
-    ensures steps { IfOk result (TakesEvent visit.now.address new.now event.now fields.old fields.new requests.old requests.new) }
+    ensures steps { IfOk result (TakesEvent visit.now new.now event.now fields.old fields.new requests.old requests.new) }
 {
     let (target, button) = match find(&visit.page, new, event)? {
         Located::Bad(kind) => return Ok(Some(kind)),

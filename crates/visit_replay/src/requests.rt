@@ -1,12 +1,10 @@
 //! Requests, and how a replayed visit makes them.
 ghost use Rattle.std.specs.Prelude.{◌≡◌, ◌<◌, [], ◌∷◌, ◌++◌, List, IfOk, OnOk, OnErr, option_map, codes};
-ghost use Rattle.upload_reader.specs.declared.message.Event.{Event as AnEvent};
 ghost use Rattle.page_tree.specs.Limits.{nodes};
-ghost use Rattle.page_tree.specs.Look.{attribute_at};
 ghost use Rattle.page_tree.specs.Number.{place_numbered};
-ghost use Rattle.visit_replay.specs.Form.{is_post, action_of, post_request, get_request, form_request_of};
-ghost use Rattle.visit_replay.specs.Requests.{load_request, link_request, request_at};
-ghost use Rattle.visit_replay.specs.inside.KeptFields.{Keeps};
+ghost use Rattle.visit_replay.specs.Form.{sent_by, post_request, get_request};
+ghost use Rattle.visit_replay.specs.Requests.{load_request, link_request, link_request_at};
+ghost use Rattle.visit_replay.specs.inside.FieldsNow.{IsRequestAt};
 ghost use Rattle.visit_replay.specs.inside.OneEvent.{IsButton, by_of};
 
 use crate::address::bare;
@@ -114,7 +112,7 @@ pub(crate) fn request_at(
 ) -> Result<Option<Request>, NoMemory>
     requires there { target < nodes filled.now.page.now }
     requires button { IsButton filled.now.page.now (by_of event.now) filled.now.button }
-    ensures { IfOk result (λ request. (before : List AnEvent) → Keeps filled.now.fields.now filled.now.page.now before → request ≡ request_at address.now filled.now.page.now before event.now (place_numbered target filled.now.page.now)) }
+    ensures { IfOk result (IsRequestAt address.now filled.now event.now target) }
 {
     let new = filled.page;
     match event {
@@ -135,7 +133,7 @@ fn click_request(
     number: u64,
     link: u32,
 ) -> Result<Option<Request>, NoMemory>
-    ensures { IfOk result (λ request. request ≡ option_map (link_request number) (attribute_at (place_numbered link new.now) (codes "href") new.now)) }
+    ensures { IfOk result (λ request. request ≡ link_request_at number (place_numbered link new.now) new.now) }
 {
     match new.attribute_of(link, "href") {
         Some(address) => Ok(Some(link_request(alloc, number, address)?)),
@@ -164,7 +162,7 @@ fn form_request(
     number: u64,
     pairs: Text,
 ) -> Result<Request, NoMemory>
-    ensures { IfOk result (λ request. request ≡ form_request_of (is_post (place_numbered form new.now) new.now) number (action_of address.now (place_numbered form new.now) new.now) pairs) }
+    ensures { IfOk result (λ request. request ≡ sent_by address.now (place_numbered form new.now) new.now number pairs) }
 {
     let action = forms::action_of(address, new, form);
     if forms::is_post(new, form) {

@@ -6,10 +6,11 @@ use Rattle.std.specs.Cmp.Lexicographic.{nat_list_eq_equiv}
 use Rattle.std.proofs.lemmas.Bool.{cond-true, cond-false}
 use Rattle.indexmap.specs.IndexMap.{get, insert_all, insert_entry}
 use Rattle.indexmap.proofs.MapLemmas.{insert_entry-absent, absent_from_lookup}
-use Rattle.page_tree.specs.Tree.{Tree}
+use Rattle.visit_replay.specs.RepairedSite.{RepairedSite}
 use Rattle.upload_reader.specs.Upload.{UploadState}
 use Rattle.conflict_desk.specs.Book.{Book, with_decision}
-use Rattle.conflict_desk.specs.Desk.{Books, book_of, decided_on, decided_in, refusal, unless_refused, Call, after_call, after_calls, opened_all}
+use Rattle.conflict_desk.specs.Desk.{Books, book_of, decided_on, decided_in, refusal, unless_refused, after_call, after_calls, new_books}
+use Rattle.conflict_desk.specs.declared.decision.Decision.{Decision}
 use Rattle.conflict_desk.specs.declared.docket.Docket.{Docket}
 use Rattle.conflict_desk.specs.declared.fault.DeskFault.{DeskFault}
 use Rattle.upload_lanes.specs.Lane.{IsTaken}
@@ -108,7 +109,7 @@ put_back : (books : Books) (client : List ℕ) (book new : Book) → lookup (byt
 put_back [] client book new found same = cc
 put_back (e ∷ books) client book new found same = put_by (bytes_eq client e.0) e books client book new refl same found (λ deeper. put_back books client book new deeper same)
 
-module _ (books : Books) (call : Call) where
+module _ (books : Books) (call : Decision) where
   decided_leaves : (found : Option Book) → book_of call.client books ≡ found → map docket_of (decided_in call.client call.visit call.choice books found) ≡ map docket_of books
   decided_leaves None is = refl
   decided_leaves (Some book) is = put_back books call.client book (with_decision call.visit call.choice book) is refl
@@ -120,20 +121,20 @@ module _ (books : Books) (call : Call) where
   call_leaves : map docket_of (after_call books call) ≡ map docket_of books
   call_leaves = refused_leaves (refusal call.client call.visit books)
 
-calls_leave : (books : Books) (calls : List Call) → map docket_of (after_calls books calls) ≡ map docket_of books
+calls_leave : (books : Books) (calls : List Decision) → map docket_of (after_calls books calls) ≡ map docket_of books
 calls_leave books [] = refl
 calls_leave books (call ∷ calls) = calls_leave (after_call books call) calls ∙ call_leaves books call
 
-opened_as : (dockets : List Docket) → map docket_of (opened_all dockets) ≡ dockets
+opened_as : (dockets : List Docket) → map docket_of (new_books dockets) ≡ dockets
 opened_as [] = refl
 opened_as (docket ∷ dockets) = ap (λ rest. docket ∷ rest) (opened_as dockets)
 
 -- ---- all together
 
-module _ {R : Type 0} (page_of : List ℕ → Option Tree) (signals : List ℕ → Tree → Tree → Bool) (patch : List (List ℕ)) (quota : ℕ) where
-  pub still_dockets : (entries : List (List ℕ × LaneResult R)) (calls : List Call)
-      → map docket_of (after_calls (opened_all (map (docket_for page_of signals patch) entries)) calls) ≡ map (docket_for page_of signals patch) entries
-  still_dockets entries calls = calls_leave (opened_all (map (docket_for page_of signals patch) entries)) calls ∙ opened_as (map (docket_for page_of signals patch) entries)
+module _ {R : Type 0} (site : RepairedSite) where
+  pub still_dockets : (entries : List (List ℕ × LaneResult R)) (calls : List Decision)
+      → map docket_of (after_calls (new_books (map (docket_for site) entries)) calls) ≡ map (docket_for site) entries
+  still_dockets entries calls = calls_leave (new_books (map (docket_for site) entries)) calls ∙ opened_as (map (docket_for site) entries)
 
 module _ {R : Type 0} (quota : ℕ) (allows : ℕ → Bool → Type 0) (uploads : List (UploadState R)) (gathered : Gathered R) where
   pub all_prefixes : GathersFirst allows uploads quota gathered → AllZip (HasPrefix quota) uploads gathered.clients.entries

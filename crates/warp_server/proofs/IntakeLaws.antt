@@ -4,19 +4,19 @@ use Rattle.std.specs.Prelude.{IsNone}
 use Rattle.serde_json.specs.Data.{Data}
 use Rattle.byte_streams.specs.Answers.{Answer}
 use Rattle.byte_streams.specs.Cutting.{ending_of, StopsAtEnd}
-use Rattle.byte_streams.specs.Reading.{Reading, WasRead, ReadsWhile, Advances, Tells, input}
+use Rattle.byte_streams.specs.Reading.{Reading, WasRead, ReadsWhile, Advances, Tells, input, reads_of}
 use Rattle.byte_streams.specs.declared.fault.LineFault.{LineFault}
 use Rattle.upload_reader.specs.Upload as upload
 use Rattle.upload_reader.specs.Upload.{UploadState, Begins}
 use Rattle.upload_reader.specs.declared.hello_fault.HelloFault.{HelloFault}
 use Rattle.upload_reader.specs.declared.hello_fault.HelloFault.TheVariants as hello
-use Rattle.site_line.specs.Site.{Site as PlainSite, IsJsonOf, IsSiteOf}
+use Rattle.site_line.specs.Site.{Site as PlainSite, IsJsonOf, IsNoSite}
 use Rattle.warp_server.specs.program.Run.{site_line, max_site_bytes, HasBadHello, Reads, ReadWhileUndecided}
-use Rattle.warp_server.specs.program.Connection.{IsFresh}
+use Rattle.warp_server.specs.program.Connection.{IsUnreadLines}
 use Rattle.warp_server.specs.inside.Intake.{IsBehindSite, IsRefused, bad_site, no_hello}
-use Rattle.warp_server.specs.inside.Answering.{IsUnread}
-use Rattle.warp_server.specs.declared.program.intake.Refused.{Refused}
-use Rattle.warp_server.specs.declared.program.intake.Refused.TheVariants as refused
+use Rattle.warp_server.specs.inside.Answering.{HasNoInput}
+use Rattle.warp_server.specs.declared.program.status.Status.{Status}
+use Rattle.warp_server.specs.declared.program.status.Status.TheVariants.{Done, BadSite, BadHello, OutOfMemory, InputOutput}
 use Rattle.site_line.specs.declared.site.Site.{Site}
 use Rattle.site_line.specs.declared.fault.SiteFault.{SiteFault}
 use Rattle.site_line.specs.declared.fault.SiteFault.TheVariants as site_fault
@@ -29,7 +29,7 @@ same_value line d e is also = let same : Some d ≡ Some e = sym is.1 ∙ also.1
 
 pub bad_refused : (bytes line : List ℕ) (ending : Option LineFault) (fault : SiteFault) → site_line bytes ending ≡ Some (Ok line)
     → (fault ≡ site_fault.NotJson → (d : Data) → IsJsonOf line d → ⊥)
-    → (fault ≡ site_fault.BadMember → (d : Data) × IsJsonOf line d × ((site : PlainSite) → IsSiteOf d site → ⊥)) → IsRefused (bad_site fault) bytes ending
+    → (fault ≡ site_fault.BadMember → (d : Data) × IsJsonOf line d × IsNoSite d) → IsRefused (bad_site fault) bytes ending
 bad_refused bytes line ending site_fault.NotJson is not_json bad_member = inr (line, is, λ site (d, json, of). not_json refl d json)
 bad_refused bytes line ending site_fault.BadMember is not_json bad_member =
     let (d, json, none) = bad_member refl in
@@ -40,7 +40,7 @@ abbrev ended : Result (Unit {0}) LineFault
 ended = Ok tt
 
 -- the line that was cut of lines of which nothing was read
-pub line_cut : {R : Type 0} (old new : Reading R) (line : List ℕ) → IsFresh old → Advances max_site_bytes old new ended → line ≡ new.line
+pub line_cut : {R : Type 0} (old new : Reading R) (line : List ℕ) → IsUnreadLines old → Advances max_site_bytes old new ended → line ≡ new.line
     → site_line (input new) (ending_of new.answers) ≡ Some (Ok line)
 line_cut old new line fresh advances same =
     let told : Tells ended new.line (site_line (drop old.place (input new)) (ending_of new.answers)) = advances.tells (subst IsNone (sym fresh.fault) refl) in
@@ -50,7 +50,7 @@ line_cut old new line fresh advances same =
 
 module _ {R : Type 0} (answers : R → List Answer) (remaining : R → Option (List ℕ)) (first now : R) (lines : Reading R) (same : lines.first ≡ first)
     (read : WasRead answers remaining lines.first now lines.answers) (needed : ReadWhileUndecided lines.answers) (ends : StopsAtEnd lines.answers) where
-  pub given_back : (P : List ℕ → Option LineFault → Type 0) → P (input lines) (ending_of lines.answers) → Reads (answers first) (answers now) (remaining first) (remaining now) P
+  pub given_back : (P : List ℕ → Option LineFault → Type 0) → P (input lines) (ending_of lines.answers) → Reads (reads_of answers remaining first now) P
   given_back P holds = record {
     more = lines.answers;
     reads_are = rw same at read.told;
@@ -60,11 +60,13 @@ module _ {R : Type 0} (answers : R → List Answer) (remaining : R → Option (L
     holds = holds;
   }
 
-  pub refused_out : (refused : Refused) → IsRefused refused (input lines) (ending_of lines.answers) → IsUnread (answers first) (answers now) (remaining first) (remaining now) refused
-  refused_out refused.ReadFailed holds = given_back (IsRefused refused.ReadFailed) holds
-  refused_out refused.NoSite holds = given_back (IsRefused refused.NoSite) holds
-  refused_out refused.NoHello holds = given_back (IsRefused refused.NoHello) holds
-  refused_out refused.NoMemory holds = tt
+  pub refused_out : (status : Status) → IsRefused status (input lines) (ending_of lines.answers)
+      → HasNoInput (reads_of answers remaining first now) status
+  refused_out InputOutput holds = given_back (IsRefused InputOutput) holds
+  refused_out BadSite holds = given_back (IsRefused BadSite) holds
+  refused_out BadHello holds = given_back (IsRefused BadHello) holds
+  refused_out OutOfMemory holds = tt
+  refused_out Done holds = absurd holds
 
 -- ---- the upload behind the site line
 

@@ -14,7 +14,7 @@ use Rattle.upload_reader.specs.declared.lane_fault.LaneEnd.{LaneEnd}
 use Rattle.site_line.specs.Site.{Site as PlainSite}
 use Rattle.warp_server.specs.program.Run.{site_line, max_site_bytes, HasSite, HasReport, HasBadSite, BeginsBy, behind, Opening, OpensBy, lane_behind, lane_place, IsUndecided, ReadWhileUndecided}
 use Rattle.upload_lanes.specs.Lane.{NotOver}
-use Rattle.warp_server.specs.program.Connection.{IsFresh}
+use Rattle.warp_server.specs.program.Connection.{IsUnreadLines}
 use Rattle.warp_server.specs.inside.Intake.{IsBehindSite}
 use Rattle.site_line.specs.declared.site.Site.{Site}
 use Rattle.warp_server.proofs.OpeningLaws.{greets, same_lines, same_said, greeting_once, end_once, site_stays, opens_stays}
@@ -108,7 +108,7 @@ site_later old new line site reads has =
     rw (ap bytes_of reads.answers ∙ bytes_of-append old.answers reads.more)
     (site_stays (input old) (bytes_of reads.more) (ending_of old.answers) (ending_of new.answers) line site has)
 
-pub line_needed : {R : Type 0} (old new : Reading R) → IsFresh old → ReadsWhile (NoLineYet max_site_bytes old.place) old new → ReadWhileUndecided new.answers
+pub line_needed : {R : Type 0} (old new : Reading R) → IsUnreadLines old → ReadsWhile (NoLineYet max_site_bytes old.place) old new → ReadWhileUndecided new.answers
 line_needed old new fresh reads =
     let needed : MadeWhile (NoLineYet max_site_bytes 0) [] new.answers = rw (fresh.answers, fresh.place) at reads.needed in
     λ n low high. before_line (bytes_of (take n new.answers)) (needed n low high)

@@ -1,6 +1,6 @@
 -- A round with one lane, whose recorder is never asked to stop.
 use Rattle.std.proofs.Common.{◌≡◌, ℕ, List, [], ◌∷◌, map, Bool, true, false, ◌&&◌, is_some, bytes_eq, Option, Some, None, inl, inr, ◌⊎◌, refl, sym, ap, subst, ◌∙◌, true≢false}
-use Rattle.std.specs.Prelude.{IsSome, IfOk, Result, Ok, Err}
+use Rattle.std.specs.Prelude.{IsSome}
 use Rattle.std.specs.Map.{lookup}
 use Rattle.indexmap.specs.IndexMap.{get, insert_all}
 use Rattle.upload_reader.specs.Upload.{UploadState}
@@ -8,14 +8,13 @@ use Rattle.upload_reader.specs.declared.ending.Ending.{Ending}
 use Rattle.upload_lanes.specs.Lane.{IsTaken}
 use Rattle.upload_lanes.specs.Round.{new_log, log_before, resumed, rested}
 use Rattle.upload_lanes.specs.Threads.{AreTaken, GathersFirst, Stops}
-use Rattle.upload_lanes.specs.declared.fault.GatherFault.{GatherFault}
 use Rattle.upload_lanes.specs.declared.gathered.Gathered.{Gathered}
 use Rattle.upload_lanes.specs.declared.gathered.LaneResult.{LaneResult}
 use Rattle.upload_lanes.specs.declared.gathered.Stop.{Stop}
 use Rattle.upload_lanes.specs.declared.gathered.Stop.TheVariants as stops
 use Rattle.upload_lanes.proofs.OneLane.{one_lane}
 use Rattle.warp_server.specs.Answer.{never}
-use Rattle.warp_server.specs.inside.Answering.{IsWhole, HasOnlyUpload}
+use Rattle.warp_server.specs.inside.Answering.{IsWholeLane, HasOnlyUpload}
 
 -- ---- a question that allows no more
 
@@ -32,23 +31,6 @@ module _ {R : Type 0} (allows : ℕ → Bool → Type 0) (false_only : (n : ℕ)
     each = λ recorder one at. stops_never _ one (taken.each recorder one at);
     stop_is = taken.stop_is;
   }
-
-  pub gathers_never : (uploads : List (UploadState R)) (quota : ℕ) (gathered : Gathered R) → GathersFirst allows uploads quota gathered → GathersFirst never uploads quota gathered
-  gathers_never uploads quota gathered (earlier, empty, g) = (
-    earlier,
-    empty,
-    record {
-      is_round = g.is_round;
-      lanes = g.lanes;
-      taken = taken_never (get bytes_eq earlier.clients) quota uploads g.lanes gathered.stop g.taken;
-      clients_are = g.clients_are;
-    },
-  )
-
-  pub ok_never : (uploads : List (UploadState R)) (quota : ℕ) (result : Result (Gathered R) GatherFault) → IfOk result (GathersFirst allows uploads quota)
-      → IfOk result (GathersFirst never uploads quota)
-  ok_never uploads quota (Ok gathered) taken = gathers_never uploads quota gathered taken
-  ok_never uploads quota (Err fault) taken = tt
 
 -- ---- the only lane
 
@@ -74,7 +56,7 @@ module _ {R : Type 0} (upload : UploadState R) (quota : ℕ) where
   ended_by lane stops.Asked so = absurd (true≢false (so.asked refl))
   ended_by lane stops.Memory so = inr (refl, no_end lane.1.end (sym (and_true (is_some lane.1.end)) ∙ so.ended))
 
-  pub whole_lane : (gathered : Gathered R) → GathersFirst never (upload ∷ []) quota gathered → IsWhole upload quota gathered
+  pub whole_lane : (gathered : Gathered R) → GathersFirst never (upload ∷ []) quota gathered → IsWholeLane upload quota gathered
   whole_lane gathered (earlier, empty, g) =
       let one = one_lane never (get bytes_eq earlier.clients) quota upload g.lanes gathered.stop g.taken in
       record {
@@ -89,5 +71,5 @@ module _ {R : Type 0} (upload : UploadState R) (quota : ℕ) where
         ends = ended_by one.lane gathered.stop one.stops_so;
       }
 
-  abbrev pub has_only : (gathered : Gathered R) → IsWhole upload quota gathered → HasOnlyUpload gathered
+  abbrev pub has_only : (gathered : Gathered R) → IsWholeLane upload quota gathered → HasOnlyUpload gathered
   has_only gathered whole = record { client = upload.client; lane = whole.lane; now = whole.is_taken.now; only = whole.only; upload_is = whole.is_taken.upload_is }

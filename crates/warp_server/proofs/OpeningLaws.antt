@@ -7,12 +7,12 @@ use Rattle.byte_streams.specs.declared.fault.LineFault.{LineFault}
 use Rattle.byte_streams.specs.declared.fault.LineFault.TheVariants.{LineTooLong}
 use Rattle.byte_streams.proofs.CutLaws.{cut_longer}
 use Rattle.byte_streams.proofs.LineLaws.{complete_lines-more}
-use Rattle.upload_reader.specs.Front.{Passes, EndsBy, joined}
+use Rattle.upload_reader.specs.Front.{Passes, LinesEndBy, bytes_of_lines}
 use Rattle.upload_reader.specs.Greeting.{Greeting, IsGreetingOf, greeting_by, no_greeting, lines_length}
 use Rattle.upload_reader.specs.Hello.{hello_said}
 use Rattle.upload_reader.specs.Limits.{max_line_bytes}
 use Rattle.upload_reader.specs.Message.{is_blank}
-use Rattle.upload_reader.specs.Stream.{Lane, Stream, IsSaid, line_end, stop_end, kind_of}
+use Rattle.upload_reader.specs.Stream.{StreamStart, Stream, IsSaid, line_end, stop_end, kind_of}
 use Rattle.upload_reader.specs.declared.hello_fault.HelloFault.{HelloFault}
 use Rattle.upload_reader.specs.declared.hello_fault.HelloFault.TheVariants.{Line}
 use Rattle.upload_reader.specs.declared.lane_fault.LaneFault.{LaneFault}
@@ -47,7 +47,7 @@ pub greeting_once : (bytes : List ℕ) (ending : Option LineFault) (greeting oth
 greeting_once bytes ending greeting other (front, taken) (front', taken') =
     (taken_unique max_line_bytes greeting_by no_greeting bytes ending front front' greeting other taken taken').1
 
-pub end_once : (lane : Lane) (bytes : List ℕ) (ending : Option LineFault) (stream other : Stream) → IsSaid lane bytes ending stream
+pub end_once : (lane : StreamStart) (bytes : List ℕ) (ending : Option LineFault) (stream other : Stream) → IsSaid lane bytes ending stream
     → IsSaid lane bytes ending other → stream.end ≡ other.end
 end_once lane bytes ending stream other said said' =
     (taken_unique max_line_bytes (line_end lane) (stop_end lane) bytes ending said.front said'.front stream.end other.end said.taken said'.taken).1
@@ -78,7 +78,7 @@ counted false false lines before client fault said is = same_lines lines (before
 first_lines : (n : ℕ) (bytes more : List ℕ) → n ≤ length (complete_lines bytes) → lines_length n (bytes ++ more) ≡ lines_length n bytes
 first_lines n bytes more few =
     let (tail, grown) = complete_lines-more bytes more in
-    ap (λ lines. length (joined lines)) (ap (take n) grown ∙ take-append-le n (complete_lines bytes) tail few)
+    ap (λ lines. length (bytes_of_lines lines)) (ap (take n) grown ∙ take-append-le n (complete_lines bytes) tail few)
 
 abbrev Stays : List ℕ → List ℕ → Option LineFault → ℕ → List ℕ → Type 0
 Stays bytes more ending lines client =
@@ -86,7 +86,7 @@ Stays bytes more ending lines client =
 
 stays_by : (bytes more : List ℕ) (ending ending' : Option LineFault) (lines : ℕ) (client : List ℕ) (front rest : List (List ℕ))
     → complete_lines bytes ≡ front ++ rest → Passes max_line_bytes greeting_by no_greeting front
-    → EndsBy max_line_bytes greeting_by no_greeting front rest (unended bytes) ending (greets lines (Ok client)) → Stays bytes more ending' lines client
+    → LinesEndBy max_line_bytes greeting_by no_greeting front rest (unended bytes) ending (greets lines (Ok client)) → Stays bytes more ending' lines client
 unfolding greeting_by
 stays_by bytes more ending ending' lines client front [] split passes by =
     absurd (no_rest (nat_lt max_line_bytes (length (unended bytes))) lines client front ending by)

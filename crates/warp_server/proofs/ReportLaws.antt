@@ -1,5 +1,5 @@
 -- The texts of visits, one after another.
-use Rattle.std.proofs.Common.{◌≡◌, ℕ, ◌+◌, ◌<◌, List, ◌∷◌, ◌++◌, length, get_or, drop, drop-cons, add-one, Option, Some, None, option_map, refl, sym, ap, ◌∙◌, append_assoc}
+use Rattle.std.proofs.Common.{◌≡◌, ℕ, ◌+◌, ◌<◌, List, ◌∷◌, ◌++◌, length, get_or, drop, drop-cons, add-one, refl, sym, ap, ◌∙◌, append_assoc}
 use Rattle.std.specs.List.{flat_map}
 use Rattle.conflict_desk.specs.Book.{Book}
 use Rattle.conflict_desk.specs.declared.docket.Case.{Case}
@@ -16,13 +16,3 @@ visit_step book cases i case before after start below is so_far added =
     ∙ append_assoc before (visit_text book case) (flat_map (visit_text book) (drop (i + 1) cases))
     ∙ ap (λ rest. before ++ flat_map (visit_text book) rest) (sym (drop_next cases i case below is))
     ∙ so_far
-
--- the client's book, where its cases are there
-pub record HasBook (found : Option Book) (cases : List Case) : Type 0 where
-  pub book : Book
-  pub is : found ≡ Some book
-  pub cases_are : book.cases ≡ cases
-
-pub has_book : (found : Option Book) (cases : List Case) → Some cases ≡ option_map (λ book. book.cases) found → HasBook found cases
-has_book None cases is = cc
-has_book (Some book) cases is = record { book = book; is = refl; cases_are = cc }

@@ -9,7 +9,7 @@ use Rattle.upload_lanes.specs.declared.gathered.LaneResult.{LaneResult}
 use Rattle.warp_server.specs.Answer.{never}
 use Rattle.warp_server.specs.Rounds.{let_go}
 use Rattle.warp_server.specs.inside.Serving.{let_go_at}
-use Rattle.warp_server.specs.program.Callers.{OneByOne, held_in, held}
+use Rattle.warp_server.specs.program.Callers.{OneByOne, upload_in, uploads_in}
 use Rattle.warp_server.specs.program.Connection.{IsGreeted}
 use Rattle.warp_server.proofs.OnlyLaws.{taken_never}
 
@@ -87,49 +87,49 @@ module _ {C X : Type 0} (step : C → X → C → Type 0) where
 -- ---- sources that are given back one by one
 
 module _ {R : Type 0} where
-  -- what stands at k holds what it held at first
+  -- what stands at k holds what it uploads_in at first
   held_at : (k : ℕ) (entries : List (List ℕ × LaneResult R)) → k < length entries
-      → held (take 1 (drop k (all_let_go (take k entries) ++ drop k entries))) ≡ held (take 1 (drop k entries))
+      → uploads_in (take 1 (drop k (all_let_go (take k entries) ++ drop k entries))) ≡ uploads_in (take 1 (drop k entries))
   held_at k [] within = absurd (omega (arith, within))
   held_at zero (entry ∷ entries) within = refl
   held_at (suc k) (entry ∷ entries) within = held_at k entries (omega (arith, within))
 
-  held_next : (k : ℕ) (entries : List (List ℕ × LaneResult R)) → held (take (suc k) entries) ≡ held (take k entries) ++ held (take 1 (drop k entries))
+  held_next : (k : ℕ) (entries : List (List ℕ × LaneResult R)) → uploads_in (take (suc k) entries) ≡ uploads_in (take k entries) ++ uploads_in (take 1 (drop k entries))
   held_next zero [] = refl
   held_next (suc k) [] = refl
   held_next zero (entry ∷ entries) = refl
   held_next (suc k) (entry ∷ entries) =
-      ap (λ rest. held_in entry.1.upload ++ rest) (held_next k entries) ∙ sym (append_assoc (held_in entry.1.upload) (held (take k entries)) (held (take 1 (drop k entries))))
+      ap (λ rest. upload_in entry.1.upload ++ rest) (held_next k entries) ∙ sym (append_assoc (upload_in entry.1.upload) (uploads_in (take k entries)) (uploads_in (take 1 (drop k entries))))
 
-  held_end : (k : ℕ) (entries : List (List ℕ × LaneResult R)) → length entries ≤ k → held (take k entries) ≡ held entries
+  held_end : (k : ℕ) (entries : List (List ℕ × LaneResult R)) → length entries ≤ k → uploads_in (take k entries) ≡ uploads_in entries
   held_end zero [] all = refl
   held_end (suc k) [] all = refl
   held_end zero (entry ∷ entries) all = absurd (omega (arith, all))
-  held_end (suc k) (entry ∷ entries) all = ap (λ rest. held_in entry.1.upload ++ rest) (held_end k entries (omega (arith, all)))
+  held_end (suc k) (entry ∷ entries) all = ap (λ rest. upload_in entry.1.upload ++ rest) (held_end k entries (omega (arith, all)))
 
 module _ {C R : Type 0} (step : C → UploadState R → C → Type 0) (k : ℕ) (entries : List (List ℕ × LaneResult R)) where
   pub back_step : k < length entries → (callers between now : C) (left : List (List ℕ × LaneResult R))
       → left ≡ map (λ entry. (entry.0, let_go entry.1)) (take k entries) ++ drop k entries
-      → OneByOne step callers (held (take k entries)) between → OneByOne step between (held (take 1 (drop k left))) now
-      → OneByOne step callers (held (take (k + 1) entries)) now
+      → OneByOne step callers (uploads_in (take k entries)) between → OneByOne step between (uploads_in (take 1 (drop k left))) now
+      → OneByOne step callers (uploads_in (take (k + 1) entries)) now
   back_step within callers between now left are before next =
-      let same : held (take 1 (drop k left)) ≡ held (take 1 (drop k entries)) = ap (λ es. held (take 1 (drop k es))) are ∙ held_at k entries within in
+      let same : uploads_in (take 1 (drop k left)) ≡ uploads_in (take 1 (drop k entries)) = ap (λ es. uploads_in (take 1 (drop k es))) are ∙ held_at k entries within in
       let more : suc k ≡ k + 1 = omega arith in
-      let all : held (take k entries) ++ held (take 1 (drop k entries)) ≡ held (take (k + 1) entries) = sym (held_next k entries) ∙ ap (λ n. held (take n entries)) more in
+      let all : uploads_in (take k entries) ++ uploads_in (take 1 (drop k entries)) ≡ uploads_in (take (k + 1) entries) = sym (held_next k entries) ∙ ap (λ n. uploads_in (take n entries)) more in
       subst (λ uploads. OneByOne step callers uploads now) all
-      (all_more step callers between now (held (take k entries)) (held (take 1 (drop k entries))) before (subst (λ uploads. OneByOne step between uploads now) same next))
+      (all_more step callers between now (uploads_in (take k entries)) (uploads_in (take 1 (drop k entries))) before (subst (λ uploads. OneByOne step between uploads now) same next))
 
-  pub back_end : length entries ≤ k → (callers now : C) → OneByOne step callers (held (take k entries)) now → OneByOne step callers (held entries) now
+  pub back_end : length entries ≤ k → (callers now : C) → OneByOne step callers (uploads_in (take k entries)) now → OneByOne step callers (uploads_in entries) now
   back_end all callers now back = subst (λ uploads. OneByOne step callers uploads now) (held_end k entries all) back
 
 module _ {R : Type 0} where
   held_there : (entries : List (List ℕ × LaneResult R)) (k : ℕ) (lane : LaneResult R) → slice_get (map (λ entry. entry.1) entries) k ≡ Some lane
-      → held (take 1 (drop k entries)) ≡ held_in lane.upload
+      → uploads_in (take 1 (drop k entries)) ≡ upload_in lane.upload
   held_there [] k lane at = cc
-  held_there (entry ∷ entries) zero lane at = let same : entry.1 ≡ lane = cc in append-nil (held_in entry.1.upload) ∙ ap (λ l. held_in l.upload) same
+  held_there (entry ∷ entries) zero lane at = let same : entry.1 ≡ lane = cc in append-nil (upload_in entry.1.upload) ∙ ap (λ l. upload_in l.upload) same
   held_there (entry ∷ entries) (suc k) lane at = held_there entries k lane at
 
-  held_past : (entries : List (List ℕ × LaneResult R)) (k : ℕ) → slice_get (map (λ entry. entry.1) entries) k ≡ None → held (take 1 (drop k entries)) ≡ []
+  held_past : (entries : List (List ℕ × LaneResult R)) (k : ℕ) → slice_get (map (λ entry. entry.1) entries) k ≡ None → uploads_in (take 1 (drop k entries)) ≡ []
   held_past [] zero none = refl
   held_past [] (suc k) none = refl
   held_past (entry ∷ entries) zero none = cc
@@ -137,13 +137,13 @@ module _ {R : Type 0} where
 
 module _ {C R : Type 0} (step : C → UploadState R → C → Type 0) (callers : C) (entries : List (List ℕ × LaneResult R)) (k : ℕ) where
   pub one_back : (lane : LaneResult R) → slice_get (map (λ entry. entry.1) entries) k ≡ Some lane → (upload : UploadState R) → lane.upload ≡ Some upload
-      → (now : C) → step callers upload now → OneByOne step callers (held (take 1 (drop k entries))) now
+      → (now : C) → step callers upload now → OneByOne step callers (uploads_in (take 1 (drop k entries))) now
   one_back lane at upload has now back =
-      subst (λ uploads. OneByOne step callers uploads now) (sym (held_there entries k lane at ∙ ap held_in has)) (now, back, refl)
+      subst (λ uploads. OneByOne step callers uploads now) (sym (held_there entries k lane at ∙ ap upload_in has)) (now, back, refl)
 
   pub none_back : (lane : LaneResult R) → slice_get (map (λ entry. entry.1) entries) k ≡ Some lane → lane.upload ≡ None
-      → OneByOne step callers (held (take 1 (drop k entries))) callers
-  none_back lane at has = subst (λ uploads. OneByOne step callers uploads callers) (sym (held_there entries k lane at ∙ ap held_in has)) refl
+      → OneByOne step callers (uploads_in (take 1 (drop k entries))) callers
+  none_back lane at has = subst (λ uploads. OneByOne step callers uploads callers) (sym (held_there entries k lane at ∙ ap upload_in has)) refl
 
-  pub none_there : slice_get (map (λ entry. entry.1) entries) k ≡ None → OneByOne step callers (held (take 1 (drop k entries))) callers
+  pub none_there : slice_get (map (λ entry. entry.1) entries) k ≡ None → OneByOne step callers (uploads_in (take 1 (drop k entries))) callers
   none_there none = subst (λ uploads. OneByOne step callers uploads callers) (sym (held_past entries k none)) refl

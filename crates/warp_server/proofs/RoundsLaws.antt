@@ -12,7 +12,7 @@ use Rattle.indexmap.specs.IndexMap.{get, insert_all, insert_entry}
 use Rattle.upload_reader.specs.Stream.{Costed}
 use Rattle.upload_reader.specs.Upload.{UploadState}
 use Rattle.client_log.specs.Client.{OfClient}
-use Rattle.client_log.specs.Log.{kept}
+use Rattle.client_log.specs.Log.{kept_log}
 use Rattle.upload_lanes.specs.Lane.{IsTaken}
 use Rattle.upload_lanes.specs.Round.{new_log, log_before, resumed, rested, clients_of}
 use Rattle.upload_lanes.specs.Threads.{IsLaneOf}
@@ -181,7 +181,7 @@ Uploads R = List (UploadState R)
 -- the log of that quota keeps what the quota leaves of these messages
 record Stands (quota : ℕ) (messages : List Costed) (log : OfClient) : Type 0 where
   quota_is : log.quota ≡ quota
-  log_is : log.log ≡ kept quota messages
+  log_is : log.log ≡ kept_log quota messages
 
 module _ {R : Type 0} where
   -- ---- what a client's log stands for
@@ -190,16 +190,16 @@ module _ {R : Type 0} where
       → IsLogAfter quota client uploads messages log → Stands quota messages log
   stands quota client [] messages log (none, is) = record {
     quota_is = ap (λ l. l.quota) is;
-    log_is = ap (λ l. l.log) is ∙ ap (kept quota) (sym none);
+    log_is = ap (λ l. l.log) is ∙ ap (kept_log quota) (sym none);
   }
   stands quota client (upload ∷ before) messages log (said, earlier, after, lane, taken, more, same) =
       let had = stands quota client before said earlier after in record {
         quota_is = ap (λ l. l.quota) same ∙ taken.goes_on.quota ∙ had.quota_is;
         log_is =
             ap (λ l. l.log) same
-            ∙ taken.goes_on.log_is said (had.log_is ∙ ap (λ q. kept q said) (sym had.quota_is))
-            ∙ ap (λ q. kept q (said ++ take lane.taken taken.now.given)) had.quota_is
-            ∙ ap (kept quota) (sym more);
+            ∙ taken.goes_on.log_is said (had.log_is ∙ ap (λ q. kept_log q said) (sym had.quota_is))
+            ∙ ap (λ q. kept_log q (said ++ take lane.taken taken.now.given)) had.quota_is
+            ∙ ap (kept_log quota) (sym more);
       }
 
   -- with the messages that it stands for

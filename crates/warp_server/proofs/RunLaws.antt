@@ -6,47 +6,46 @@ use Rattle.std.proofs.lemmas.List.{length-take-le, take-append-drop}
 use Rattle.std.proofs.Math.Seq.{take-length}
 use Rattle.byte_streams.specs.Answers.{Answer, bytes_of}
 use Rattle.byte_streams.specs.Cutting.{ending_of, StopsAtEnd}
-use Rattle.byte_streams.specs.Reading.{Reading, WasRead, input}
-use Rattle.byte_streams.specs.Writing.{Takes, TakesPart}
+use Rattle.byte_streams.specs.Reading.{Reading, WasRead, CallReads, reads_of, input}
+use Rattle.byte_streams.specs.Writing.{CallWrites, Takes, TakesPart, WritesNothing}
 use Rattle.byte_streams.specs.declared.fault.LineFault.{LineFault}
 use Rattle.indexmap.specs.IndexMap.{values}
-use Rattle.upload_reader.specs.Stream.{Costed, Lane, BeginsWith}
+use Rattle.upload_reader.specs.Stream.{Costed, StreamStart, BeginsWith}
 use Rattle.upload_reader.specs.Upload.{UploadState}
 use Rattle.upload_reader.specs.declared.ending.Ending.{Ending}
 use Rattle.upload_reader.specs.declared.ending.Ending.TheVariants.{Over, GaveUp}
 use Rattle.upload_reader.specs.declared.lane_fault.LaneEnd.{LaneEnd}
 use Rattle.page_tree.specs.Tree.{Tree}
 use Rattle.xpath_child.specs.Path.{Step}
-use Rattle.client_log.specs.Log.{kept}
+use Rattle.client_log.specs.Log.{kept_log}
 use Rattle.client_log.specs.declared.visit.Visit.{Visit}
-use Rattle.site_hooks.specs.Table.{table_page, signals_in, is_changed}
+use Rattle.site_hooks.specs.Table.{is_changed}
 use Rattle.visit_replay.specs.Form.{bare}
 use Rattle.visit_replay.specs.Outcome.{outcome, on_page}
 use Rattle.visit_replay.specs.declared.outcome.Outcome.{Outcome}
 use Rattle.visit_replay.specs.declared.outcome.Outcome.TheVariants.{Untouched}
 use Rattle.visit_replay.specs.Following.{Replayed, following}
-use Rattle.conflict_desk.specs.Desk.{opened_all}
+use Rattle.visit_replay.specs.RepairedSite.{RepairedSite}
+use Rattle.conflict_desk.specs.Desk.{new_books}
 use Rattle.conflict_desk.specs.declared.docket.Case.{Case}
-use Rattle.site_line.specs.Site.{Site as PlainSite, page_of, signals_of}
-use Rattle.site_line.specs.Reading.{AnswersAs, site_patch, site_table, site_quota, site_decisions}
+use Rattle.site_line.specs.Site.{Site as PlainSite}
+use Rattle.site_line.specs.Reading.{AnswersAs, site_quota, site_decisions}
 use Rattle.upload_lanes.specs.Lane.{EndsWith}
-use Rattle.warp_server.specs.Answer.{site_settled}
-use Rattle.warp_server.specs.Repair.{as_case, cases_of, docket_for, summary_of}
-use Rattle.warp_server.specs.Report.{report_text, WritesNothing, WritesReport}
+use Rattle.warp_server.specs.Answer.{repaired_site, site_settled}
+use Rattle.warp_server.specs.Repair.{as_case, cases_of, dockets_for, summary_of}
+use Rattle.warp_server.specs.Report.{report_text, WritesReport}
 use Rattle.warp_server.specs.Settle.{settled}
 use Rattle.warp_server.specs.declared.repaired.ClientSummary.{ClientSummary}
 use Rattle.warp_server.specs.declared.repaired.Repaired.{Repaired}
 use Rattle.warp_server.specs.declared.reporting.fault.ReportFault.{ReportFault}
 use Rattle.warp_server.specs.declared.reporting.fault.ReportFault.TheVariants as report_fault
-use Rattle.warp_server.specs.program.Run.{repaired_by, Opening, OpensBy, lane_behind, lane_place, AreAll, AreFirst, IsReportOf, HasReport, HasShortReport, IsShort, Reads, Writes, WritesPart, Meets}
+use Rattle.warp_server.specs.program.Run.{plain_repaired, repaired_by, Opening, OpensBy, lane_behind, lane_place, AreAll, AreFirst, IsReportOf, HasReport, HasShortReport, IsShort, Reads, Writes, WritesPart, Meets}
 use Rattle.warp_server.specs.program.Shortage.{gave_up, status_by, status_of}
-use Rattle.warp_server.specs.inside.Answering.{IsOpened, IsWhole, HasText, IsUnread, IsAnswered, refused_status, written_status}
+use Rattle.warp_server.specs.inside.Answering.{IsOpened, IsWholeLane, HasText, HasNoInput, IsAnswered, written_status}
 use Rattle.upload_lanes.specs.declared.gathered.Gathered.{Gathered}
 use Rattle.upload_lanes.specs.declared.gathered.LaneResult.{LaneResult}
 use Rattle.upload_lanes.specs.declared.gathered.Stop.{Stop}
 use Rattle.upload_lanes.specs.declared.gathered.Stop.TheVariants as stops
-use Rattle.warp_server.specs.declared.program.intake.Refused.{Refused}
-use Rattle.warp_server.specs.declared.program.intake.Refused.TheVariants as refused
 use Rattle.warp_server.specs.declared.program.status.Status.{Status}
 use Rattle.warp_server.specs.declared.program.status.Status.TheVariants.{Done, BadSite, BadHello, OutOfMemory, InputOutput}
 use Rattle.site_line.specs.declared.site.Site.{Site}
@@ -63,37 +62,37 @@ same_by : (affected affected' : Bool) (page page' : Option Tree) (watched watche
 same_by affected affected' page page' watched watched' visit a p w = rw (a, p, w) refl
 
 same_outcome : (site : Site) (plain : PlainSite) (visit : Visit) → AnswersAs site plain
-    → outcome (table_page (site_table site)) (λ address. signals_in (site_table site)) (site_patch site) visit ≡ outcome (page_of plain) (λ address. signals_of plain) plain.patched visit
+    → outcome (repaired_site site) visit ≡ outcome (plain_repaired plain) visit
 same_outcome site plain visit stands = same_by _ _ _ _ _ _ visit (stands.patched (bare visit.address)) (stands.pages visit.address) stands.watched
 
-abbrev with_own : (List ℕ → Option Tree) → (List ℕ → Tree → Tree → Bool) → List (List ℕ) → Visit → Replayed
-with_own page_of signals patch visit = (visit, outcome page_of signals patch visit)
+abbrev with_own : RepairedSite → Visit → Replayed
+with_own site visit = (visit, outcome site visit)
 
 same_own : (site : Site) (plain : PlainSite) (visits : List Visit) → AnswersAs site plain
-    → map (with_own (table_page (site_table site)) (λ address. signals_in (site_table site)) (site_patch site)) visits ≡ map (with_own (page_of plain) (λ address. signals_of plain) plain.patched) visits
+    → map (with_own (repaired_site site)) visits ≡ map (with_own (plain_repaired plain)) visits
 same_own site plain [] stands = refl
 same_own site plain (visit ∷ visits) stands = rw (same_outcome site plain visit stands, same_own site plain visits stands) refl
 
 same_cases : (site : Site) (plain : PlainSite) (visits : List Visit) → AnswersAs site plain
-    → cases_of (table_page (site_table site)) (λ address. signals_in (site_table site)) (site_patch site) visits ≡ cases_of (page_of plain) (λ address. signals_of plain) plain.patched visits
+    → cases_of (repaired_site site) visits ≡ cases_of (plain_repaired plain) visits
 same_cases site plain visits stands = ap (λ own. map as_case (zip visits (map (λ one. one.1) (following own)))) (same_own site plain visits stands)
 
 -- ---- what is made of what was taken is that of the input
 
 -- with one client
 abbrev one_client : Stop → ClientSummary → List ℕ × List Case → Repaired
-one_client stop summary (client, cases) = record { stop = stop; clients = summary ∷ []; desk = opened_all (record { client = client; cases = cases } ∷ []); decided = [] }
+one_client stop summary (client, cases) = record { stop = stop; clients = summary ∷ []; desk = new_books (record { client = client; cases = cases } ∷ []); decided = [] }
 
 same_repaired : {R : Type 0} (site : Site) (plain : PlainSite) (lane : LaneResult R) (client : List ℕ) (stop : Stop) (messages : List Costed) (end : Option Ending) → AnswersAs site plain
-    → lane.taken ≡ length messages → lane.log.log ≡ kept (site_quota site) messages → lane.end ≡ end
-    → settled (site_decisions site) (one_client stop (summary_of (client, lane)) (client, cases_of (table_page (site_table site)) (λ address. signals_in (site_table site)) (site_patch site) lane.log.log.visits))
+    → lane.taken ≡ length messages → lane.log.log ≡ kept_log (site_quota site) messages → lane.end ≡ end
+    → settled (site_decisions site) (one_client stop (summary_of (client, lane)) (client, cases_of (repaired_site site) lane.log.log.visits))
     ≡ repaired_by plain stop client messages end
 same_repaired site plain lane client stop messages end stands takens logs ends =
-    let log : lane.log.log ≡ kept plain.quota messages = rw (← stands.quota) logs in
+    let log : lane.log.log ≡ kept_log plain.quota messages = rw (← stands.quota) logs in
     let cases = same_cases site plain lane.log.log.visits stands in
     rw (cases, stands.decisions, takens, log, ends) refl
 
-module _ {R : Type 0} (fresh : Reading R) (site : Site) (upload : UploadState R) (opened : IsOpened fresh site upload) (gathered : Gathered R) (whole : IsWhole upload (site_quota site) gathered)
+module _ {R : Type 0} (fresh : Reading R) (site : Site) (upload : UploadState R) (opened : IsOpened fresh site upload) (gathered : Gathered R) (whole : IsWholeLane upload (site_quota site) gathered)
     (text : List ℕ) (text_is : text ≡ report_text (site_settled site gathered)) where
   abbrev lane : LaneResult R
   lane = whole.lane
@@ -117,7 +116,7 @@ module _ {R : Type 0} (fresh : Reading R) (site : Site) (upload : UploadState R)
   opens =
       opens_later opened.at site opened.behind upload opened.begins now.lines.answers whole.is_taken.own.reads.more ending whole.is_taken.own.reads.answers
 
-  kept_is : lane.log.log ≡ kept (site_quota site) messages
+  kept_is : lane.log.log ≡ kept_log (site_quota site) messages
   kept_is = whole.is_taken.goes_on.log_is [] refl
 
   count : lane.taken ≡ length messages
@@ -128,7 +127,7 @@ module _ {R : Type 0} (fresh : Reading R) (site : Site) (upload : UploadState R)
   made_of stop entries = settled (site_decisions site) record {
     stop = stop;
     clients = map summary_of entries;
-    desk = opened_all (map (docket_for (table_page (site_table site)) (λ address. signals_in (site_table site)) (site_patch site)) entries);
+    desk = new_books (dockets_for (repaired_site site) entries);
     decided = [];
   }
 
@@ -143,7 +142,7 @@ module _ {R : Type 0} (fresh : Reading R) (site : Site) (upload : UploadState R)
         ∙ ap report_text (same_repaired site opened.behind.plain lane upload.client stop messages end opened.behind.stands count kept_is ends);
   }
 
-  of_lane : (P : Lane → ℕ → Type 0) → P now.lane now.start → P (lane_behind begun) (lane_place begun read)
+  of_lane : (P : StreamStart → ℕ → Type 0) → P now.lane now.start → P (lane_behind begun) (lane_place begun read)
   of_lane P holds =
       let lane_is : now.lane ≡ lane_behind begun = whole.is_taken.own.lane ∙ opened.begins.lane in
       let start_is : now.start ≡ lane_place begun read = whole.is_taken.own.start ∙ opens.1 in
@@ -208,7 +207,7 @@ last_only x y (z ∷ []) is = cc
 last_only x y (z ∷ w ∷ front) is = cc
 
 module _ {R : Type 0} (answers : R → List Answer) (remaining : R → Option (List ℕ)) (fresh : Reading R) (site : Site) (upload : UploadState R) (opened : IsOpened fresh site upload)
-    (gathered : Gathered R) (whole : IsWhole upload (site_quota site) gathered) where
+    (gathered : Gathered R) (whole : IsWholeLane upload (site_quota site) gathered) where
   abbrev after : UploadState R
   after = whole.is_taken.now
 
@@ -216,7 +215,7 @@ module _ {R : Type 0} (answers : R → List Answer) (remaining : R → Option (L
   same_reader = whole.is_taken.own.reads.first ∙ opened.begins.reads.first ∙ opened.first
 
   pub answered : (text : List ℕ) → text ≡ report_text (site_settled site gathered) → (reader : R) → WasRead answers remaining after.lines.first reader after.lines.answers → StopsAtEnd after.lines.answers
-      → IsAnswered (answers fresh.first) (answers reader) (remaining fresh.first) (remaining reader) (status_of gathered) text
+      → IsAnswered (reads_of answers remaining fresh.first reader) (status_of gathered) text
   answered text is reader read ends =
       given_back answers remaining fresh.first reader after.lines same_reader read
       (lane_needed opened.at site opened.behind upload opened.begins after.lines opened.needed whole.is_taken.own.reads) ends
@@ -224,7 +223,7 @@ module _ {R : Type 0} (answers : R → List Answer) (remaining : R → Option (L
 
 -- ---- what was written
 
-module _ (reads reads' : List Answer) (left left' : Option (List ℕ)) (puts puts' : List Answer) (contents contents' : Option (List ℕ)) where
+module _ (reads : CallReads) (writes : CallWrites) where
   any_text : (status : Status) (input : List ℕ) (end : Option LineFault) (text : List ℕ) → HasText status input end text → HasReport input end text ⊎ HasShortReport input end text
   any_text Done input end text has = inl has
   any_text OutOfMemory input end text has = inr has
@@ -232,30 +231,31 @@ module _ (reads reads' : List Answer) (left left' : Option (List ℕ)) (puts put
   any_text BadHello input end text has = absurd has
   any_text InputOutput input end text has = absurd has
 
-  module _ (status : Status) (text : List ℕ) (read : IsAnswered reads reads' left left' status text) where
-    holding : (P : List ℕ → Option LineFault → Type 0) → P (bytes_of read.more) (ending_of read.more) → Reads reads reads' left left' P
+  module _ (status : Status) (text : List ℕ) (read : IsAnswered reads status text) where
+    holding : (P : List ℕ → Option LineFault → Type 0) → P (bytes_of read.more) (ending_of read.more) → Reads reads P
     holding P holds =
         record { more = read.more; reads_are = read.reads_are; bytes_are = read.bytes_are; needed = read.needed; ends = read.ends; holds = holds }
 
-    pub part_written : TakesPart puts puts' contents contents' text → Reads reads reads' left left' (WritesPart puts puts' contents contents')
-    part_written takes = holding (WritesPart puts puts' contents contents') (text, any_text status _ _ text read.holds, takes)
+    pub part_written : TakesPart writes text → Reads reads (WritesPart writes)
+    part_written takes = holding (WritesPart writes) (text, any_text status _ _ text read.holds, takes)
 
-  pub whole_written : (status : Status) (text : List ℕ) → IsAnswered reads reads' left left' status text → Takes puts puts' contents contents' text 0 → Meets reads reads' left left' puts puts' contents contents' status
-  whole_written Done text read takes = holding Done text read (Writes puts puts' contents contents' HasReport) (text, read.holds, takes)
-  whole_written OutOfMemory text read takes = inr (holding OutOfMemory text read (Writes puts puts' contents contents' HasShortReport) (text, read.holds, takes))
+  pub whole_written : (status : Status) (text : List ℕ) → IsAnswered reads status text → Takes writes text 0 → Meets reads writes status
+  whole_written Done text read takes = holding Done text read (Writes writes HasReport) (text, read.holds, takes)
+  whole_written OutOfMemory text read takes = inr (holding OutOfMemory text read (Writes writes HasShortReport) (text, read.holds, takes))
   whole_written BadSite text read takes = absurd read.holds
   whole_written BadHello text read takes = absurd read.holds
   whole_written InputOutput text read takes = absurd read.holds
 
-  pub nothing_written : (refused : Refused) → IsUnread reads reads' left left' refused → WritesNothing puts puts' contents contents' → Meets reads reads' left left' puts puts' contents contents' (refused_status refused)
-  nothing_written refused.ReadFailed unread nothing = inl (nothing, unread)
-  nothing_written refused.NoSite unread nothing = (nothing, unread)
-  nothing_written refused.NoHello unread nothing = (nothing, unread)
-  nothing_written refused.NoMemory unread nothing = inl nothing
+  pub nothing_written : (status : Status) → HasNoInput reads status → WritesNothing writes → Meets reads writes status
+  nothing_written InputOutput none nothing = inl (nothing, none)
+  nothing_written BadSite none nothing = (nothing, none)
+  nothing_written BadHello none nothing = (nothing, none)
+  nothing_written OutOfMemory none nothing = inl nothing
+  nothing_written Done none nothing = absurd none.holds
 
   -- by what became of the report
-  pub report_met : (status : Status) (text : List ℕ) (report : Result (Unit {0}) ReportFault) → IsAnswered reads reads' left left' status text → WritesReport puts puts' contents contents' text report
-      → Meets reads reads' left left' puts puts' contents contents' (written_status status report)
+  pub report_met : (status : Status) (text : List ℕ) (report : Result (Unit {0}) ReportFault) → IsAnswered reads status text → WritesReport writes text report
+      → Meets reads writes (written_status status report)
   report_met status text (Ok done) told takes = whole_written status text told takes
   report_met status text (Err report_fault.WriteFailed) told takes = inr (part_written status text told takes)
   report_met status text (Err report_fault.NoMemory) told nothing = inl nothing

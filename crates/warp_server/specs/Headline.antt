@@ -1,13 +1,14 @@
 -- What the server promises of any number of uploads, in the words of the crates below:
 --
--- However the threads run, the recorder has of each client a prefix of the messages in its stream, each once and in order, and all of them once the uploader's
--- end is taken; each kept visit to a patched page has the outcome that replaying its kept events on the repaired page gives, whatever workers replay it; each
--- client's conflicts leave its queue once, in visit order.
-use Rattle.std.specs.Prelude.{◌≡◌, ℕ, List, map, Bool, Option, IsSome, bytes_eq}
+-- However the threads run, the recorder has of each client a prefix of the messages in its stream, each once and in
+-- order, and all of them once the uploader's end is taken; each kept visit to a patched page has the outcome that
+-- replaying its kept events on the repaired page gives, whatever workers replay it; each client's conflicts leave its
+-- queue once, in visit order.
+use Rattle.std.specs.Prelude.{◌≡◌, ℕ, List, map, IsSome, bytes_eq}
 use Rattle.std.specs.List.{AllZip, AllByRecursion}
 use Rattle.indexmap.specs.IndexMap.{get}
-use Rattle.page_tree.specs.Tree.{Tree}
 use Rattle.upload_reader.specs.Upload.{UploadState}
+use Rattle.visit_replay.specs.RepairedSite.{RepairedSite}
 use Rattle.conflict_desk.specs.Book.{Book}
 use Rattle.conflict_desk.specs.Laws.{AllLeaveInOrder}
 use Rattle.conflict_desk.specs.declared.docket.Docket.{Docket}
@@ -15,7 +16,10 @@ use Rattle.upload_lanes.specs.Lane.{IsTaken}
 use Rattle.upload_lanes.specs.Round.{new_log}
 use Rattle.upload_lanes.specs.declared.gathered.Gathered.{Gathered}
 use Rattle.upload_lanes.specs.declared.gathered.LaneResult.{LaneResult}
-use Rattle.warp_server.specs.Repair.{docket_for}
+use Rattle.site_line.specs.Reading.{site_quota}
+use Rattle.site_line.specs.declared.site.Site.{Site}
+use Rattle.warp_server.specs.Answer.{repaired_site}
+use Rattle.warp_server.specs.Repair.{dockets_for}
 use Rattle.warp_server.specs.Rounds.{GathersRounds, HasLog}
 use Rattle.warp_server.specs.declared.repaired.Repaired.{Repaired}
 
@@ -23,28 +27,45 @@ use Rattle.warp_server.specs.declared.repaired.Repaired.{Repaired}
 abbrev pub docket_of : List ℕ × Book → Docket
 docket_of entry = record { client = entry.0; cases = entry.1.cases }
 
+module _ {R : Type 0} where
+  -- the upload's client is among them
+  abbrev pub IsThere : Gathered R → UploadState R → Type 0
+  IsThere gathered upload = IsSome (get bytes_eq gathered.clients upload.client)
+
+  -- each visit that is kept has the outcome that replaying it on that site gives
+  abbrev pub AreReplayed : RepairedSite → Gathered R → Repaired → Type 0
+  AreReplayed site gathered repaired = map docket_of repaired.desk ≡ dockets_for site gathered.clients.entries
+
 module _ {R : Type 0} (quota : ℕ) where
-  -- The recorder has of the upload's client a prefix of the messages in its stream, each once and in order, and all of them where its end is taken.
+  -- The recorder has of the upload's client a prefix of the messages in its stream, each once and in order, and all of
+  -- them where its end is taken.
   pub record HasPrefix (upload : UploadState R) (entry : List ℕ × LaneResult R) : Type 0 where
     pub client : entry.0 ≡ upload.client
     pub is_taken : IsTaken (new_log quota upload.client) upload entry.1
 
-module _ {R : Type 0} (page_of : List ℕ → Option Tree) (signals : List ℕ → Tree → Tree → Bool) (patch : List (List ℕ)) (quota : ℕ) where
-  -- Of these uploads that was gathered, and on a site of that law it was so repaired and settled.
+module _ {R : Type 0} (site : RepairedSite) (quota : ℕ) where
+  -- Of these uploads that was gathered, and it was so replayed on the repaired site, and decided.
   pub record Headline (uploads : List (UploadState R)) (gathered : Gathered R) (repaired : Repaired) : Type 0 where
-    -- however the threads run, the recorder has of each client a prefix of its stream, and all of it once the uploader's end is taken
+    -- however the threads run, the recorder has of each client a prefix of its stream, and all of it once the
+    -- uploader's end is taken
     pub has : AllZip (HasPrefix quota) uploads gathered.clients.entries
     -- each visit that is kept has the outcome that replaying it gives, whatever workers replay it
-    pub replayed : map docket_of repaired.desk ≡ map (docket_for page_of signals patch) gathered.clients.entries
+    pub replayed : AreReplayed site gathered repaired
     -- each client's conflicts leave its queue once, in visit order
     pub leave : AllLeaveInOrder repaired.desk
 
   -- The same of several rounds, the last of them first.
-  pub record HeadlineOfRounds (rounds : List (List (UploadState R))) (gathered : Gathered R) (repaired : Repaired) : Type 0 where
-    -- however the threads run, each round takes of each of its uploads a prefix of its stream, behind the rounds before, and all of it where its end is taken
+  pub record HeadlineOfRounds (rounds : List (List (UploadState R))) (gathered : Gathered R)
+      (repaired : Repaired) : Type 0 where
+    -- however the threads run, each round takes of each of its uploads a prefix of its stream, behind the rounds
+    -- before, and all of it where its end is taken
     pub gathers : GathersRounds quota rounds gathered
     -- so each client that uploaded is there, and of each is recorded what its uploads gave, one after another
-    pub clients : AllByRecursion (AllByRecursion (λ upload. IsSome (get bytes_eq gathered.clients upload.client))) rounds
+    pub clients : AllByRecursion (AllByRecursion (IsThere gathered)) rounds
     pub has : AllByRecursion (HasLog quota rounds) gathered.clients.entries
-    pub replayed : map docket_of repaired.desk ≡ map (docket_for page_of signals patch) gathered.clients.entries
+    pub replayed : AreReplayed site gathered repaired
     pub leave : AllLeaveInOrder repaired.desk
+
+-- of one round, on the site of that site line
+abbrev pub Promises : {R : Type 0} → Site → List (UploadState R) → Gathered R → Repaired → Type 0
+Promises site uploads gathered repaired = Headline (repaired_site site) (site_quota site) uploads gathered repaired

@@ -1,13 +1,13 @@
--- What replaying makes of what was gathered, by a site's law: this project's own rule.
-use Rattle.std.specs.Prelude.{ℕ, List, [], map, Bool, Option}
+-- What replaying on a repaired site makes of what was gathered: this project's own rule.
+use Rattle.std.specs.Prelude.{ℕ, List, [], map, Option}
 use Rattle.std.specs.List.{zip}
-use Rattle.page_tree.specs.Tree.{Tree}
 use Rattle.upload_reader.specs.declared.ending.Ending.{Ending}
 use Rattle.client_log.specs.Log.{Log, cost_of}
 use Rattle.client_log.specs.declared.visit.Visit.{Visit}
 use Rattle.visit_replay.specs.Following.{outcomes}
+use Rattle.visit_replay.specs.RepairedSite.{RepairedSite}
 use Rattle.visit_replay.specs.declared.outcome.Outcome.{Outcome}
-use Rattle.conflict_desk.specs.Desk.{opened_all}
+use Rattle.conflict_desk.specs.Desk.{new_books}
 use Rattle.conflict_desk.specs.declared.docket.Case.{Case}
 use Rattle.conflict_desk.specs.declared.docket.Docket.{Docket}
 use Rattle.upload_lanes.specs.declared.gathered.Gathered.{Gathered}
@@ -17,7 +17,8 @@ use Rattle.warp_server.specs.declared.repaired.Repaired.{Repaired}
 
 -- what is said of a client beside its visits
 abbrev pub summary_by : List ℕ → ℕ → Option Ending → Log → ClientSummary
-summary_by client taken end log = record { client = client; taken = taken; end = end; cost = cost_of log.visits; lost = log.lost }
+summary_by client taken end log =
+    record { client = client; taken = taken; end = end; cost = cost_of log.visits; lost = log.lost }
 
 abbrev pub summary_of : {R : Type 0} → List ℕ × LaneResult R → ClientSummary
 summary_of entry = summary_by entry.0 entry.1.taken entry.1.end entry.1.log.log
@@ -26,10 +27,10 @@ summary_of entry = summary_by entry.0 entry.1.taken entry.1.end entry.1.log.log
 abbrev pub as_case : Visit × Outcome → Case
 as_case one = record { visit = one.0.number; parent = one.0.parent; outcome = one.1 }
 
-module _ (page_of : List ℕ → Option Tree) (signals : List ℕ → Tree → Tree → Bool) (patch : List (List ℕ)) where
+module _ (site : RepairedSite) where
   -- each visit that a log keeps, with the outcome that it has behind those before it
   abbrev pub cases_of : List Visit → List Case
-  cases_of visits = map as_case (zip visits (outcomes page_of signals patch visits))
+  cases_of visits = map as_case (zip visits (outcomes site visits))
 
   abbrev pub docket_by : List ℕ → Log → Docket
   docket_by client log = record { client = client; cases = cases_of log.visits }
@@ -37,7 +38,16 @@ module _ (page_of : List ℕ → Option Tree) (signals : List ℕ → Tree → T
   abbrev pub docket_for : {R : Type 0} → List ℕ × LaneResult R → Docket
   docket_for entry = docket_by entry.0 entry.1.log.log
 
+  abbrev pub dockets_for : {R : Type 0} → List (List ℕ × LaneResult R) → List Docket
+  dockets_for entries = map docket_for entries
+
   -- a docket for each client, on which nothing is decided
   abbrev pub repaired_of : {R : Type 0} → Gathered R → Repaired
   repaired_of gathered =
-      record { stop = gathered.stop; clients = map summary_of gathered.clients.entries; desk = opened_all (map docket_for gathered.clients.entries); decided = [] }
+      let entries = gathered.clients.entries in
+      record {
+        stop = gathered.stop;
+        clients = map summary_of entries;
+        desk = new_books (dockets_for entries);
+        decided = [];
+      }

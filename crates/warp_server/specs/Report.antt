@@ -3,8 +3,7 @@ use Rattle.std.specs.Prelude.{◌≡◌, ℕ, List, [], ◌∷◌, ◌++◌, cod
 use Rattle.std.specs.List.{flat_map, join_with_byte}
 use Rattle.serde_json.specs.Data.{string}
 use Rattle.serde_json.specs.Written.{compact_text}
-use Rattle.byte_streams.specs.Answers.{Answer}
-use Rattle.byte_streams.specs.Writing.{Takes, TakesPart}
+use Rattle.byte_streams.specs.Writing.{CallWrites, Takes, TakesPart, WritesNothing}
 use Rattle.upload_reader.specs.LaneFaultCode.{lane_fault_code}
 use Rattle.upload_reader.specs.declared.ending.Ending.{Ending}
 use Rattle.upload_reader.specs.declared.ending.Ending.TheVariants.{Over, GaveUp}
@@ -37,8 +36,8 @@ use Rattle.warp_server.specs.declared.reporting.fault.ReportFault.TheVariants as
 -- ---- words
 
 -- words parted by one space, and the line's end
-abbrev pub line : List (List ℕ) → List ℕ
-line words = join_with_byte 32 words ++ 10 ∷ []
+abbrev pub report_line : List (List ℕ) → List ℕ
+report_line words = join_with_byte 32 words ++ 10 ∷ []
 
 -- the text as a JSON string (RFC 8259, section 7), as `serde_json` writes it
 abbrev pub quoted : List ℕ → List ℕ
@@ -77,7 +76,8 @@ front_word (Some front) = decimal front
 
 -- why a decision wasn't made; where that visit wasn't the front, with what was
 abbrev pub refusal_words : DeskFault → List (List ℕ)
-refusal_words (desk_fault.NotFront front) = desk_fault_code (desk_fault.NotFront front) ∷ codes "front" ∷ front_word front ∷ []
+refusal_words (desk_fault.NotFront front) =
+    desk_fault_code (desk_fault.NotFront front) ∷ codes "front" ∷ front_word front ∷ []
 refusal_words desk_fault.NoClient = desk_fault_code desk_fault.NoClient ∷ []
 refusal_words desk_fault.NoMemory = desk_fault_code desk_fault.NoMemory ∷ []
 
@@ -88,16 +88,18 @@ answer_words (Err fault) = refusal_words fault
 -- ---- lines
 
 abbrev pub stop_line : Stop → List ℕ
-stop_line stop.None = line (codes "stop" ∷ codes "none" ∷ [])
-stop_line stop.Asked = line (codes "stop" ∷ codes "asked" ∷ [])
-stop_line stop.Memory = line (codes "stop" ∷ codes "memory" ∷ [])
+stop_line stop.None = report_line (codes "stop" ∷ codes "none" ∷ [])
+stop_line stop.Asked = report_line (codes "stop" ∷ codes "asked" ∷ [])
+stop_line stop.Memory = report_line (codes "stop" ∷ codes "memory" ∷ [])
 
 abbrev pub client_line : ClientSummary → List ℕ
 client_line c =
-    line (codes "client" ∷ c.client ∷ codes "taken" ∷ decimal c.taken ∷ codes "end" ∷ end_word c.end ∷ codes "cost" ∷ decimal c.cost ∷ codes "lost" ∷ decimal c.lost ∷ [])
+    report_line (codes "client" ∷ c.client ∷ codes "taken" ∷ decimal c.taken ∷ codes "end" ∷ end_word c.end
+    ∷ codes "cost" ∷ decimal c.cost ∷ codes "lost" ∷ decimal c.lost ∷ [])
 
 abbrev pub visit_line : ℕ → Standing → Outcome → List ℕ
-visit_line visit standing outcome = line (codes "visit" ∷ decimal visit ∷ standing_word standing ∷ conflict_words outcome)
+visit_line visit standing outcome =
+    report_line (codes "visit" ∷ decimal visit ∷ standing_word standing ∷ conflict_words outcome)
 
 -- the address and the pairs as JSON strings
 abbrev pub request_words : Method → List ℕ → List ℕ → List ℕ → List (List ℕ)
@@ -106,40 +108,48 @@ request_words Get number address pairs = codes "get" ∷ number ∷ address ∷ 
 request_words Post number address pairs = codes "post" ∷ number ∷ address ∷ pairs ∷ []
 
 abbrev pub request_line : Request → List ℕ
-request_line r = line (request_words r.method (decimal r.number) (quoted r.address) (quoted r.pairs))
+request_line r = report_line (request_words r.method (decimal r.number) (quoted r.address) (quoted r.pairs))
 
 abbrev pub decision_line : PutDecision → List ℕ
 decision_line put =
-    line (codes "decide" ∷ put.decision.client ∷ decimal put.decision.visit ∷ choice_word put.decision.choice ∷ answer_words put.answer)
+    report_line (codes "decide" ∷ put.decision.client ∷ decimal put.decision.visit ∷ choice_word put.decision.choice
+    ∷ answer_words put.answer)
 
 -- ---- the whole text
 
--- each visit's line stands before those of its requests, each client's before those of its visits, and the decisions stand last
+-- each visit's line stands before those of its requests, each client's before those of its visits, and the decisions
+-- stand last
 
 abbrev pub visit_text : Book → Case → List ℕ
-visit_text book case = visit_line case.visit (standing_in book case) case.outcome ++ flat_map request_line (standing_requests book case)
+visit_text book case =
+    visit_line case.visit (standing_in book case) case.outcome ++ flat_map request_line (standing_requests book case)
+
+abbrev pub book_text : Book → List ℕ
+book_text book = flat_map (visit_text book) book.cases
 
 abbrev pub visits_text : Option Book → List ℕ
 visits_text None = []
-visits_text (Some book) = flat_map (visit_text book) book.cases
+visits_text (Some book) = book_text book
 
 abbrev pub client_text : Books → ClientSummary → List ℕ
 client_text desk client = client_line client ++ visits_text (book_of client.client desk)
 
+abbrev pub clients_text : Books → List ClientSummary → List ℕ
+clients_text desk clients = flat_map (client_text desk) clients
+
 abbrev pub report_text : Repaired → List ℕ
-report_text repaired = stop_line repaired.stop ++ (flat_map (client_text repaired.desk) repaired.clients ++ flat_map decision_line repaired.decided)
+report_text repaired =
+    stop_line repaired.stop
+    ++ (clients_text repaired.desk repaired.clients ++ flat_map decision_line repaired.decided)
 
 -- ---- the writing of it
 
-pub record WritesNothing (puts puts' : List Answer) (contents contents' : Option (List ℕ)) : Type 0 where
-  pub puts_are : puts' ≡ puts
-  pub contents_are : contents' ≡ contents
-
--- The whole text is written; or a part from its front, and then a write failed or took nothing (O1); or nothing, for want of memory (O2).
-abbrev pub WritesReport : List Answer → List Answer → Option (List ℕ) → Option (List ℕ) → List ℕ → Result (Unit {0}) ReportFault → Type 0
-WritesReport puts puts' contents contents' text (Ok done) = Takes puts puts' contents contents' text 0
-WritesReport puts puts' contents contents' text (Err report_fault.WriteFailed) = TakesPart puts puts' contents contents' text
-WritesReport puts puts' contents contents' text (Err report_fault.NoMemory) = WritesNothing puts puts' contents contents'
+-- The whole text is written; or a part from its front, and then a write failed or took nothing (O1); or nothing, for
+-- want of memory (O2).
+abbrev pub WritesReport : CallWrites → List ℕ → Result (Unit {0}) ReportFault → Type 0
+WritesReport call text (Ok done) = Takes call text 0
+WritesReport call text (Err report_fault.WriteFailed) = TakesPart call text
+WritesReport call text (Err report_fault.NoMemory) = WritesNothing call
 
 abbrev pub report_fault_code : ReportFault → List ℕ
 report_fault_code report_fault.WriteFailed = codes "O1"

@@ -4,7 +4,7 @@ use Rattle.std.specs.List.{flat_map}
 use Rattle.upload_reader.specs.Stream.{Costed}
 use Rattle.upload_reader.specs.Upload.{UploadState}
 use Rattle.client_log.specs.Client.{OfClient}
-use Rattle.client_log.specs.Log.{kept}
+use Rattle.client_log.specs.Log.{kept_log}
 use Rattle.upload_lanes.specs.Lane.{IsTaken}
 use Rattle.upload_lanes.specs.Round.{new_log}
 use Rattle.upload_lanes.specs.Threads.{Gathers}
@@ -23,7 +23,8 @@ module _ {R : Type 0} where
   let_go lane = record { log = lane.log; taken = lane.taken; end = lane.end; upload = None }
 
   -- one round more, behind rounds in which no memory was refused, and then its uploads were let go
-  pub record GathersRound (quota : ℕ) (earlier : Gathered R) (uploads : List (UploadState R)) (gathered : Gathered R) : Type 0 where
+  pub record GathersRound (quota : ℕ) (earlier : Gathered R) (uploads : List (UploadState R))
+      (gathered : Gathered R) : Type 0 where
     pub whole : status_of earlier ≡ Done
     pub round : Gathered R
     pub gathers : Gathers never earlier uploads quota round
@@ -42,8 +43,9 @@ module _ {R : Type 0} where
   abbrev pub behind_log : OfClient → UploadState R → UploadState R
   behind_log log upload = record upload { lane = record upload.lane { earlier = log.session } }
 
-  -- The client's log after these uploads of its, the last of them first, and the messages that were recorded: of each upload the first ones of its
-  -- stream, behind the log that those before it left, each once and in order. How many of them, and which end was taken, is said round by round.
+  -- The client's log after these uploads of its, the last of them first, and the messages that were recorded: of each
+  -- upload the first ones of its stream, behind the log that those before it left, each once and in order. How many of
+  -- them, and which end was taken, is said round by round.
   abbrev pub IsLogAfter : ℕ → List ℕ → List (UploadState R) → List Costed → OfClient → Type 0
   IsLogAfter quota client [] messages log = (messages ≡ []) × (log ≡ new_log quota client)
   IsLogAfter quota client (upload ∷ before) messages log =
@@ -59,4 +61,4 @@ module _ {R : Type 0} where
   pub record HasLog (quota : ℕ) (rounds : List (List (UploadState R))) (entry : List ℕ × LaneResult R) : Type 0 where
     pub messages : List Costed
     pub is_log : IsLogAfter quota entry.0 (uploads_of entry.0 rounds) messages entry.1.log
-    pub kept_are : entry.1.log.log ≡ kept quota messages
+    pub kept_are : entry.1.log.log ≡ kept_log quota messages

@@ -1,13 +1,10 @@
 -- What decisions make of what was repaired: this project's own rule.
-use Rattle.std.specs.Prelude.{List, [], ◌∷◌, ◌++◌, map, Option, Some, None, Result, Ok, Err}
-use Rattle.conflict_desk.specs.Desk.{Books, Call, refusal, after_call, after_calls}
+use Rattle.std.specs.Prelude.{List, [], ◌∷◌, ◌++◌, Option, Some, None, Result, Ok, Err}
+use Rattle.conflict_desk.specs.Desk.{Books, refusal, after_call, after_calls}
 use Rattle.conflict_desk.specs.declared.fault.DeskFault.{DeskFault}
-use Rattle.site_line.specs.declared.decision.Decision.{Decision}
+use Rattle.conflict_desk.specs.declared.decision.Decision.{Decision}
 use Rattle.warp_server.specs.declared.repaired.PutDecision.{PutDecision}
 use Rattle.warp_server.specs.declared.repaired.Repaired.{Repaired}
-
-abbrev pub as_call : Decision → Call
-as_call decision = record { client = decision.client; visit = decision.visit; choice = decision.choice }
 
 -- the answer to a decision, by what the desk has against it
 abbrev pub answer_by : Option DeskFault → Result (Unit {0}) DeskFault
@@ -18,8 +15,13 @@ answer_by (Some fault) = Err fault
 abbrev pub put_on : Books → List Decision → List PutDecision
 put_on desk [] = []
 put_on desk (decision ∷ decisions) =
-    record { decision = decision; answer = answer_by (refusal decision.client decision.visit desk) } ∷ put_on (after_call desk (as_call decision)) decisions
+    record { decision = decision; answer = answer_by (refusal decision.client decision.visit desk) }
+    ∷ put_on (after_call desk decision) decisions
 
 -- the decisions put to the desk one after another, and kept with their answers
 abbrev pub settled : List Decision → Repaired → Repaired
-settled decisions repaired = record repaired { desk = after_calls repaired.desk (map as_call decisions); decided = repaired.decided ++ put_on repaired.desk decisions }
+settled decisions repaired =
+    record repaired {
+      desk = after_calls repaired.desk decisions;
+      decided = repaired.decided ++ put_on repaired.desk decisions;
+    }

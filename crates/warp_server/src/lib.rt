@@ -16,17 +16,18 @@ mod reporting;
 mod settling;
 
 pub use byte_streams::{Sink, Told};
+pub use conflict_desk::Decision;
 pub use listed::Listed;
 pub use program::{
-    Answered, Call, CallFault, Callers, Listening, MAX_ROUNDS, Status, accept_call, answer, listen,
-    run, serve, serve_callers,
+    AnswerFault, Answered, Call, CallFault, Callers, Listening, MAX_ROUNDS, Status, accept_call,
+    answer, listen, run, serve, serve_callers,
 };
 pub use repaired::{ClientSummary, PutDecision, Repaired};
 pub use repairing::repair;
 pub use reporting::{ReportFault, report};
 pub use settling::settle;
-pub use site_line::{Decision, Site, SiteFault};
+pub use site_line::{Site, SiteFault};
 pub use upload_lanes::{
-    Again, GatherFault, Gathered, LaneResult, Stop, gather, gather_again, gather_again_in_order,
-    gather_in_order,
+    GatherFault, Gathered, LaneResult, RefusedRound, Stop, gather, gather_again,
+    gather_again_in_order, gather_in_order,
 };

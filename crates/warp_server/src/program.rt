@@ -11,7 +11,7 @@ mod running;
 mod serving;
 mod status;
 
-pub use answering::{Answered, answer};
+pub use answering::{AnswerFault, Answered, answer};
 pub use call::{Call, CallFault, Listening, MAX_ROUNDS, accept_call};
 pub use callers::Callers;
 pub use running::run;

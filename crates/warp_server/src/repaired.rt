@@ -1,7 +1,6 @@
 //! What was repaired, and what was decided of it.
 use crate::listed::Listed;
-use conflict_desk::{Desk, DeskFault};
-use site_line::Decision;
+use conflict_desk::{Decision, Desk, DeskFault};
 use upload_lanes::Stop;
 use upload_reader::{Client, Ending};
 

@@ -1,12 +1,13 @@
 //! Replays what was gathered.
-ghost use Rattle.std.specs.Prelude.{◌≡◌, ◌≢◌, List, map, IfOk, IfErr};
+ghost use Rattle.std.specs.Prelude.{◌≡◌, ◌≢◌, map, IfOk, IfErr};
 ghost use Rattle.std.specs.List.{zip};
-ghost use Rattle.conflict_desk.specs.Desk.{AreDockets, opened_all, Call, after_calls};
-ghost use Rattle.conflict_desk.specs.Laws.{AllLeaveInOrder};
+ghost use Rattle.conflict_desk.specs.Desk.{AreDockets, new_books};
+ghost use Rattle.conflict_desk.specs.Laws.{IsInOrder};
 ghost use Rattle.conflict_desk.specs.Docket.{AreAscending};
+ghost use Rattle.visit_replay.specs.RepairedSite.{site_by};
 ghost use Rattle.replay_workers.specs.Limits.{AreWorkers};
 ghost use Rattle.replay_workers.specs.declared.fault.PoolFault.TheVariants.{BadWorkers, NoMemory};
-ghost use Rattle.warp_server.specs.Repair.{as_case, summary_of, docket_by, docket_for, repaired_of};
+ghost use Rattle.warp_server.specs.Repair.{as_case, summary_of, docket_by, dockets_for, repaired_of};
 
 use crate::listed::Listed;
 use crate::repaired::{ClientSummary, Repaired};
@@ -24,7 +25,7 @@ use upload_reader::Client;
 use visit_replay::{Outcome, Patch};
 
 /// Replays the visits that each client's log keeps, client by client, each visit behind its parent, by so many workers, 1 to `replay_workers::MAX_WORKERS`;
-/// and opens a desk with their outcomes, on which nothing is decided.
+/// and opens a desk with their outcomes, on which nothing is decided. F1 for another number of workers.
 pub fn repair<H: SiteHooks, R: Source, T: AllocGlobal + Threads + Sync>(
     rt: &T,
     workers: u32,
@@ -32,12 +33,13 @@ pub fn repair<H: SiteHooks, R: Source, T: AllocGlobal + Threads + Sync>(
     patch: &Patch,
     gathered: &Gathered<R>,
 ) -> Result<Repaired, PoolFault>
-    ensures ok { IfOk result (λ repaired. AreWorkers workers × (repaired ≡ repaired_of (H.page_of hooks.now) (H.signals hooks.now) patch.now gathered.now)) }
+    ensures workers { IfOk result (λ _. AreWorkers workers) }
+    ensures ok { IfOk result (λ made. made ≡ repaired_of (site_by H.page_of H.signals hooks.now patch.now) gathered.now) }
     ensures refused { IfErr result (λ fault. fault ≢ NoMemory → (fault ≡ BadWorkers) × ¬ AreWorkers workers) }
     ensures memory { IfErr result (λ fault. fault ≡ NoMemory → AreWorkers workers) }
 
     // Whatever is decided then, each client's conflicts leave in order, none twice, and none below a cancelled visit.
-    ensures leave { IfOk result (λ repaired. (calls : List Call) → AllLeaveInOrder (after_calls repaired.desk calls)) }
+    ensures leave { IfOk result (λ repaired. IsInOrder repaired.desk) }
 {
     if workers == 0 || workers > MAX_WORKERS {
         return Err(PoolFault::BadWorkers);
@@ -89,7 +91,8 @@ fn replay_lanes<H: SiteHooks, R: Source, T: AllocGlobal + Threads + Sync>(
     clients: &IndexMap<Client, LaneResult<R>>,
 ) -> Result<Vec<Docket>, NoMemory>
     requires workers { AreWorkers workers }
-    ensures dockets { IfOk result (λ dockets. dockets.items ≡ map (docket_for (H.page_of hooks.now) (H.signals hooks.now) patch.now) clients.now.entries) }
+    ensures dockets { IfOk result (λ all. all.items ≡
+        dockets_for (site_by H.page_of H.signals hooks.now patch.now) clients.now.entries) }
     ensures for_desk { IfOk result (λ dockets. AreDockets dockets.items) }
 {
     let count = clients.len();
@@ -111,7 +114,8 @@ fn replay_lane<H: SiteHooks, T: AllocGlobal + Threads + Sync>(
     log: &ClientLog,
 ) -> Result<Docket, NoMemory>
     requires workers { AreWorkers workers }
-    ensures docket { IfOk result (λ docket. docket ≡ docket_by (H.page_of hooks.now) (H.signals hooks.now) patch.now client.now log.now.log) }
+    ensures docket { IfOk result (λ docket. docket ≡
+        docket_by (site_by H.page_of H.signals hooks.now patch.now) client.now log.now.log) }
     ensures ascend { IfOk result (λ docket. AreAscending docket.cases) }
 {
     let visits = log.visits();
@@ -145,8 +149,8 @@ fn pair_up(alloc: Global, visits: &[Visit], outcomes: Vec<Outcome>) -> Result<Ca
 
 fn open_desk(alloc: Global, dockets: Vec<Docket>) -> Result<Desk, NoMemory>
     requires { AreDockets dockets.items }
-    ensures opened { IfOk result (λ desk. desk ≡ opened_all dockets.items) }
-    ensures leave { IfOk result (λ desk. (calls : List Call) → AllLeaveInOrder (after_calls desk calls)) }
+    ensures opened { IfOk result (λ desk. desk ≡ new_books dockets.items) }
+    ensures leave { IfOk result IsInOrder }
 {
     match Desk::open(alloc, dockets) {
         Ok(desk) => Ok(desk),

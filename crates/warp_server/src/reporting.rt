@@ -1,9 +1,8 @@
 //! The report of what was repaired.
 ghost use Rattle.std.specs.Prelude.{◌≡◌, ◌++◌, IfOk, OnOk, Some, slice_get, string_bytes};
 ghost use Rattle.std.specs.List.{flat_map};
-ghost use Rattle.conflict_desk.specs.Book.{Book as OneBook, standing_in, standing_requests};
-ghost use Rattle.conflict_desk.specs.Desk.{book_of};
-ghost use Rattle.conflict_desk.specs.Docket.{AreAscending, case_of_visit};
+ghost use Rattle.byte_streams.specs.Writing.{writes_of};
+ghost use Rattle.conflict_desk.specs.Book.{standing_in, standing_requests};
 ghost use Rattle.warp_server.specs.Report as plain;
 ghost use Rattle.warp_server.specs.Report.{WritesReport, report_text};
 
@@ -11,24 +10,24 @@ mod fault;
 
 use crate::repaired::{ClientSummary, PutDecision, Repaired};
 use byte_streams::{Sink, write_text};
-use conflict_desk::{Case, Choice, Desk, DeskFault, Standing};
+use conflict_desk::{Case, Choice, Desk, DeskFault, OpenDocket, Standing};
 pub use fault::ReportFault;
 use json::Writer;
 use page_tree::NoMemory;
 use std::alloc::Global;
 use std::mem;
 use upload_lanes::Stop;
-use upload_reader::{Client, Ending, LaneEnd};
+use upload_reader::{Ending, LaneEnd};
 use visit_replay::{Method, Outcome, Request};
 
 /// Writes the report: why the taking stopped, then each client with its visits and their requests, and then each decision with its answer. It is composed
-/// whole before the first write.
+/// whole before the first write. O1 where a write fails or takes nothing, O2 where memory is refused.
 pub fn report<W: Sink>(
     alloc: Global,
     repaired: &Repaired,
     writer: &mut W,
 ) -> Result<(), ReportFault>
-    ensures { WritesReport (W.puts writer.old) (W.puts writer.new) (W.contents writer.old) (W.contents writer.new) (report_text repaired.now) result }
+    ensures { WritesReport (writes_of W.puts W.contents writer.old writer.new) (report_text repaired.now) result }
 {
     let text = compose(alloc, repaired)?;
     Ok(write_text(writer, text.as_bytes())?)
@@ -57,7 +56,7 @@ fn stop_line(stop: Stop) -> &'static str
 // ---- clients
 
 fn add_clients(text: &mut String, desk: &Desk, clients: &[ClientSummary]) -> Result<(), NoMemory>
-    ensures { OnOk result (string_bytes text.new ≡ string_bytes text.old ++ flat_map (plain.client_text desk.now) clients.now) }
+    ensures { OnOk result (string_bytes text.new ≡ string_bytes text.old ++ plain.clients_text desk.now clients.now) }
 {
     for client in clients {
         add_client(text, desk, client)?;
@@ -69,8 +68,8 @@ fn add_client(text: &mut String, desk: &Desk, client: &ClientSummary) -> Result<
     ensures { OnOk result (string_bytes text.new ≡ string_bytes text.old ++ plain.client_text desk.now client.now) }
 {
     add_client_line(text, client)?;
-    match desk.cases(&client.client) {
-        Some(cases) => add_visits(text, desk, &client.client, cases),
+    match desk.docket(&client.client) {
+        Some(docket) => add_visits(text, docket),
         None => Ok(()),
     }
 }
@@ -108,33 +107,27 @@ fn add_lane_end(text: &mut String, end: LaneEnd) -> Result<(), NoMemory>
 
 // ---- visits
 
-// Those of a client of this desk.
-fn add_visits(
-    text: &mut String,
-    desk: &Desk,
-    client: &Client,
-    cases: &[Case],
-) -> Result<(), NoMemory>
-    requires { AreAscending cases.now }
-    ensures { (book : OneBook) → book_of client.now desk.now ≡ Some book → book.cases ≡ cases.now → OnOk result (string_bytes text.new ≡ string_bytes text.old ++ flat_map (plain.visit_text book) book.cases) }
+fn add_visits(text: &mut String, docket: &OpenDocket) -> Result<(), NoMemory>
+    ensures { OnOk result (string_bytes text.new ≡ string_bytes text.old ++ plain.book_text docket.now) }
 {
-    for case in cases {
-        add_visit(text, desk, client, case)?;
+    for (place, case) in docket.cases().iter().enumerate() {
+        add_visit(text, docket, place, case)?;
     }
     Ok(())
 }
 
-// The visit of a case of that client on this desk.
-fn add_visit(text: &mut String, desk: &Desk, client: &Client, case: &Case) -> Result<(), NoMemory>
-    ensures { (book : OneBook) → book_of client.now desk.now ≡ Some book → case_of_visit book.cases case.now.visit ≡ Some case.now → OnOk result (string_bytes text.new ≡ string_bytes text.old ++ plain.visit_text book case.now) }
+// The visit of the case at that place.
+fn add_visit(
+    text: &mut String,
+    docket: &OpenDocket,
+    place: usize,
+    case: &Case,
+) -> Result<(), NoMemory>
+    requires { slice_get docket.now.cases place ≡ Some case.now }
+    ensures { OnOk result (string_bytes text.new ≡ string_bytes text.old ++ plain.visit_text docket.now case.now) }
 {
-    if let Some(standing) = desk.standing(client, case.visit) {
-        add_visit_line(text, case.visit, standing, &case.outcome)?;
-    }
-    if let Some(requests) = desk.requests(client, case.visit) {
-        add_requests(text, requests)?;
-    }
-    Ok(())
+    add_visit_line(text, case.visit, docket.standing_at(place), &case.outcome)?;
+    add_requests(text, docket.requests_at(place))
 }
 
 fn add_visit_line(
@@ -236,7 +229,7 @@ fn add_decision(text: &mut String, put: &PutDecision) -> Result<(), NoMemory>
 
 // Why a decision wasn't made, and the line's end.
 fn add_refusal(text: &mut String, fault: DeskFault) -> Result<(), NoMemory>
-    ensures { OnOk result (string_bytes text.new ≡ string_bytes text.old ++ plain.line (plain.refusal_words fault)) }
+    ensures { OnOk result (string_bytes text.new ≡ string_bytes text.old ++ plain.report_line (plain.refusal_words fault)) }
 {
     match fault {
         DeskFault::NotFront(None) => write!(text, "{fault} front none\n"),

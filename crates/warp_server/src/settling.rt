@@ -1,14 +1,13 @@
 //! Puts the administrator's decisions to the desk.
-ghost use Rattle.std.specs.Prelude.{◌≡◌, ◌+◌, ◌≤◌, ◌++◌, length, map, IfOk, OnOk, OnErr};
+ghost use Rattle.std.specs.Prelude.{◌≡◌, ◌+◌, ◌≤◌, ◌++◌, length, IfOk, OnOk, OnErr};
 ghost use Rattle.std.specs.Vec.{vec_capacity};
 ghost use Rattle.conflict_desk.specs.Desk.{refusal, after_call, after_calls};
-ghost use Rattle.warp_server.specs.Settle.{as_call, answer_by, put_on, settled};
+ghost use Rattle.warp_server.specs.Settle.{answer_by, put_on, settled};
 
 use crate::listed::Listed;
 use crate::repaired::{PutDecision, Repaired};
-use conflict_desk::Desk;
+use conflict_desk::{Decision, Desk};
 use page_tree::NoMemory;
-use site_line::Decision;
 use std::alloc::{AllocError, Global};
 use std::mem;
 
@@ -41,11 +40,7 @@ fn copies_of(alloc: Global, decisions: &[Decision]) -> Result<Vec<Decision>, NoM
 {
     let mut copies = Vec::new(alloc);
     for decision in decisions {
-        copies.push(Decision {
-            client: decision.client.copy()?,
-            visit: decision.visit,
-            choice: decision.choice,
-        })?;
+        copies.push(decision.copy()?)?;
     }
     Ok(copies)
 }
@@ -53,7 +48,7 @@ fn copies_of(alloc: Global, decisions: &[Decision]) -> Result<Vec<Decision>, NoM
 // Puts these decisions, each of which is kept behind those that were put before. There is room for them.
 fn put_all(desk: &mut Desk, decided: Vec<PutDecision>, decisions: Vec<Decision>) -> Vec<PutDecision>
     requires room { length decided.items + length decisions.items ≤ vec_capacity decided }
-    ensures desk { desk.new ≡ after_calls desk.old (map as_call decisions.items) }
+    ensures desk { desk.new ≡ after_calls desk.old decisions.items }
     ensures decided { result.items ≡ decided.items ++ put_on desk.old decisions.items }
 {
     let mut decided = decided;
@@ -64,7 +59,7 @@ fn put_all(desk: &mut Desk, decided: Vec<PutDecision>, decisions: Vec<Decision>)
 }
 
 fn put(desk: &mut Desk, decision: Decision) -> PutDecision
-    ensures desk { desk.new ≡ after_call desk.old (as_call decision) }
+    ensures desk { desk.new ≡ after_call desk.old decision }
     ensures kept { result.decision ≡ decision }
     ensures answer { result.answer ≡ answer_by (refusal decision.client decision.visit desk.old) }
 {

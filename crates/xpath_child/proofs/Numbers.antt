@@ -1,11 +1,11 @@
 -- The number that a search finds is one of the page's.
-use Rattle.std.proofs.Common.{◌≡◌, ℕ, ◌<◌, inl, inr, List, [], ◌∷◌, ◌++◌, IsTrue, IsSome, Option, Some, None, refl, sym, ◌∙◌, ap, subst, append_assoc, append-nil}
+use Rattle.std.proofs.Common.{◌≡◌, ℕ, ◌<◌, inl, inr, List, [], ◌∷◌, ◌++◌, IsTrue, IsSome, Option, Some, None, option_and_then, refl, sym, ◌∙◌, ap, subst, append_assoc, append-nil}
 use Rattle.std.proofs.lemmas.Bool.{cases_lt}
 use Rattle.page_tree.specs.Tree.{Tree}
 use Rattle.page_tree.specs.Limits.{nodes}
-use Rattle.page_tree.specs.Look.{name_at}
+use Rattle.page_tree.specs.Look.{name_of, name_at}
 use Rattle.page_tree.specs.Number.{place_numbered}
-use Rattle.page_tree.proofs.LookLaws.{name_past}
+use Rattle.page_tree.proofs.Numbers.{has_none}
 use Rattle.xpath_child.specs.Path.{Test, Step}
 use Rattle.xpath_child.specs.Reaches.{matches, LeadsOn, Reaches, IsTarget}
 use Rattle.xpath_child.specs.Found.{place_found}
@@ -13,7 +13,7 @@ use Rattle.xpath_child.specs.declared.path.Found.{Found}
 use Rattle.xpath_child.specs.declared.path.Found.TheVariants.{One}
 
 named_inside : (page : Tree) (n : ℕ) → IsSome (name_at (place_numbered n page) page) → n < nodes page
-named_inside page n there = elim (cases_lt n (nodes page)) [ inl inside ↦ inside | inr past ↦ let none = subst IsSome (name_past page n past) there in cc ]
+named_inside page n there = elim (cases_lt n (nodes page)) [ inl inside ↦ inside | inr past ↦ let none = subst IsSome (ap (option_and_then name_of) (has_none n page past)) there in cc ]
 
 -- ---- a place that a path reaches has a name
 

@@ -12,8 +12,8 @@ use Rattle.page_tree.proofs.FirstFault.{unless-none}
 use Rattle.page_tree.specs.FirstFault.{ok_unless}
 use Rattle.xpath_child.specs.Path.{Step as Plain}
 use Rattle.xpath_child.specs.Fault.{is_slash, is_test, is_closed_index, front, test_part, index_part, test_in, text_fault, step_in, first_step_fault, written_steps, path_in}
-use Rattle.xpath_child.specs.Seen.{step_seen, steps_seen, AllStandIn}
-use Rattle.xpath_child.specs.inside.Placed.{placed, placed_steps, IsTextOf}
+use Rattle.xpath_child.specs.inside.Seen.{step_seen, steps_seen, AllStandIn}
+use Rattle.xpath_child.specs.inside.Placed.{step_at, placed_steps, IsTextOf}
 use Rattle.xpath_child.specs.declared.step.Step.{Step}
 use Rattle.xpath_child.proofs.Index.{index_parts}
 use Rattle.xpath_child.proofs.Faults.{unless_ok}
@@ -30,8 +30,8 @@ use Rattle.std.proofs.lemmas.Slice.Eq.{bytes_eq-Decides}
 use Rattle.page_tree.specs.Name.{is_name}
 use Rattle.page_tree.proofs.FirstFault.{unless-none}
 use Rattle.xpath_child.specs.Fault.{is_test, is_closed_index, front, test_part, index_part, test_in, text_fault, step_in}
-use Rattle.xpath_child.specs.Seen.{step_seen, steps_seen, AllStandIn}
-use Rattle.xpath_child.specs.inside.Placed.{placed, placed_steps}
+use Rattle.xpath_child.specs.inside.Seen.{step_seen, steps_seen, AllStandIn}
+use Rattle.xpath_child.specs.inside.Placed.{step_at, placed_steps}
 use Rattle.xpath_child.specs.declared.step.Step.{Step}
 use Rattle.xpath_child.proofs.Index.{index_parts}
 use Rattle.xpath_child.proofs.Faults.{unless_ok}
@@ -87,7 +87,7 @@ module _ (text part tail : List ℕ) (start : ℕ) (stands : drop start text ≡
       let rest = indexed (index_part part) in
       ap (take (length name)) (stands ∙ ap (λ p. p ++ tail) (cut_is part).whole ∙ append_assoc name rest tail) ∙ take-append_seam name (rest ++ tail)
 
-  step_placed : step_seen text (placed start part) ≡ step_in part
+  step_placed : step_seen text (step_at start part) ≡ step_in part
   step_placed = ap (λ name. named_step name (step_in part).index) name_placed
 
   step_stands : start ≤ length text → start + length (test_part part) ≤ length text

@@ -8,7 +8,7 @@ use Rattle.page_tree.specs.Tree.{Tree, Trees, no_trees, tree}
 use Rattle.page_tree.specs.Look.{nth_child, children_of, node_at, name_of, name_at, count, child_count_at}
 use Rattle.xpath_child.specs.Path.{Test, Step}
 use Rattle.xpath_child.specs.Reaches.{matches, matches_at, IsNth, Selects, LeadsOn, Reaches, IsTarget}
-use Rattle.xpath_child.specs.Targets.{is_nth, selects, selected, places_below, target_of, target_in}
+use Rattle.xpath_child.specs.Targets.{is_nth, selects, selected_positions, places_below, target_of, target_in}
 use Rattle.xpath_child.proofs.Members.{IsIn, IsDistinct, from_filter, in_filter, distinct_filter, from_flat_map, in_flat_map, distinct_flat_map, in_range, distinct_range}
 
 -- ---- a child that has a name is there
@@ -57,7 +57,7 @@ pub below_sound : (page : Tree) (steps : List Step) (at place : List ℕ) → Is
 below_sound page [] at place (inl h) = ([], h ∙ sym (append-nil at), refl)
 below_sound page [] at place (inr h) = absurd h
 below_sound page (step ∷ steps) at place h =
-    let from = from_flat_map (λ i. places_below page steps (at ++ i ∷ [])) (selected page step at (child_count_at at page)) place h in
+    let from = from_flat_map (λ i. places_below page steps (at ++ i ∷ [])) (selected_positions page step at (child_count_at at page)) place h in
     let chosen = from_filter (selects page step at) (range_with_len 0 (child_count_at at page)) from.0 from.1 in
     let below = below_sound page steps (at ++ from.0 ∷ []) place from.2 in
     (from.0 ∷ below.0, below.1 ∙ append_assoc at (from.0 ∷ []) below.0, (selects_is page step at from.0 chosen.1, below.2))
@@ -69,7 +69,7 @@ below_complete page (step ∷ steps) at (i ∷ rest) h =
     let there = below_complete page steps (at ++ i ∷ []) rest h.1 in
     let near = in_range 0 (child_count_at at page) i (omega arith) (omega (arith, named_child step.test i at page h.0.0)) in
     let chosen = in_filter (selects page step at) (range_with_len 0 (child_count_at at page)) i (selects-Selects page step at i h.0) near in
-    in_flat_map (λ k. places_below page steps (at ++ k ∷ [])) (selected page step at (child_count_at at page)) i (at ++ i ∷ rest) chosen
+    in_flat_map (λ k. places_below page steps (at ++ k ∷ [])) (selected_positions page step at (child_count_at at page)) i (at ++ i ∷ rest) chosen
     (subst (λ place. IsIn place (places_below page steps (at ++ i ∷ []))) (append_assoc at (i ∷ []) rest) there)
 
 same_first : (i k : ℕ) (xs ys : List ℕ) → i ∷ xs ≡ k ∷ ys → i ≡ k
@@ -85,7 +85,7 @@ apart page steps at i k place first second =
 pub below_distinct : (page : Tree) (steps : List Step) (at : List ℕ) → IsDistinct (places_below page steps at)
 below_distinct page [] at = (λ h. h, tt)
 below_distinct page (step ∷ steps) at =
-    distinct_flat_map (λ i. places_below page steps (at ++ i ∷ [])) (selected page step at (child_count_at at page))
+    distinct_flat_map (λ i. places_below page steps (at ++ i ∷ [])) (selected_positions page step at (child_count_at at page))
     (distinct_filter (selects page step at) (range_with_len 0 (child_count_at at page)) (distinct_range 0 (child_count_at at page)))
     (λ i. below_distinct page steps (at ++ i ∷ [])) (apart page steps at)
 

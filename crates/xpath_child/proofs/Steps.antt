@@ -7,26 +7,20 @@ use Rattle.std.proofs.lemmas.List.Concat.{flat_map-append}
 use Rattle.std.proofs.lemmas.List.Elements.{filter-append}
 use Rattle.std.proofs.lemmas.List.Folds.{fold_stays}
 use Rattle.std.proofs.lemmas.List.Sums.{fold-append, sum_by-append}
+use Rattle.page_tree.proofs.Numbers.{range-append}
 use Rattle.page_tree.specs.Tree.{Tree}
 use Rattle.page_tree.specs.Look.{name_at, child_count_at}
 use Rattle.xpath_child.specs.Path.{Test, Step}
 use Rattle.xpath_child.specs.Reaches.{matches, matches_at, matching_before}
-use Rattle.xpath_child.specs.Targets.{is_nth, selects, selected, places_below, places, target_of, target_in}
+use Rattle.xpath_child.specs.Targets.{is_nth, selects, selected_positions, places_below, places, target_of, target_in}
 use Rattle.xpath_child.specs.inside.Search.{is_past, note}
 use Rattle.xpath_child.specs.declared.path.Target.{Target}
 use Rattle.xpath_child.specs.declared.path.Target.TheVariants.{Missing, One, Several}
 
-range_append : (a m n : ℕ) → range_with_len a (m + n) ≡ range_with_len a m ++ range_with_len (a + m) n
-range_append a zero n = rw (zero-add, add-zero) refl
-range_append a (suc m) n =
-    let e : suc m + n ≡ suc (m + n) = omega arith in
-    let f : a + 1 + m ≡ a + suc m = omega arith in
-    ap (range_with_len a) e ∙ ap (λ xs. a ∷ xs) (range_append (a + 1) m n ∙ ap (λ k. range_with_len (a + 1) m ++ range_with_len k n) f)
-
 -- ---- one child more
 
 range_next : (i : ℕ) → range_with_len 0 (i + 1) ≡ range_with_len 0 i ++ i ∷ []
-range_next i = range_append 0 i 1 ∙ ap (λ k. range_with_len 0 i ++ k ∷ []) (zero-add i)
+range_next i = range-append 0 i 1 ∙ ap (λ k. range_with_len 0 i ++ k ∷ []) (zero-add i)
 
 pub matching_before_next : (page : Tree) (test : Test) (at : List ℕ) (i : ℕ) → matching_before page test at (i + 1) ≡ matching_before page test at i + cond (matches_at page test at i) 1 0
 matching_before_next page test at i =
@@ -39,32 +33,32 @@ module _ (page : Tree) (step : Step) (at : List ℕ) where
   flat_one g false i = refl
 
   pub places_next : (steps : List Step) (found : Target) (i : ℕ)
-      → fold note found (flat_map (λ k. places_below page steps (at ++ k ∷ [])) (selected page step at (i + 1)))
-      ≡ fold note (fold note found (flat_map (λ k. places_below page steps (at ++ k ∷ [])) (selected page step at i))) (cond (selects page step at i) (places_below page steps (at ++ i ∷ [])) [])
+      → fold note found (flat_map (λ k. places_below page steps (at ++ k ∷ [])) (selected_positions page step at (i + 1)))
+      ≡ fold note (fold note found (flat_map (λ k. places_below page steps (at ++ k ∷ [])) (selected_positions page step at i))) (cond (selects page step at i) (places_below page steps (at ++ i ∷ [])) [])
   places_next steps found i =
       let g : ℕ → List (List ℕ) = λ k. places_below page steps (at ++ k ∷ []) in
-      let chosen : selected page step at (i + 1) ≡ selected page step at i ++ cond (selects page step at i) (i ∷ []) [] =
+      let chosen : selected_positions page step at (i + 1) ≡ selected_positions page step at i ++ cond (selects page step at i) (i ∷ []) [] =
       ap (filter (selects page step at)) (range_next i) ∙ filter-append (selects page step at) (range_with_len 0 i) (i ∷ []) in
       ap (λ ks. fold note found (flat_map g ks)) chosen
-      ∙ ap (fold note found) (flat_map-append g (selected page step at i) (cond (selects page step at i) (i ∷ []) []) ∙ ap (λ ps. flat_map g (selected page step at i) ++ ps) (flat_one g (selects page step at i) i))
-      ∙ fold-append note found (flat_map g (selected page step at i)) (cond (selects page step at i) (g i) [])
+      ∙ ap (fold note found) (flat_map-append g (selected_positions page step at i) (cond (selects page step at i) (i ∷ []) []) ∙ ap (λ ps. flat_map g (selected_positions page step at i) ++ ps) (flat_one g (selects page step at i) i))
+      ∙ fold-append note found (flat_map g (selected_positions page step at i)) (cond (selects page step at i) (g i) [])
 
   -- ---- a search that is settled
 
-  rest_of : (i n : ℕ) → i ≤ n → selected page step at n ≡ selected page step at i ++ filter (selects page step at) (range_with_len i (n - i))
+  rest_of : (i n : ℕ) → i ≤ n → selected_positions page step at n ≡ selected_positions page step at i ++ filter (selects page step at) (range_with_len i (n - i))
   rest_of i n h =
       let whole : n ≡ i + (n - i) = omega arith in
-      ap (selected page step at) whole ∙ ap (filter (selects page step at)) (range_append 0 i (n - i) ∙ ap (λ k. range_with_len 0 i ++ range_with_len k (n - i)) (zero-add i))
+      ap (selected_positions page step at) whole ∙ ap (filter (selects page step at)) (range-append 0 i (n - i) ∙ ap (λ k. range_with_len 0 i ++ range_with_len k (n - i)) (zero-add i))
       ∙ filter-append (selects page step at) (range_with_len 0 i) (range_with_len i (n - i))
 
-  pub several_stays : (steps : List Step) (found : Target) (i n : ℕ) → i ≤ n → Several ≡ fold note found (flat_map (λ k. places_below page steps (at ++ k ∷ [])) (selected page step at i))
-      → Several ≡ fold note found (flat_map (λ k. places_below page steps (at ++ k ∷ [])) (selected page step at n))
+  pub several_stays : (steps : List Step) (found : Target) (i n : ℕ) → i ≤ n → Several ≡ fold note found (flat_map (λ k. places_below page steps (at ++ k ∷ [])) (selected_positions page step at i))
+      → Several ≡ fold note found (flat_map (λ k. places_below page steps (at ++ k ∷ [])) (selected_positions page step at n))
   several_stays steps found i n h e =
       let g : ℕ → List (List ℕ) = λ k. places_below page steps (at ++ k ∷ []) in
       let later = filter (selects page step at) (range_with_len i (n - i)) in
       sym (ap (λ ks. fold note found (flat_map g ks)) (rest_of i n h)
-      ∙ ap (fold note found) (flat_map-append g (selected page step at i) later)
-      ∙ fold-append note found (flat_map g (selected page step at i)) (flat_map g later)
+      ∙ ap (fold note found) (flat_map-append g (selected_positions page step at i) later)
+      ∙ fold-append note found (flat_map g (selected_positions page step at i)) (flat_map g later)
       ∙ ap (λ t. fold note t (flat_map g later)) (sym e)
       ∙ fold_stays note Several (λ x. refl) (flat_map g later))
 
@@ -86,8 +80,8 @@ module _ (page : Tree) (step : Step) (at : List ℕ) where
       ap (λ b. cond b (i ∷ filter (selects page step at) (range_with_len (i + 1) n)) (filter (selects page step at) (range_with_len (i + 1) n))) no
       ∙ none_past (i + 1) n (past_next i h)
 
-  pub past_stays : (i n : ℕ) → i ≤ n → is_past step.index (matching_before page step.test at i) ≡ true → selected page step at n ≡ selected page step at i
-  past_stays i n h past = rest_of i n h ∙ ap (λ ks. selected page step at i ++ ks) (none_past i (n - i) past) ∙ append-nil (selected page step at i)
+  pub past_stays : (i n : ℕ) → i ≤ n → is_past step.index (matching_before page step.test at i) ≡ true → selected_positions page step at n ≡ selected_positions page step at i
+  past_stays i n h past = rest_of i n h ∙ ap (λ ks. selected_positions page step at i ++ ks) (none_past i (n - i) past) ∙ append-nil (selected_positions page step at i)
 
 -- ---- places noted one after another
 
@@ -113,9 +107,9 @@ module _ (page : Tree) (test : Test) (at child : List ℕ) (i before : ℕ) (m :
   not_counted h = sym (matching_before_next page test at i ∙ ap (λ b. matching_before page test at i + cond b 1 0) (sym answer ∙ h) ∙ add-zero _ ∙ sym count)
 
 pub noted : (page : Tree) (step : Step) (rest : List Step) (at child : List ℕ) (i before : ℕ) (found now next : Target) → before ≡ matching_before page step.test at i → child ≡ at ++ i ∷ []
-    → now ≡ fold note found (flat_map (λ k. places_below page rest (at ++ k ∷ [])) (selected page step at i))
+    → now ≡ fold note found (flat_map (λ k. places_below page rest (at ++ k ∷ [])) (selected_positions page step at i))
     → next ≡ fold note now (cond (matches step.test (name_at child page) && is_nth step.index before) (places_below page rest child) [])
-    → next ≡ fold note found (flat_map (λ k. places_below page rest (at ++ k ∷ [])) (selected page step at (i + 1)))
+    → next ≡ fold note found (flat_map (λ k. places_below page rest (at ++ k ∷ [])) (selected_positions page step at (i + 1)))
 noted page step rest at child i before found now next count there so_far e =
     e ∙ ap (λ p. fold note now (cond (matches step.test (name_at p page) && is_nth step.index before) (places_below page rest p) [])) there
     ∙ ap (λ n. fold note now (cond (matches_at page step.test at i && is_nth step.index n) (places_below page rest (at ++ i ∷ [])) [])) count
@@ -125,9 +119,9 @@ noted page step rest at child i before found now next count there so_far e =
 -- ---- a search that stops before the last child
 
 module _ (page : Tree) (step : Step) (rest path : List Step) (at : List ℕ) (found now : Target) (i n before : ℕ) (is : path ≡ step ∷ rest) (all : n ≡ child_count_at at page) (h : i ≤ n) (count : before ≡ matching_before page step.test at i)
-    (so_far : now ≡ fold note found (flat_map (λ k. places_below page rest (at ++ k ∷ [])) (selected page step at i))) where
-  whole : fold note found (flat_map (λ k. places_below page rest (at ++ k ∷ [])) (selected page step at n)) ≡ fold note found (places_below page path at)
-  whole = ap (λ m. fold note found (flat_map (λ k. places_below page rest (at ++ k ∷ [])) (selected page step at m))) all ∙ sym (ap (λ p. fold note found (places_below page p at)) is)
+    (so_far : now ≡ fold note found (flat_map (λ k. places_below page rest (at ++ k ∷ [])) (selected_positions page step at i))) where
+  whole : fold note found (flat_map (λ k. places_below page rest (at ++ k ∷ [])) (selected_positions page step at n)) ≡ fold note found (places_below page path at)
+  whole = ap (λ m. fold note found (flat_map (λ k. places_below page rest (at ++ k ∷ [])) (selected_positions page step at m))) all ∙ sym (ap (λ p. fold note found (places_below page p at)) is)
 
   pub settled : (now ≡ Several) ⊎ (is_past step.index before ≡ true) → now ≡ fold note found (places_below page path at)
   settled (inl several) = several ∙ several_stays page step at rest found i n h (sym several ∙ so_far) ∙ whole
@@ -139,7 +133,7 @@ module _ (page : Tree) (step : Step) (rest path : List Step) (at : List ℕ) (fo
 
 none_below : {A : Type 0} (f : A → Step) (page : Tree) (steps : List A) (at : List ℕ) → eqb (length steps) 0 ≡ false → child_count_at at page ≡ 0 → places_below page (map f steps) at ≡ []
 none_below f page [] at more none = absurd (true≢false more)
-none_below f page (step ∷ steps) at more none = ap (λ n. flat_map (λ i. places_below page (map f steps) (at ++ i ∷ [])) (selected page (f step) at n)) none
+none_below f page (step ∷ steps) at more none = ap (λ n. flat_map (λ i. places_below page (map f steps) (at ++ i ∷ [])) (selected_positions page (f step) at n)) none
 
 pub nothing_noted : {A : Type 0} (f : A → Step) (page : Tree) (steps : List A) (at : List ℕ) (found : Target) (b : Bool) → eqb (length steps) 0 ≡ false → child_count_at at page ≡ 0
     → found ≡ fold note found (cond b (places_below page (map f steps) at) [])

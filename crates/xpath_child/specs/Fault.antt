@@ -1,6 +1,7 @@
--- Which path a text has, and which fault a text has that no path has: this project's own rule. The text is cut at each `/`, each step has at
--- most one fault of its own, by the order of the checks there, and the fault of the text is that of the first step that has one.
-use Rattle.std.specs.Prelude.{ℕ, suc, ◌+◌, ◌-◌, ◌≡◌, List, [], ◌∷◌, ◌++◌, map, length, take, drop, slice_index, Bool, true, ◌&&◌, ◌||◌, not, ◌==◌, if◌then◌else◌, nat_lt, nat_le, Option, Some, None, option_map, Result, Ok, Err, codes}
+-- Which path a text has, and which fault a text has that no path has: this project's own rule. The text is cut at each
+-- `/`, each step has at most one fault of its own, by the order of the checks there, and the fault of the text is that
+-- of the first step that has one.
+use Rattle.std.specs.Prelude.{ℕ, suc, ◌+◌, ◌-◌, ◌≡◌, ◌≢◌, MatchResult, List, [], ◌∷◌, ◌++◌, map, length, take, drop, slice_index, Bool, true, ◌&&◌, ◌||◌, not, ◌==◌, if◌then◌else◌, nat_lt, nat_le, Option, Some, None, option_map, Result, Ok, Err, codes}
 use Rattle.std.specs.Option.{option_or, option_map_or}
 use Rattle.std.specs.List.{list_all, slice_split, before_first, position}
 use Rattle.std.specs.Char.{is_ascii_digit}
@@ -8,7 +9,7 @@ use Rattle.std.specs.Str.{bytes_eq}
 use Rattle.std.specs.Str.Parse.{digits_value}
 use Rattle.page_tree.specs.Name.{is_name}
 use Rattle.page_tree.specs.FirstFault.{unless, ok_unless}
-use Rattle.xpath_child.specs.Path.{Test, any, named, Step, max_steps}
+use Rattle.xpath_child.specs.Path.{Test, any, named, Step, max_steps, max_index_digits}
 use Rattle.xpath_child.specs.declared.fault.PathFault.{PathFault}
 use Rattle.xpath_child.specs.declared.fault.PathFaultKind.{PathFaultKind}
 use Rattle.xpath_child.specs.declared.fault.PathFaultKind.TheVariants.{NotAbsolute, EmptyStep, BadName, BadIndex, TooManySteps, NoMemory}
@@ -35,9 +36,11 @@ index_part text = option_map (λ i. drop (i + 1) text) (position is_bracket text
 abbrev pub is_test : List ℕ → Bool
 is_test text = bytes_eq text (codes "*") || is_name text
 
--- 1 to 9 digits, the first not 0
+-- digits, not too many, the first not 0
 abbrev pub is_index : List ℕ → Bool
-is_index digits = nat_lt 0 (length digits) && nat_le (length digits) 9 && list_all is_ascii_digit digits && not (slice_index digits 0 == 48)
+is_index digits =
+    nat_lt 0 (length digits) && nat_le (length digits) max_index_digits
+    && list_all is_ascii_digit digits && not (slice_index digits 0 == 48)
 
 -- all but the last byte
 abbrev pub front : List ℕ → List ℕ
@@ -47,14 +50,15 @@ front text = take (length text - 1) text
 abbrev pub is_closed_index : List ℕ → Bool
 is_closed_index text = is_index (front text) && bytes_eq text (front text ++ codes "]")
 
--- the fault of a step's own text, which begins at that byte
+-- the fault of a step's own text, which begins at that byte: X2 of an empty one, X3 of its test, X4 of its index
 abbrev pub text_fault : ℕ → List ℕ → Option PathFault
 text_fault start text =
     unless (nat_lt 0 (length text)) (fault_at start EmptyStep)
     (unless (is_test (test_part text)) (fault_at start BadName)
-    (unless (option_map_or is_closed_index (index_part text) true) (fault_at (start + length (test_part text)) BadIndex) None))
+    (unless (option_map_or is_closed_index (index_part text) true)
+    (fault_at (start + length (test_part text)) BadIndex) None))
 
--- the fault of a step before which so many stand
+-- the fault of a step before which so many stand; X5 of one too many
 abbrev pub step_fault : ℕ → ℕ → List ℕ → Option PathFault
 step_fault before start text = unless (nat_lt before max_steps) (fault_at start TooManySteps) (text_fault start text)
 
@@ -63,13 +67,14 @@ step_fault before start text = unless (nat_lt before max_steps) (fault_at start 
 -- the first fault of steps, of which so many stand before them and the first begins at that byte
 abbrev pub first_step_fault : ℕ → ℕ → List (List ℕ) → Option PathFault
 first_step_fault before start [] = None
-first_step_fault before start (text ∷ rest) = option_or (step_fault before start text) (first_step_fault (suc before) (start + length text + 1) rest)
+first_step_fault before start (text ∷ rest) =
+    option_or (step_fault before start text) (first_step_fault (suc before) (start + length text + 1) rest)
 
 -- what stands after a `/`, cut at each further one
 abbrev pub written_steps : List ℕ → List (List ℕ)
 written_steps rest = slice_split is_slash rest
 
--- the fault of a text that no path has
+-- the fault of a text that no path has; X1 where it doesn't begin with `/`
 abbrev pub path_fault : List ℕ → Option PathFault
 path_fault [] = Some (fault_at 0 NotAbsolute)
 path_fault (c ∷ rest) = unless (is_slash c) (fault_at 0 NotAbsolute) (first_step_fault 0 1 (written_steps rest))
@@ -80,12 +85,20 @@ abbrev pub test_in : List ℕ → Test
 test_in text = if bytes_eq text (codes "*") then any else named text
 
 abbrev pub step_in : List ℕ → Step
-step_in text = record { test = test_in (test_part text); index = option_map (λ rest. digits_value 10 (front rest)) (index_part text) }
+step_in text = record {
+  test = test_in (test_part text);
+  index = option_map (λ rest. digits_value 10 (front rest)) (index_part text);
+}
 
 abbrev pub path_in : List ℕ → Result (List Step) PathFault
 path_in text = ok_unless (path_fault text) (map step_in (written_steps (drop 1 text)))
 
 -- ---- what the code answers: that, or want of memory, which stands at 0
+
+-- the text has no fault, or this one
+abbrev pub TellsFault : List ℕ → Result (List Step) PathFault → Type 0
+TellsFault text read =
+    MatchResult read (λ _. path_fault text ≡ None) (λ e. e.kind ≢ NoMemory → path_fault text ≡ Some e)
 
 abbrev pub PathFails : {A : Type 0} → ℕ → PathFaultKind → Result A PathFault → Type 0
 PathFails at NoMemory read = at ≡ 0

@@ -1,5 +1,4 @@
 pub mod Path
-pub mod Seen
 pub mod Fault
 pub mod Reaches
 pub mod Targets

@@ -1,8 +1,10 @@
--- Paths and their texts: this project's own part of the location paths of XPath 1.0, in the abbreviated syntax (sections 2 and 2.5).
-use Rattle.std.specs.Prelude.{ℕ, ◌≤◌, List, [], ◌++◌, length, IsTrue, Option, IfSome, flat_map, codes, decimal}
+-- Paths and their texts: this project's own part of the location paths of XPath 1.0, in the abbreviated syntax
+-- (sections 2 and 2.5).
+use Rattle.std.specs.Prelude.{ℕ, ◌≢◌, ◌≤◌, List, [], ◌++◌, length, IsTrue, Option, IfSome, flat_map, codes, decimal}
 use Rattle.std.specs.List.{AllByRecursion}
 use Rattle.std.specs.Option.{option_map_or}
 use Rattle.page_tree.specs.Name.{is_name}
+use Rattle.page_tree.specs.Limits.{max_depth}
 
 -- A node test (section 2.3): `*` is every element, a name is the elements of that name.
 pub data Test : Type 0 where
@@ -16,10 +18,15 @@ pub record Step : Type 0 where
 
 -- ---- the grammar: this project's own limits
 
+-- no more than a page has levels of elements, since each step goes down by one
 abbrev pub max_steps : ℕ
-max_steps = 48
+max_steps = max_depth
 
--- nine digits
+-- so that an index has 32 bits
+abbrev pub max_index_digits : ℕ
+max_index_digits = 9
+
+-- the greatest with so many digits
 abbrev pub max_index : ℕ
 max_index = 999999999
 
@@ -50,3 +57,7 @@ step_text step = test_text step.test ++ index_text step.index
 
 abbrev pub path_text : List Step → List ℕ
 path_text path = flat_map (λ step. codes "/" ++ step_text step) path
+
+-- no path of the grammar has the text
+abbrev pub HasNoPath : List ℕ → Type 0
+HasNoPath text = (path : List Step) → IsPath path → path_text path ≢ text

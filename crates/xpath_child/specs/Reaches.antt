@@ -1,5 +1,5 @@
--- Which places of a page a path reaches, and its target (XPath 1.0, sections 2 to 2.4). A page is known here by its public words alone: the
--- name of the element at a place, and how many children stand there.
+-- Which places of a page a path reaches, and its target (XPath 1.0, sections 2 to 2.4). A page is known here by its
+-- public words alone: the name of the element at a place, and how many children stand there.
 use Rattle.std.specs.Prelude.{◌≡◌, ◌≢◌, ℕ, suc, List, [], ◌∷◌, ◌++◌, Bool, true, false, IsTrue, Option, Some, None, IfSome, count_by}
 use Rattle.std.specs.List.{range_with_len}
 use Rattle.std.specs.Str.{bytes_eq}
@@ -11,7 +11,8 @@ use Rattle.xpath_child.specs.declared.path.Target.TheVariants.{Missing, One, Sev
 
 -- ---- one step
 
--- section 2.3: the principal node type of the child axis is element, and names are compared exactly. A text, or a place with no node, has no name.
+-- section 2.3: the principal node type of the child axis is element, and names are compared exactly. A text, or a place
+-- with no node, has no name.
 abbrev pub matches : Test → Option (List ℕ) → Bool
 matches test None = false
 matches any (Some name) = true
@@ -31,7 +32,8 @@ IsNth index before = IfSome index (λ n. n ≡ suc before)
 
 -- the step selects the child at that position
 abbrev pub Selects : Tree → Step → List ℕ → ℕ → Type 0
-Selects page step at i = IsTrue (matches_at page step.test at i) × IsNth step.index (matching_before page step.test at i)
+Selects page step at i =
+    IsTrue (matches_at page step.test at i) × IsNth step.index (matching_before page step.test at i)
 
 -- ---- a path
 
@@ -44,7 +46,8 @@ LeadsOn page at (step ∷ steps) (i ∷ rest) = Selects page step at i × LeadsO
 -- The first step selects from the document, whose only child element is the root (section 2 and section 5.1).
 abbrev pub Reaches : List Step → Tree → List ℕ → Type 0
 Reaches [] page place = ⊥
-Reaches (step ∷ steps) page place = IsTrue (matches step.test (name_at [] page)) × IsNth step.index 0 × LeadsOn page [] steps place
+Reaches (step ∷ steps) page place =
+    IsTrue (matches step.test (name_at [] page)) × IsNth step.index 0 × LeadsOn page [] steps place
 
 -- this project's own word for what a path selects: no place, the only one, or several
 abbrev pub IsTarget : List Step → Tree → Target → Type 0

@@ -16,17 +16,19 @@ abbrev pub selects : Tree → Step → List ℕ → ℕ → Bool
 selects page step at i = matches_at page step.test at i && is_nth step.index (matching_before page step.test at i)
 
 -- the positions that the step selects among the first so many children
-abbrev pub selected : Tree → Step → List ℕ → ℕ → List ℕ
-selected page step at n = filter (selects page step at) (range_with_len 0 n)
+abbrev pub selected_positions : Tree → Step → List ℕ → ℕ → List ℕ
+selected_positions page step at n = filter (selects page step at) (range_with_len 0 n)
 
 -- the places that the steps reach from a place
 abbrev pub places_below : Tree → List Step → List ℕ → List (List ℕ)
 places_below page [] at = at ∷ []
-places_below page (step ∷ steps) at = flat_map (λ i. places_below page steps (at ++ i ∷ [])) (selected page step at (child_count_at at page))
+places_below page (step ∷ steps) at =
+    flat_map (λ i. places_below page steps (at ++ i ∷ [])) (selected_positions page step at (child_count_at at page))
 
 abbrev pub places : List Step → Tree → List (List ℕ)
 places [] page = []
-places (step ∷ steps) page = if matches step.test (name_at [] page) && is_nth step.index 0 then places_below page steps [] else []
+places (step ∷ steps) page =
+    if matches step.test (name_at [] page) && is_nth step.index 0 then places_below page steps [] else []
 
 -- none, the only one, or several
 abbrev pub target_of : List (List ℕ) → Target

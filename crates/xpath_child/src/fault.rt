@@ -17,17 +17,17 @@ pub struct PathFault {
 /// What is wrong. Of a step's own faults the first counts, in the order `TooManySteps`, `EmptyStep`, `BadName`, `BadIndex`.
 #[derive(Clone, Copy, Debug, PartialEq, Eq)]
 pub enum PathFaultKind {
-    /// The text is empty or doesn't begin with `/`; at 0.
+    /// X1: the text is empty or doesn't begin with `/`; at 0.
     NotAbsolute,
-    /// Nothing stands between a `/` and the next one or the end; at the step's start.
+    /// X2: nothing stands between a `/` and the next one or the end; at the step's start.
     EmptyStep,
-    /// What stands before the first `[`, or the whole step, is neither `*` nor a name; at the step's start.
+    /// X3: what stands before the first `[`, or the whole step, is neither `*` nor a name; at the step's start.
     BadName,
-    /// What stands from the first `[` on is no `[n]` with 1 to 9 digits, the first not 0; at the `[`.
+    /// X4: what stands from the first `[` on is no `[n]` with 1 to 9 digits, the first not 0; at the `[`.
     BadIndex,
-    /// There is a step 49; at its start.
+    /// X5: there is one step too many; at its start.
     TooManySteps,
-    /// An allocation was refused; at 0.
+    /// X6: an allocation was refused; at 0.
     NoMemory,
 }
 

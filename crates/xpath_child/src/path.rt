@@ -1,17 +1,17 @@
 //! Paths, and what they select on a page.
-ghost use Rattle.std.specs.Prelude.{◌≡◌, ◌≢◌, ◌↔◌, ◌<◌, ◌&&◌, ℕ, [], List, Some, None, IsTrue, IfOk, IfErr, MatchResult, if◌then◌else◌, fold, option_map};
+ghost use Rattle.std.specs.Prelude.{◌≡◌, ◌≢◌, ◌↔◌, ◌<◌, ℕ, List, IsTrue, IfOk, IfErr, option_map};
 ghost use Rattle.page_tree.specs.Tree.{Tree};
 ghost use Rattle.page_tree.specs.Limits.{nodes};
 ghost use Rattle.page_tree.specs.Look.{name_at};
 ghost use Rattle.page_tree.specs.Number.{place_numbered};
-ghost use Rattle.xpath_child.specs.Path.{Step as Plain, IsPath, path_text};
-ghost use Rattle.xpath_child.specs.Fault.{path_fault, path_in, test_in, GivesPath};
-ghost use Rattle.xpath_child.specs.Seen.{AllStandIn, steps_seen};
+ghost use Rattle.xpath_child.specs.Path.{Step as Plain, IsPath, HasNoPath, path_text};
+ghost use Rattle.xpath_child.specs.Fault.{path_in, test_in, GivesPath, TellsFault};
+ghost use Rattle.xpath_child.specs.inside.Seen.{AllStandIn};
 ghost use Rattle.xpath_child.specs.Reaches.{IsTarget, matches};
-ghost use Rattle.xpath_child.specs.Targets.{target_in, only_place, is_nth, places_below};
+ghost use Rattle.xpath_child.specs.Targets.{target_in, only_place};
 ghost use Rattle.xpath_child.specs.Found.{place_found};
 ghost use Rattle.xpath_child.specs.declared.fault.PathFaultKind.TheVariants.{NoMemory};
-ghost use Rattle.xpath_child.specs.inside.Search.{note};
+ghost use Rattle.xpath_child.specs.inside.Search.{note, Notes, hits_from, hits_at};
 
 use crate::fault::{PathFault, PathFaultKind};
 use crate::step::{Step, matches, read_steps};
@@ -38,7 +38,7 @@ struct Written {
 impl Model for Path {
     ghost use Rattle.std.specs.Prelude.{List};
     ghost use Rattle.xpath_child.specs.Path.{Step};
-    ghost use Rattle.xpath_child.specs.Seen.{steps_seen};
+    ghost use Rattle.xpath_child.specs.inside.Seen.{steps_seen};
     ghost use Rattle.xpath_child.specs.inside.Placed.{IsTextOf};
 
     ghost Value = { List Step };
@@ -49,15 +49,15 @@ impl Model for Path {
 }
 
 impl Path {
-    /// The path that has this text, or the first fault. The text is cut at each `/`, inside brackets too.
+    /// The path that has this text, or the first fault; X1 where it doesn't begin with `/`. The text is cut at each `/`, inside brackets too.
     pub fn read(alloc: Global, text: &str) -> Result<Path, PathFault>
         // Where a path of the grammar has the text, want of memory aside: that path, and no other has the text.
         ensures ok { IfOk result (λ path. IsPath path × (path_text path ≡ text.now)) }
         ensures only { IfOk result (λ path. (other : List Plain) → IsPath other → path_text other ≡ text.now → other ≡ path) }
 
         // Where none has, and only there: the first fault.
-        ensures refused { IfErr result (λ e. e.kind ≢ NoMemory → (path : List Plain) → IsPath path → path_text path ≢ text.now) }
-        ensures fault { MatchResult result (λ _. path_fault text.now ≡ None) (λ e. e.kind ≢ NoMemory → path_fault text.now ≡ Some e) }
+        ensures refused { IfErr result (λ e. e.kind ≢ NoMemory → HasNoPath text.now) }
+        ensures fault { TellsFault text.now result }
         ensures memory { IfErr result (λ e. e.kind ≡ NoMemory → e.at ≡ 0) }
 
         // The same as a function of the text.
@@ -180,7 +180,7 @@ impl Found {
 #[inline(never)]
 fn visit(page: &Page, text: &[u8], steps: &[Step], at: u32, found: &mut Found)
     requires { AllStandIn text.now steps.now }
-    ensures { place_found page.now found.new ≡ fold note (place_found page.now found.old) (places_below page.now (steps_seen text.now steps.now) (place_numbered at page.now)) }
+    ensures { Notes page.now found.old found.new (hits_from page.now text.now steps.now at) }
 {
     let Some((step, rest)) = steps.split_first() else {
         found.note(at);
@@ -216,7 +216,7 @@ fn visit_child(
 ) -> bool
     requires { AllStandIn text.now rest.now }
     ensures matched { result ≡ matches (test_in test.now) (name_at (place_numbered child page.now) page.now) }
-    ensures noted { place_found page.now found.new ≡ fold note (place_found page.now found.old) (if matches (test_in test.now) (name_at (place_numbered child page.now) page.now) && is_nth step.now.index before then places_below page.now (steps_seen text.now rest.now) (place_numbered child page.now) else []) }
+    ensures noted { Notes page.now found.old found.new (hits_at page.now test.now step.now before text.now rest.now child) }
 {
     if !matches(test, page.name_of(child)) {
         return false;

@@ -4,12 +4,12 @@ ghost use Rattle.std.specs.List.{list_all};
 ghost use Rattle.std.specs.Char.{is_ascii_digit};
 ghost use Rattle.std.specs.Str.Parse.{digits_value};
 ghost use Rattle.page_tree.specs.FirstFault.{ok_unless};
-ghost use Rattle.xpath_child.specs.Fault.{test_part, index_part, test_in, is_test, is_index, is_closed_index, front, text_fault, first_step_fault, written_steps, GivesPath};
-ghost use Rattle.xpath_child.specs.Seen.{StandsIn, test_seen};
+ghost use Rattle.xpath_child.specs.Fault.{test_part, index_part, test_in, is_test, is_index, is_closed_index, front, text_fault, GivesPath};
+ghost use Rattle.xpath_child.specs.inside.Seen.{StandsIn, test_seen};
 ghost use Rattle.xpath_child.specs.Reaches.{matches};
 ghost use Rattle.xpath_child.specs.Targets.{is_nth};
 ghost use Rattle.xpath_child.specs.inside.Search.{is_past};
-ghost use Rattle.xpath_child.specs.inside.Placed.{placed, placed_steps};
+ghost use Rattle.xpath_child.specs.inside.Placed.{step_at, steps_or_fault};
 
 use crate::fault::{PathFault, PathFaultKind};
 use crate::limits::{MAX_INDEX_DIGITS, MAX_STEPS};
@@ -65,10 +65,10 @@ pub(crate) fn matches(test: &[u8], name: Option<&str>) -> bool
     }
 }
 
-/// The steps of what stands after the first `/` of a text.
+/// The steps of what stands after the first `/` of a text; X5 where there are too many.
 pub(crate) fn read_steps(alloc: Global, rest: &str) -> Result<Vec<Step>, PathFault>
     requires { length rest.now + 1 < 2 ^ 64 }
-    ensures { GivesPath (λ steps. steps.items) result (ok_unless (first_step_fault 0 1 (written_steps rest.now)) (placed_steps 1 (written_steps rest.now))) }
+    ensures { GivesPath (λ steps. steps.items) result (steps_or_fault rest.now) }
 {
     let mut steps = Vec::new(alloc);
     let mut slash = 0;
@@ -83,11 +83,11 @@ pub(crate) fn read_steps(alloc: Global, rest: &str) -> Result<Vec<Step>, PathFau
     Ok(steps)
 }
 
-// The step of a text that begins at that byte.
+// The step of a text that begins at that byte; X2, X3 or X4 where it is none.
 fn read_step(start: usize, text: &str) -> Result<Step, PathFault>
     requires room { start + length text.now < 2 ^ 64 }
     requires low { start < 2 ^ 16 }
-    ensures { GivesPath (λ step. step) result (ok_unless (text_fault start text.now) (placed start text.now)) }
+    ensures { GivesPath (λ step. step) result (ok_unless (text_fault start text.now) (step_at start text.now)) }
 {
     if text.is_empty() {
         return Err(PathFaultKind::EmptyStep.at(start));

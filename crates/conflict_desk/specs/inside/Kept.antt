@@ -16,7 +16,8 @@ book_in o = record { cases = o.cases; decisions = o.decisions.items }
 abbrev pub cancelled_at : Book → ℕ → Bool
 cancelled_at book k = option_map_or (is_cancelled book) (slice_get book.cases k) false
 
--- The front is at that place, or it is the end. The flags before it tell which visits are cancelled, and nothing from it on is decided.
+-- The front is at that place, or it is the end. The flags before it tell which visits are cancelled, and nothing from
+-- it on is decided.
 pub record IsKept (book : Book) (links : List Link) (flags : List Bool) (next : ℕ) : Type 0 where
   pub ascending : AreAscending book.cases
   pub links_are : AreLinks book.cases links
@@ -25,7 +26,8 @@ pub record IsKept (book : Book) (links : List Link) (flags : List Bool) (next : 
   pub within : next ≤ length book.cases
   pub tell : Tell (cancelled_at book) next flags
   pub passed : (k : ℕ) (case : Case) → k < next → slice_get book.cases k ≡ Some case → waits book case ≡ false
-  pub undecided : (k : ℕ) (case : Case) → next ≤ k → slice_get book.cases k ≡ Some case → is_decided book.decisions case.visit ≡ false
+  pub undecided : (k : ℕ) (case : Case) → next ≤ k → slice_get book.cases k ≡ Some case
+      → is_decided book.decisions case.visit ≡ false
   pub front : (case : Case) → slice_get book.cases next ≡ Some case → waits book case ≡ true
   pub few : length book.decisions ≤ next
 

@@ -1,5 +1,6 @@
 -- What is kept of each case's way up its chain of parents.
 use Rattle.std.specs.Prelude.{◌≡◌, ℕ, ◌<◌, ◌≤◌, List, Bool, false, Some, IfSome, slice_get, option_and_then, ◌⊎◌}
+use Rattle.std.specs.List.{slice_index_or}
 use Rattle.std.specs.Option.{option_map_or}
 use Rattle.conflict_desk.specs.Docket.{parent_of}
 use Rattle.conflict_desk.specs.declared.docket.Case.{Case}
@@ -7,17 +8,26 @@ use Rattle.conflict_desk.specs.declared.links.Link.{Link}
 
 -- from that place on, what is said of a case is what is said of its parent, and false of one that has none
 abbrev pub Follows : ℕ → List Link → (ℕ → Bool) → Type 0
-Follows from links said = (k : ℕ) (link : Link) → from ≤ k → slice_get links k ≡ Some link → said k ≡ option_map_or said link.parent false
+Follows from links said =
+    (k : ℕ) (link : Link) → from ≤ k → slice_get links k ≡ Some link → said k ≡ option_map_or said link.parent false
 
 -- the chain of parents leads from one place to an earlier one: what is said so is the same of both
 abbrev pub LeadsTo : List Link → ℕ → ℕ → Type 0
 LeadsTo links k j = (j < k) × ((from : ℕ) (said : ℕ → Bool) → Follows from links said → from ≤ j → said k ≡ said j)
 
+-- its parent, where it has one, stands before that place
+abbrev pub IsParentBelow : ℕ → Link → Type 0
+IsParentBelow k link = IfSome link.parent (λ p. p < k)
+
+-- its parent's flag, and false of one that has none
+abbrev pub flag_above : List Bool → Link → Bool
+flag_above flags link = option_map_or (λ p. slice_index_or flags p false) link.parent false
+
 pub record IsLink (cases : List Case) (links : List Link) (k : ℕ) (link : Link) : Type 0 where
   pub case : Case
   pub at : slice_get cases k ≡ Some case
   pub parent : parent_of cases case ≡ option_and_then (slice_get cases) link.parent
-  pub before : IfSome link.parent (λ p. p < k)
+  pub before : IsParentBelow k link
   pub jump : IfSome link.jump (LeadsTo links k)
 
 abbrev pub AreLinks : List Case → List Link → Type 0
@@ -27,7 +37,7 @@ abbrev pub HaveJumps : List Link → Type 0
 HaveJumps links = (k : ℕ) (link : Link) → slice_get links k ≡ Some link → IfSome link.jump (LeadsTo links k)
 
 abbrev pub HaveParents : List Link → Type 0
-HaveParents links = (k : ℕ) (link : Link) → slice_get links k ≡ Some link → IfSome link.parent (λ p. p < k)
+HaveParents links = (k : ℕ) (link : Link) → slice_get links k ≡ Some link → IsParentBelow k link
 
 -- that place, or one further up
 abbrev pub IsUp : List Link → ℕ → ℕ → Type 0

@@ -1,16 +1,18 @@
--- What the code keeps of the children that it passed while it makes a table, and where it says that the next one stands.
-use Rattle.std.specs.Prelude.{ℕ, suc, ◌≡◌, List, if◌then◌else◌, unwrap_or}
+-- What the code keeps of the children that it passed while it makes a table, and where the next one stands.
+use Rattle.std.specs.Prelude.{ℕ, suc, ◌≡◌, List, Option, if◌then◌else◌, unwrap_or}
 use Rattle.std.specs.BTreeMap.{BTreeMap, get_by}
 use Rattle.std.specs.Cmp.Lexicographic.{slice_cmp}
 use Rattle.std.specs.Option.{option_map_or}
 use Rattle.std.specs.Ordering.{nat_cmp}
 use Rattle.std.specs.Str.{bytes_eq}
 use denote.Ref.{Bor}
-use Rattle.page_tree.specs.Tree.{Tree, Trees}
-use Rattle.page_tree.specs.Limits.{is_element}
+use Rattle.page_tree.specs.Tree.{Tree, Trees, tree}
+use Rattle.page_tree.specs.Seen.{all_seen}
+use Rattle.page_tree.specs.Limits.{is_element, nodes_of_all}
 use Rattle.page_tree.specs.Look.{name_of, count}
 use Rattle.page_tree.specs.Number.{count_of, is_named}
 use Rattle.page_tree.specs.inside.Table.{same_name_before}
+use Rattle.page_tree.specs.declared.tree.Tree as code
 use Rattle.page_tree.specs.declared.siblings.Siblings.{Siblings}
 use Rattle.page_tree.specs.declared.table.Spot.{Spot}
 
@@ -20,7 +22,9 @@ name_count names name = unwrap_or (get_by (λ k. slice_cmp nat_cmp name k.now) n
 
 -- that name was counted once more, and no other one
 abbrev pub CountsOneMore : List ℕ → BTreeMap (Bor (List ℕ)) ℕ → BTreeMap (Bor (List ℕ)) ℕ → Type 0
-CountsOneMore name old new = (other : List ℕ) → name_count new other ≡ (if bytes_eq name other then suc (name_count old other) else name_count old other)
+CountsOneMore name old new =
+    (other : List ℕ)
+    → name_count new other ≡ (if bytes_eq name other then suc (name_count old other) else name_count old other)
 
 -- the counts are those of the trees before, the nearest first
 pub record Passed (before : Trees) (siblings : Siblings) : Type 0 where
@@ -33,3 +37,17 @@ pub record IsSpot (spot : Spot) (before : Trees) (t : Tree) : Type 0 where
   pub position : spot.position ≡ count before
   pub elements : spot.elements_before ≡ option_map_or (λ _. count_of is_element before) (name_of t) 0
   pub same : spot.same_before ≡ same_name_before before t
+
+-- an element of that name, or a text, behind the siblings that were passed, stands there
+abbrev pub StandsBehind : Siblings → Option (List ℕ) → Spot → Type 0
+StandsBehind siblings name spot =
+    (before : Trees) (t : Tree) → name_of t ≡ name → Passed before siblings → IsSpot spot before t
+
+-- it was passed too
+abbrev pub PassesOne : Siblings → Option (List ℕ) → Siblings → Type 0
+PassesOne siblings name passes =
+    (before : Trees) (t : Tree) → name_of t ≡ name → Passed before siblings → Passed (tree t before) passes
+
+-- how many nodes some trees of the code have
+abbrev pub nodes_in : List code.Tree → ℕ
+nodes_in ts = nodes_of_all (all_seen ts)

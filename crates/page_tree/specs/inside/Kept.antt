@@ -1,8 +1,10 @@
--- What a `Page` keeps: the table of a tree that is a page. And what its code looks at besides: the parts of a node that no contract of a caller names.
+-- What a `Page` keeps: the table of a tree that is a page. And what its code looks at besides: the parts of a node that
+-- no contract of a caller names.
 use Rattle.std.specs.Prelude.{◌≡◌, ℕ, List, [], Option, option_and_then}
 use Rattle.std.specs.Option.{option_map_or}
 use Rattle.page_tree.specs.Tree.{Attribute, Tree, Trees, no_trees}
 use Rattle.page_tree.specs.Look.{node_at, attributes_of, children_of}
+use Rattle.page_tree.specs.Control.{start_text}
 use Rattle.page_tree.specs.inside.Rows.{words_of}
 use Rattle.page_tree.specs.Limits.{IsPage}
 use Rattle.page_tree.specs.inside.Table.{Line, lines, tree_of_lines}
@@ -19,6 +21,10 @@ attributes_at place t = option_map_or attributes_of (node_at place t) []
 -- the children of the node there; none where no node is
 abbrev pub children_at : List ℕ → Tree → Trees
 children_at place t = option_map_or children_of (node_at place t) no_trees
+
+-- what a Text control of that name starts with that stands there
+abbrev pub named_start_text : List ℕ → List ℕ → Tree → List ℕ
+named_start_text name place t = start_text name (attributes_at place t) (children_at place t)
 
 -- the text there; none of an element, or where no node is
 abbrev pub words_at : List ℕ → Tree → Option (List ℕ)

@@ -4,7 +4,7 @@ use Rattle.std.specs.List.{AllByRecursion}
 use Rattle.std.specs.Coded.{Coded, coded×, coded_list, coded_ℕ, code_by}
 use Rattle.std.proofs.Common.{refl}
 use Rattle.page_tree.specs.Tree.{Attribute, Tree, element, words, no_trees}
-use Rattle.page_tree.specs.inside.Table.{Line}
+use Rattle.page_tree.specs.inside.Table.{Line, line_with}
 use Rattle.page_tree.specs.inside.TreeCode.{tree_code}
 use Rattle.page_tree.specs.declared.table.Row.{Row}
 use Rattle.page_tree.specs.declared.table.Spot.{Spot}
@@ -17,26 +17,47 @@ texts_of_attributes (a ∷ rest) = a.0 ∷ a.1 ∷ texts_of_attributes rest
 -- so many of them, from that text on
 abbrev pub attributes_from : List (List ℕ) → ℕ → ℕ → List Attribute
 attributes_from texts at zero = []
-attributes_from texts at (suc n) = (get_or texts at [], get_or texts (suc at) []) ∷ attributes_from texts (suc (suc at)) n
+attributes_from texts at (suc n) =
+    (get_or texts at [], get_or texts (suc at) []) ∷ attributes_from texts (suc (suc at)) n
+
+-- so many of them, behind that text
+abbrev pub attributes_behind : List (List ℕ) → ℕ → ℕ → List Attribute
+attributes_behind texts before n = attributes_from texts (suc before) n
+
+-- ---- a line by its parts
+
+abbrev Numbers : Type 0
+Numbers = ℕ × (ℕ × (ℕ × (ℕ × (ℕ × ℕ))))
+
+abbrev line_from : Tree × Numbers → Line
+line_from (node, (parent, (end, (position, (elements, (same, children)))))) =
+    line_with node parent end position elements same children
+
+abbrev parts : Line → Tree × Numbers
+parts l = (l.node, (l.parent, (l.end, (l.position, (l.elements_before, (l.same_before, l.children))))))
+
+-- the code by which proofs tell lines apart
+abbrev pub line_code : Coded Line
+line_code = code_by (Tree × Numbers)
+    (coded× tree_code (coded× coded_ℕ (coded× coded_ℕ (coded× coded_ℕ (coded× coded_ℕ (coded× coded_ℕ coded_ℕ))))))
+    parts line_from (λ _. refl)
+
+abbrev pub lines_code : Coded (List Line)
+lines_code = coded_list line_code
+
+-- ---- a row
+
+-- its six numbers
+abbrev pub numbers_of : Row → Numbers
+numbers_of row = (row.parent, (row.end, (row.position, (row.elements_before, (row.same_before, row.children)))))
 
 abbrev pub node_of_row : List (List ℕ) → Row → Tree
 node_of_row texts row =
-    if row.is_element then element (get_or texts row.text []) (attributes_from texts (suc row.text) row.attributes) no_trees else words (get_or texts row.text [])
+    if row.is_element then element (get_or texts row.text []) (attributes_behind texts row.text row.attributes) no_trees
+    else words (get_or texts row.text [])
 
 abbrev pub line_of_row : List (List ℕ) → Row → Line
-line_of_row texts row = record {
-  node = node_of_row texts row;
-  parent = row.parent;
-  end = row.end;
-  position = row.position;
-  elements_before = row.elements_before;
-  same_before = row.same_before;
-  children = row.children;
-}
-
--- its six numbers
-abbrev pub numbers_of : Row → ℕ × (ℕ × (ℕ × (ℕ × (ℕ × ℕ))))
-numbers_of row = (row.parent, (row.end, (row.position, (row.elements_before, (row.same_before, row.children)))))
+line_of_row texts row = line_from (node_of_row texts row, numbers_of row)
 
 abbrev pub lines_of_rows : List (List ℕ) → List Row → List Line
 lines_of_rows texts rows = map (line_of_row texts) rows
@@ -54,11 +75,11 @@ StartsWith texts all = (more : List (List ℕ)) × (all ≡ texts ++ more)
 
 -- ---- lines
 
-abbrev pub blank : Line
-blank = record { node = words []; parent = 0; end = 0; position = 0; elements_before = 0; same_before = 0; children = 0 }
+abbrev pub blank_line : Line
+blank_line = line_with (words []) 0 0 0 0 0 0
 
 abbrev pub line_in : ℕ → List Line → Line
-line_in n ls = get_or ls n blank
+line_in n ls = get_or ls n blank_line
 
 -- what a text says
 abbrev pub words_of : Tree → Option (List ℕ)
@@ -66,51 +87,11 @@ words_of (element name attributes children) = None
 words_of (words text) = Some text
 
 abbrev pub line_on : Tree → Spot → ℕ → ℕ → Line
-line_on node spot end children = record {
-  node = node;
-  parent = spot.parent;
-  end = end;
-  position = spot.position;
-  elements_before = spot.elements_before;
-  same_before = spot.same_before;
-  children = children;
-}
+line_on node spot end children =
+    line_with node spot.parent end spot.position spot.elements_before spot.same_before children
 
 -- the line of that number has that end
-abbrev pub ended : ℕ → ℕ → List Line → List Line
-ended n end [] = []
-ended zero end (l ∷ ls) = record {
-  node = l.node;
-  parent = l.parent;
-  end = end;
-  position = l.position;
-  elements_before = l.elements_before;
-  same_before = l.same_before;
-  children = l.children;
-} ∷ ls
-ended (suc n) end (l ∷ ls) = l ∷ ended n end ls
-
--- ---- the code by which proofs tell lines apart
-
-abbrev LineParts : Type 0
-LineParts = Tree × (ℕ × (ℕ × (ℕ × (ℕ × (ℕ × ℕ)))))
-
-abbrev parts : Line → LineParts
-parts l = (l.node, (l.parent, (l.end, (l.position, (l.elements_before, (l.same_before, l.children))))))
-
-abbrev line_with : LineParts → Line
-line_with (node, (parent, (end, (position, (elements, (same, children)))))) = record {
-  node = node;
-  parent = parent;
-  end = end;
-  position = position;
-  elements_before = elements;
-  same_before = same;
-  children = children;
-}
-
-abbrev pub line_code : Coded Line
-line_code = code_by LineParts (coded× tree_code (coded× coded_ℕ (coded× coded_ℕ (coded× coded_ℕ (coded× coded_ℕ (coded× coded_ℕ coded_ℕ)))))) parts line_with (λ _. refl)
-
-abbrev pub lines_code : Coded (List Line)
-lines_code = coded_list line_code
+abbrev pub with_line_end : ℕ → ℕ → List Line → List Line
+with_line_end n end [] = []
+with_line_end zero end (l ∷ ls) = record l { end = end } ∷ ls
+with_line_end (suc n) end (l ∷ ls) = l ∷ with_line_end n end ls

@@ -3,16 +3,16 @@ use Rattle.std.specs.Prelude.{◌≡◌, ℕ, ◌<◌, ◌^◌, Bool, List, [], 
 use Rattle.atomic_table.specs.Seated.{TableId}
 use Rattle.atomic_table.specs.declared.shared.Seat.{Seat}
 use Rattle.replay_workers.specs.declared.view.Terms.{Terms}
-use Rattle.replay_workers.specs.declared.view.Row.{Row}
-use Rattle.replay_workers.specs.declared.view.View.{View}
+use Rattle.replay_workers.specs.declared.view.SeatRow.{SeatRow}
+use Rattle.replay_workers.specs.declared.view.SeatView.{SeatView}
 use Rattle.replay_workers.specs.Limits.{AreWorkers}
 use Rattle.replay_workers.specs.Draws.{Pool, Draws, has_end}
 use Rattle.replay_workers.specs.inside.Rule.{row_of}
 
 abbrev pub Pass : Type 0
-Pass = Seat (Unit {0}) View
+Pass = Seat (Unit {0}) SeatView
 
-abbrev pub rows : Pass → List Row
+abbrev pub rows : Pass → List SeatRow
 rows pass = pass.me.0.rows
 
 abbrev pub drawn_of : Pass → List ℕ
@@ -40,7 +40,7 @@ pub record IsSeat (pass : Pass) (count : ℕ) (spent : Bool) : Type 0 where
   pub spent_is : spent ≡ has_end count (drawn_of pass)
 
 -- what each drew
-abbrev pub lists_of_rows : List Row → List (List ℕ)
+abbrev pub lists_of_rows : List SeatRow → List (List ℕ)
 lists_of_rows rows = map (λ row. row.drawn) rows
 
 abbrev pub lists_of_seats : List Draws → List (List ℕ)

@@ -6,13 +6,14 @@ use Rattle.upload_reader.specs.Client.{is_client}
 use Rattle.upload_reader.specs.Member.{number_in}
 use Rattle.conflict_desk.specs.declared.decided.Choice.{Choice}
 use Rattle.conflict_desk.specs.declared.decided.Choice.TheVariants.{Cancel, Keep}
-use Rattle.site_line.specs.declared.decision.Decision.{Decision}
+use Rattle.conflict_desk.specs.declared.decision.Decision.{Decision}
 
 abbrev pub client_named : List ℕ → Option (List ℕ)
 client_named text = if is_client text then Some text else None
 
 abbrev pub choice_said : List ℕ → Option Choice
-choice_said text = if bytes_eq text (codes "cancel") then Some Cancel else (if bytes_eq text (codes "keep") then Some Keep else None)
+choice_said text =
+    if bytes_eq text (codes "cancel") then Some Cancel else (if bytes_eq text (codes "keep") then Some Keep else None)
 
 abbrev pub make_decision : List ℕ → ℕ → Choice → Decision
 make_decision client visit choice = record { client = client; visit = visit; choice = choice }
@@ -35,4 +36,5 @@ decision_in d = option_and_then decision_among (as_array d)
 
 abbrev pub decisions_among : Items → Option (List Decision)
 decisions_among no_items = Some []
-decisions_among (item d ds) = option_and_then (λ decision. option_map (λ rest. decision ∷ rest) (decisions_among ds)) (decision_in d)
+decisions_among (item d ds) =
+    option_and_then (λ decision. option_map (λ rest. decision ∷ rest) (decisions_among ds)) (decision_in d)

@@ -4,12 +4,12 @@ use Rattle.std.specs.List.{AllByRecursion}
 use Rattle.std.specs.Option.{option_to_list}
 use Rattle.crossbeam_queue.specs.Passes.{view}
 use Rattle.lane_queue.specs.Items.{next_item}
-use Rattle.lane_queue.specs.Queue.{Queue, IsOf}
+use Rattle.lane_queue.specs.Queue.{Queue, IsPassOf}
 use Rattle.lane_queue.specs.Rule.{with_put}
 use Rattle.lane_queue.specs.declared.answers.Put.{Put}
 use Rattle.lane_queue.specs.declared.answers.Put.TheVariants.{Done}
 use Rattle.lane_queue.specs.declared.item.Item.{Item}
-use Rattle.lane_queue.specs.declared.view.View.{View}
+use Rattle.lane_queue.specs.declared.view.QueueView.{QueueView}
 use Rattle.upload_reader.specs.Limits.{max_messages}
 use Rattle.upload_reader.specs.Next.{next_of, IfOver}
 use Rattle.upload_reader.specs.Stream.{Costed}
@@ -50,7 +50,7 @@ IsMarked item = item.last ≡ is_last item.body
 -- ---- an uploader
 
 -- the body was put as the next item of the lane, or nothing was
-abbrev pub Sends : View Sent → View Sent → Bool → Sent → Bool → Type 0
+abbrev pub Sends : QueueView Sent → QueueView Sent → Bool → Sent → Bool → Type 0
 Sends v w last body true = w ≡ with_put v (next_item v.lane v.put last body)
 Sends v w last body false = w ≡ v
 
@@ -59,7 +59,8 @@ is_done Done = true
 is_done other = false
 
 module _ {R : Type 0} where
-  -- The upload was read on, each read before its end. What it gave is the front of its stream, and its end is the stream's.
+  -- The upload was read on, each read before its end. What it gave is the front of its stream, and its end is the
+  -- stream's.
   pub record IsReadOn (begun now : UploadState R) : Type 0 where
     pub own : ReadsBeforeEnd begun now
     pub first : GivesFirst now
@@ -80,7 +81,7 @@ module _ {R : Type 0} where
 
   -- what an uploader hands back of that lane of the queue
   pub record IsUploaded (queue : Queue) (lane : ℕ) (begun : UploadState R) (done : Uploaded R) : Type 0 where
-    pub of : IsOf queue done.putter
+    pub of : IsPassOf queue done.putter
     pub lane_is : (view done.putter).lane ≡ lane
     pub read : IsReadOn begun done.upload
     pub put : IsPut (view done.putter).put done.upload

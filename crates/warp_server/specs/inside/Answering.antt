@@ -1,7 +1,8 @@
 -- What a run makes of the upload that it reads.
 use Rattle.std.specs.Prelude.{◌≡◌, ℕ, List, [], ◌∷◌, Option, Some, None, IsSome, Result, Ok, Err, ◌⊎◌}
 use Rattle.byte_streams.specs.Answers.{Answer}
-use Rattle.byte_streams.specs.Reading.{Reading}
+use Rattle.byte_streams.specs.Cutting.{StopsAtEnd}
+use Rattle.byte_streams.specs.Reading.{Reading, CallReads}
 use Rattle.byte_streams.specs.declared.fault.LineFault.{LineFault}
 use Rattle.upload_reader.specs.Upload.{UploadState, Begins}
 use Rattle.upload_lanes.specs.Lane.{IsTaken}
@@ -11,8 +12,6 @@ use Rattle.warp_server.specs.inside.Intake.{IsBehindSite, IsRefused}
 use Rattle.upload_lanes.specs.declared.gathered.Gathered.{Gathered}
 use Rattle.upload_lanes.specs.declared.gathered.LaneResult.{LaneResult}
 use Rattle.upload_lanes.specs.declared.gathered.Stop.TheVariants as stops
-use Rattle.warp_server.specs.declared.program.intake.Refused.{Refused}
-use Rattle.warp_server.specs.declared.program.intake.Refused.TheVariants.{ReadFailed, NoSite, NoHello, NoMemory}
 use Rattle.warp_server.specs.declared.program.status.Status.{Status}
 use Rattle.warp_server.specs.declared.program.status.Status.TheVariants.{Done, BadSite, BadHello, OutOfMemory, InputOutput}
 use Rattle.site_line.specs.declared.site.Site.{Site}
@@ -35,7 +34,7 @@ module _ {R : Type 0} where
     pub upload_is : lane.upload ≡ Some now
 
   -- the lane of that upload was taken to its end, or until memory was refused
-  pub record IsWhole (upload : UploadState R) (quota : ℕ) (gathered : Gathered R) : Type 0 where
+  pub record IsWholeLane (upload : UploadState R) (quota : ℕ) (gathered : Gathered R) : Type 0 where
     pub lane : LaneResult R
     pub only : IsOnly gathered upload.client lane
     pub is_taken : IsTaken (new_log quota upload.client) upload lane
@@ -48,12 +47,6 @@ module _ {R : Type 0} where
     pub needed : ReadWhileUndecided at.answers
     pub behind : IsBehindSite at site
     pub begins : Begins at upload
-
-abbrev pub refused_status : Refused → Status
-refused_status ReadFailed = InputOutput
-refused_status NoSite = BadSite
-refused_status NoHello = BadHello
-refused_status NoMemory = OutOfMemory
 
 -- how a run ends that had this text to write
 abbrev pub written_status : Status → Result (Unit {0}) ReportFault → Status
@@ -69,10 +62,18 @@ HasText Done input ending text = HasReport input ending text
 HasText OutOfMemory input ending text = HasShortReport input ending text
 HasText other input ending text = ⊥
 
-module _ (reads reads' : List Answer) (left left' : Option (List ℕ)) where
-  abbrev pub IsUnread : Refused → Type 0
-  IsUnread NoMemory = Unit {0}
-  IsUnread refused = Reads reads reads' left left' (IsRefused refused)
+module _ (call : CallReads) where
+  -- why there is no input to report
+  abbrev pub HasNoInput : Status → Type 0
+  HasNoInput OutOfMemory = Unit {0}
+  HasNoInput status = Reads call (IsRefused status)
 
   abbrev pub IsAnswered : Status → List ℕ → Type 0
-  IsAnswered status text = Reads reads reads' left left' (λ input ending. HasText status input ending text)
+  IsAnswered status text = Reads call (λ input ending. HasText status input ending text)
+
+-- ---- the reader is given back
+
+-- the reader of these lines, as the reads of it left it
+abbrev pub IsReaderOf : {R L : Type 0} → (R → L) → (R → R → List Answer → Type 0) → Reading R → R → Type 0
+IsReaderOf lender was_read lines reader =
+    (lender reader ≡ lender lines.first) × was_read lines.first reader lines.answers × StopsAtEnd lines.answers

@@ -12,8 +12,8 @@ use Rattle.warp_server.specs.program.Run.{HasBadSite, HasBadHello, HasFailedRead
 use Rattle.site_line.specs.declared.site.Site.{Site}
 use Rattle.site_line.specs.declared.fault.SiteFault.{SiteFault}
 use Rattle.site_line.specs.declared.fault.SiteFault.TheVariants as site_fault
-use Rattle.warp_server.specs.declared.program.intake.Refused.{Refused}
-use Rattle.warp_server.specs.declared.program.intake.Refused.TheVariants.{ReadFailed, NoSite, NoHello, NoMemory}
+use Rattle.warp_server.specs.declared.program.status.Status.{Status}
+use Rattle.warp_server.specs.declared.program.status.Status.TheVariants.{Done, BadSite, BadHello, OutOfMemory, InputOutput}
 
 -- the last line is the site line, and this is the site that it says
 pub record IsBehindSite {R : Type 0} (lines : Reading R) (site : Site) : Type 0 where
@@ -24,28 +24,36 @@ pub record IsBehindSite {R : Type 0} (lines : Reading R) (site : Site) : Type 0 
   pub fault : lines.fault ≡ None
 
 -- why there is nothing to report
-abbrev pub IsRefused : Refused → List ℕ → Option LineFault → Type 0
-IsRefused ReadFailed input ending = HasFailedRead input ending
-IsRefused NoSite input ending = HasBadSite input ending
-IsRefused NoHello input ending = HasBadHello input ending
-IsRefused NoMemory input ending = Unit {0}
+abbrev pub IsRefused : Status → List ℕ → Option LineFault → Type 0
+IsRefused InputOutput input ending = HasFailedRead input ending
+IsRefused BadSite input ending = HasBadSite input ending
+IsRefused BadHello input ending = HasBadHello input ending
+IsRefused OutOfMemory input ending = Unit {0}
+IsRefused Done input ending = ⊥
+
+-- what it may end by where there is no site, or no listener
+abbrev pub IsUnopened : Status → Type 0
+IsUnopened BadSite = Unit {0}
+IsUnopened OutOfMemory = Unit {0}
+IsUnopened InputOutput = Unit {0}
+IsUnopened other = ⊥
 
 -- ---- what a fault of a line, of a site or of a hello means here
 
-abbrev pub no_site : LineFault → Refused
-no_site line_fault.ReadFailed = ReadFailed
-no_site line_fault.TooManyReads = NoSite
-no_site line_fault.Truncated = NoSite
-no_site line_fault.LineTooLong = NoSite
-no_site line_fault.NoMemory = NoMemory
+abbrev pub no_site : LineFault → Status
+no_site line_fault.ReadFailed = InputOutput
+no_site line_fault.TooManyReads = BadSite
+no_site line_fault.Truncated = BadSite
+no_site line_fault.LineTooLong = BadSite
+no_site line_fault.NoMemory = OutOfMemory
 
-abbrev pub bad_site : SiteFault → Refused
-bad_site site_fault.NotJson = NoSite
-bad_site site_fault.BadMember = NoSite
-bad_site site_fault.NoMemory = NoMemory
+abbrev pub bad_site : SiteFault → Status
+bad_site site_fault.NotJson = BadSite
+bad_site site_fault.BadMember = BadSite
+bad_site site_fault.NoMemory = OutOfMemory
 
-abbrev pub no_hello : HelloFault → Refused
-no_hello hello_fault.BadClient = NoHello
-no_hello hello_fault.NoHello = NoHello
-no_hello (hello_fault.Line line fault) = NoHello
-no_hello hello_fault.NoMemory = NoMemory
+abbrev pub no_hello : HelloFault → Status
+no_hello hello_fault.BadClient = BadHello
+no_hello hello_fault.NoHello = BadHello
+no_hello (hello_fault.Line line fault) = BadHello
+no_hello hello_fault.NoMemory = OutOfMemory

@@ -32,7 +32,8 @@ is_between low high n = nat_le low n && nat_le n high
 
 -- what the word writes, if it is a number within these limits
 abbrev pub number_of_word : ℕ → ℕ → List ℕ → Option ℕ
-number_of_word low high word = if is_number word && is_between low high (digits_value 10 word) then Some (digits_value 10 word) else None
+number_of_word low high word =
+    if is_number word && is_between low high (digits_value 10 word) then Some (digits_value 10 word) else None
 
 -- ---- words
 
@@ -51,10 +52,11 @@ listening (port ∷ lanes ∷ site_file ∷ rounds) =
     (rounds_in rounds)) (number_of_word 1 max_lanes lanes)) (number_of_word 1 max_port port)
 listening words = None
 
--- the words behind the program's own name
+-- the words behind the program's own name; any others are status 2
 abbrev pub named_call : List (List ℕ) → Result Call CallFault
 named_call [] = Ok Run
-named_call (word ∷ words) = if bytes_eq word (codes "listen") then ok_or (option_map Listen (listening words)) Words else Err Words
+named_call (word ∷ words) =
+    if bytes_eq word (codes "listen") then ok_or (option_map Listen (listening words)) Words else Err Words
 
 -- all its words; its own name may be absent
 abbrev pub call_by : List (List ℕ) → Result Call CallFault

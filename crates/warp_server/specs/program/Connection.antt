@@ -7,7 +7,7 @@ use Rattle.upload_reader.specs.declared.hello_fault.HelloFault.{HelloFault}
 use Rattle.upload_reader.specs.declared.hello_fault.HelloFault.TheVariants.{NoMemory}
 
 -- lines of which nothing was read yet
-pub record IsFresh {R : Type 0} (lines : Reading R) : Type 0 where
+pub record IsUnreadLines {R : Type 0} (lines : Reading R) : Type 0 where
   pub answers : lines.answers ≡ []
   pub place : lines.place ≡ 0
   pub fault : lines.fault ≡ None
@@ -15,7 +15,7 @@ pub record IsFresh {R : Type 0} (lines : Reading R) : Type 0 where
 -- the upload behind the hello that a connection begins with
 pub record IsGreeted {R : Type 0} (upload : UploadState R) : Type 0 where
   pub connection : Reading R
-  pub fresh : IsFresh connection
+  pub fresh : IsUnreadLines connection
   pub begins : Begins connection upload
 
 -- the uploads of a round: so many, each of a connection of its own
@@ -26,7 +26,7 @@ pub record AreGreeted {R : Type 0} (lanes : ℕ) (uploads : List (UploadState R)
 -- a connection that doesn't begin with a hello
 pub record BeginsBadly (R : Type 0) : Type 0 where
   pub connection : Reading R
-  pub fresh : IsFresh connection
+  pub fresh : IsUnreadLines connection
   pub read : Reading R
   pub fault : HelloFault
   pub refuses : Refuses connection read fault

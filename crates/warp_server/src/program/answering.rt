@@ -1,18 +1,19 @@
 //! What becomes of any number of uploads: they are taken, replayed, decided and reported.
-ghost use Rattle.std.specs.Prelude.{ℕ, Bool, false, ◌≡◌, ◌≤◌, ◌^◌, List, map, IfOk, IfErr};
+ghost use Rattle.std.specs.Prelude.{ℕ, Bool, false, ◌≡◌, ◌≤◌, ◌^◌, IfOk, IfErr};
 ghost use Rattle.std.specs.List.{AllByRecursion};
 ghost use Rattle.upload_reader.specs.Upload.{IsUntouched};
 ghost use Rattle.site_hooks.specs.Closures.{AtAddresses, AtPages, MakesBy, TellsBy};
 ghost use Rattle.site_hooks.specs.Table.{table_page, signals_in};
-ghost use Rattle.conflict_desk.specs.Desk.{Call, after_calls};
-ghost use Rattle.conflict_desk.specs.Laws.{AllLeaveInOrder};
+ghost use Rattle.conflict_desk.specs.Laws.{AllLeaveInOrder, IsInOrder};
+ghost use Rattle.byte_streams.specs.Writing.{WritesNothing, writes_of};
 ghost use Rattle.upload_lanes.specs.Round.{IsNoRound};
-ghost use Rattle.upload_lanes.specs.Threads.{GathersFirst};
-ghost use Rattle.site_line.specs.Reading.{site_patch, site_table, site_quota};
-ghost use Rattle.warp_server.specs.Answer.{never, site_repaired, site_settled};
-ghost use Rattle.warp_server.specs.Headline.{Headline, docket_of};
-ghost use Rattle.warp_server.specs.Repair.{docket_for, repaired_of};
-ghost use Rattle.warp_server.specs.Report.{WritesReport, WritesNothing, report_text};
+ghost use Rattle.upload_lanes.specs.Threads.{Gathers, GathersFirst};
+ghost use Rattle.site_line.specs.Reading.{site_patch, site_quota};
+ghost use Rattle.warp_server.specs.Answer.{never, IsNoAnswer, repaired_site, site_of_table, site_repaired, site_settled};
+ghost use Rattle.warp_server.specs.declared.program.answering.AnswerFault.TheVariants.{Round, NoMemory};
+ghost use Rattle.warp_server.specs.Headline.{Promises, AreReplayed};
+ghost use Rattle.warp_server.specs.Repair.{repaired_of};
+ghost use Rattle.warp_server.specs.Report.{WritesReport, report_text};
 
 use crate::repaired::Repaired;
 use crate::repairing::repair;
@@ -27,7 +28,7 @@ use site_line::Site;
 use std::alloc::AllocError;
 use std::sync::Wait;
 use std::thread::Threads;
-use upload_lanes::{GatherFault, Gathered, gather};
+use upload_lanes::{GatherFault, Gathered, gather_again};
 use upload_reader::Upload;
 
 /// The room that `gather` is given for one client. It makes no queue then: what is read is recorded on the same thread.
@@ -47,6 +48,31 @@ pub struct Answered<R: Source> {
     pub report: Result<(), ReportFault>,
 }
 
+/// Why uploads have no answer.
+#[derive(Clone, Copy, Debug, PartialEq, Eq)]
+pub enum AnswerFault {
+    /// There is no round of them (G1, G2), or memory was refused before the first message was taken (G3).
+    Round(GatherFault),
+    /// Memory was refused behind the round, before the report was composed.
+    NoMemory,
+}
+
+impl From<GatherFault> for AnswerFault {
+    ghost from_gives = { λ fault e. e ≡ Round fault };
+
+    fn from(fault: GatherFault) -> AnswerFault {
+        AnswerFault::Round(fault)
+    }
+}
+
+impl From<AllocError> for AnswerFault {
+    ghost from_gives = { λ _ e. e ≡ NoMemory };
+
+    fn from(_e: AllocError) -> AnswerFault {
+        AnswerFault::NoMemory
+    }
+}
+
 /// Takes 1 to 16 uploads to their ends, each of a client of its own; replays on the site what the logs keep of them, by the site's workers; puts the
 /// site's decisions to the desk; and writes the report. Where memory is refused before the report is composed, nothing is written.
 pub fn answer<R: Source + Drop + Send, W: Sink, T: AllocGlobal + Threads + Wait + Sync>(
@@ -54,22 +80,24 @@ pub fn answer<R: Source + Drop + Send, W: Sink, T: AllocGlobal + Threads + Wait 
     site: &Site,
     uploads: Vec<Upload<R>>,
     writer: &mut W,
-) -> Result<Answered<R>, GatherFault>
+) -> Result<Answered<R>, AnswerFault>
     requires untouched { AllByRecursion IsUntouched uploads.items }
 
     // What the server promises of each client, whatever the threads do.
-    ensures headline { IfOk result (λ answered. Headline (table_page (site_table site.now)) (λ _. signals_in (site_table site.now)) (site_patch site.now) (site_quota site.now) uploads.items answered.gathered answered.repaired) }
+    ensures headline { IfOk result (λ answered. Promises site.now uploads.items answered.gathered answered.repaired) }
 
     // The same to the letter: what each step made of what the one before gave.
     ensures gathered { IfOk result (λ answered. GathersFirst never uploads.items (site_quota site.now) answered.gathered) }
     ensures repaired { IfOk result (λ answered. answered.repaired ≡ site_settled site.now answered.gathered) }
-    ensures report { IfOk result (λ answered. WritesReport (W.puts writer.old) (W.puts writer.new) (W.contents writer.old) (W.contents writer.new) (report_text answered.repaired) answered.report) }
+    ensures report { IfOk result (λ answered. WritesReport (writes_of W.puts W.contents writer.old writer.new)
+        (report_text answered.repaired) answered.report) }
 
     // Why not, and then nothing was written.
-    ensures refused { IfErr result (IsNoRound uploads.items) }
-    ensures nothing { IfErr result (λ _. WritesNothing (W.puts writer.old) (W.puts writer.new) (W.contents writer.old) (W.contents writer.new)) }
+    ensures refused { IfErr result (IsNoAnswer uploads.items) }
+    ensures nothing { IfErr result (λ _. WritesNothing (writes_of W.puts W.contents writer.old writer.new)) }
 {
-    let gathered = take_whole(rt, uploads, site.quota(), &|_items: u64| false)?;
+    let none = Gathered::new(rt.alloc());
+    let gathered = take_to_ends(rt, none, uploads, site.quota(), &|_items: u64| false)?;
     let Concluded { repaired, report } = conclude(rt, site, &gathered, writer)?;
     Ok(Answered {
         gathered,
@@ -94,34 +122,44 @@ pub(crate) fn conclude<R: Source, W: Sink, T: AllocGlobal + Threads + Sync>(
     writer: &mut W,
 ) -> Result<Concluded, NoMemory>
     ensures repaired { IfOk result (λ concluded. concluded.repaired ≡ site_settled site.now gathered.now) }
-    ensures replayed { IfOk result (λ concluded. map docket_of concluded.repaired.desk ≡ map (docket_for (table_page (site_table site.now)) (λ _. signals_in (site_table site.now)) (site_patch site.now)) gathered.now.clients.entries) }
+    ensures replayed { IfOk result (λ concluded. AreReplayed (repaired_site site.now) gathered.now concluded.repaired) }
     ensures leave { IfOk result (λ concluded. AllLeaveInOrder concluded.repaired.desk) }
-    ensures report { IfOk result (λ concluded. WritesReport (W.puts writer.old) (W.puts writer.new) (W.contents writer.old) (W.contents writer.new) (report_text concluded.repaired) concluded.report) }
-    ensures nothing { IfErr result (λ _. WritesNothing (W.puts writer.old) (W.puts writer.new) (W.contents writer.old) (W.contents writer.new)) }
+    ensures report { IfOk result (λ concluded. WritesReport (writes_of W.puts W.contents writer.old writer.new)
+        (report_text concluded.repaired) concluded.report) }
+    ensures nothing { IfErr result (λ _. WritesNothing (writes_of W.puts W.contents writer.old writer.new)) }
 {
     let repaired = repair_and_settle(rt, site, gathered)?;
     let report = report(rt.alloc(), &repaired, writer);
     Ok(Concluded { repaired, report })
 }
 
-// Takes the uploads to their ends: the question whether to stop is never answered by true.
-fn take_whole<
+/// Takes the uploads to their ends, behind what was gathered before: the question whether to stop is never answered by true.
+pub(crate) fn take_to_ends<
     H: Fn(u64) -> bool + Sync,
     R: Source + Drop + Send,
     T: AllocGlobal + Threads + Wait + Sync,
->(rt: &T, uploads: Vec<Upload<R>>, quota: Quota, halt: &H) -> Result<Gathered<R>, GatherFault>
+>(
+    rt: &T,
+    earlier: Gathered<R>,
+    uploads: Vec<Upload<R>>,
+    quota: Quota,
+    halt: &H,
+) -> Result<Gathered<R>, GatherFault>
     requires untouched { AllByRecursion IsUntouched uploads.items }
     requires callable { (n : ℕ) → n ≤ 2 ^ 61 → H.pre halt.now n }
     requires never { (n : ℕ) (answer : Bool) → H.post halt.now n answer → answer ≡ false }
-    ensures ok { IfOk result (GathersFirst never uploads.items quota) }
+    ensures ok { IfOk result (Gathers never earlier uploads.items quota) }
     ensures refused { IfErr result (IsNoRound uploads.items) }
 {
     let room = room_for(uploads.len());
-    gather(rt, uploads, quota, room, halt)
+    match gather_again(rt, earlier, uploads, quota, room, halt) {
+        Ok(gathered) => Ok(gathered),
+        Err(again) => Err(again.fault),
+    }
 }
 
-/// As much as a queue holds where so many clients upload.
-pub(crate) fn room_for(uploads: usize) -> Room {
+// As much as a queue holds where so many clients upload.
+fn room_for(uploads: usize) -> Room {
     let items = if uploads == 1 {
         ROOM_FOR_ONE
     } else {
@@ -154,7 +192,7 @@ fn repair_site<R: Source, T: AllocGlobal + Threads + Sync>(
     gathered: &Gathered<R>,
 ) -> Result<Repaired, NoMemory>
     ensures repaired { IfOk result (λ repaired. repaired ≡ site_repaired site.now gathered.now) }
-    ensures leave { IfOk result (λ repaired. (calls : List Call) → AllLeaveInOrder (after_calls repaired.desk calls)) }
+    ensures leave { IfOk result (λ repaired. IsInOrder repaired.desk) }
 {
     let table = site.table();
     let make = |address: &str| table.make(address);
@@ -180,8 +218,8 @@ fn repair_by<
     requires lawful_maker { MakesBy (table_page table.now) (F.may_make make) }
     requires callable_teller { AtPages (C.can_tell tell) }
     requires lawful_teller { TellsBy (λ _. signals_in table.now) (C.may_tell tell) }
-    ensures repaired { IfOk result (λ repaired. repaired ≡ repaired_of (table_page table.now) (λ _. signals_in table.now) (site_patch site.now) gathered.now) }
-    ensures leave { IfOk result (λ repaired. (calls : List Call) → AllLeaveInOrder (after_calls repaired.desk calls)) }
+    ensures repaired { IfOk result (λ it. it ≡ repaired_of (site_of_table table.now (site_patch site.now)) gathered.now) }
+    ensures leave { IfOk result (λ repaired. IsInOrder repaired.desk) }
 {
     let hooks = Closures::new(make, tell, table);
     match repair(rt, site.workers(), &hooks, site.patch(), gathered) {

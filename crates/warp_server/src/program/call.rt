@@ -96,7 +96,7 @@ fn read_call(mut words: Args) -> Result<Call, CallFault>
     }
 }
 
-// The words behind the program's own name.
+// The words behind the program's own name. Any others are status 2.
 fn read_named_call(mut words: Args) -> Result<Call, CallFault>
     ensures call { result ≡ named_call (map string_bytes (into_iter_items words)) }
     ensures lanes { IfOk result MayListen }

@@ -2,9 +2,8 @@
 ghost use Rattle.std.specs.Prelude.{◌≡◌};
 ghost use Rattle.indexmap.specs.IndexMap.{values};
 ghost use Rattle.warp_server.specs.program.Shortage.{status_of, status_of_lanes, gave_up};
-ghost use Rattle.warp_server.specs.inside.Answering.{refused_status, written_status};
+ghost use Rattle.warp_server.specs.inside.Answering.{written_status};
 
-use crate::program::intake::Refused;
 use crate::program::status::Status;
 use crate::reporting::ReportFault;
 use byte_streams::Source;
@@ -12,7 +11,7 @@ use indexmap::IndexMap;
 use upload_lanes::{Gathered, LaneResult, Stop};
 use upload_reader::{Client, Ending};
 
-/// How a run ends whose report is of this, once that is written. Where memory was refused, it is of less than the uploads.
+/// How a run ends whose report is of this, once that is written. Where memory was refused, it is of less than the uploads (status 5).
 pub(crate) fn status_of<R: Source + Drop>(gathered: &Gathered<R>) -> Status
     ensures { result ≡ status_of gathered.now }
 {
@@ -42,7 +41,7 @@ fn gave_up(end: Option<Ending>) -> bool
     }
 }
 
-/// How a run ends that would end so, had its report been written.
+/// How a run ends that would end so, had its report been written: status 6 where a write failed, 5 where memory was refused.
 pub(crate) fn written_status(status: Status, report: Result<(), ReportFault>) -> Status
     ensures { result ≡ written_status status report }
 {
@@ -50,17 +49,5 @@ pub(crate) fn written_status(status: Status, report: Result<(), ReportFault>) ->
         Ok(()) => status,
         Err(ReportFault::WriteFailed) => Status::InputOutput,
         Err(ReportFault::NoMemory) => Status::OutOfMemory,
-    }
-}
-
-/// How a run ends that has nothing to report.
-pub(crate) fn refused_status(refused: Refused) -> Status
-    ensures { result ≡ refused_status refused }
-{
-    match refused {
-        Refused::ReadFailed => Status::InputOutput,
-        Refused::NoSite => Status::BadSite,
-        Refused::NoHello => Status::BadHello,
-        Refused::NoMemory => Status::OutOfMemory,
     }
 }

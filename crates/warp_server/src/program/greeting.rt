@@ -1,11 +1,10 @@
 //! The uploads of a round: so many callers come, and then the hello of each is read, in that order.
-ghost use Rattle.std.specs.Prelude.{◌≡◌, List, length, map, IfOk, IfErr};
-ghost use Rattle.warp_server.specs.program.Connection.{IsGreeted, AreGreeted};
-ghost use Rattle.warp_server.specs.program.Callers.{OneByOne, CameWith, NoUploads};
-ghost use Rattle.warp_server.specs.inside.Serving.{IsUnaccepted, IsUngreeted, AreUngreeted};
+ghost use Rattle.std.specs.Prelude.{IfOk, IfErr};
+ghost use Rattle.byte_streams.specs.Reading.{WasRead};
+ghost use Rattle.warp_server.specs.program.Callers.{sayings, CameWith, NoUploads};
+ghost use Rattle.warp_server.specs.inside.Serving.{BringsAll, IsUnaccepted, IsGreetedOf, AreGreetedOf, IsUngreeted, AreUngreeted};
 
 use crate::program::callers::Callers;
-use crate::program::ending::refused_status;
 use crate::program::intake::no_hello;
 use crate::program::status::Status;
 use byte_streams::{Lines, Source};
@@ -18,8 +17,12 @@ pub(crate) fn accept_uploads<R: Source + Drop + Send, C: Callers<Reader = R>>(
     callers: &mut C,
     lanes: u32,
 ) -> Result<Vec<Upload<R>>, Status>
-    ensures ok { IfOk result (λ uploads. CameWith C.brings lanes callers.old uploads.items callers.new) }
-    ensures refused { IfErr result (NoUploads R.answers R.remaining C.brings C.brings_none lanes callers.old callers.new) }
+    ensures ok { IfOk result (λ uploads. CameWith
+        (sayings (WasRead R.answers R.remaining) C.brings C.brings_none C.takes_back)
+        lanes callers.old uploads.items callers.new) }
+    ensures refused { IfErr result (NoUploads
+        (sayings (WasRead R.answers R.remaining) C.brings C.brings_none C.takes_back)
+        lanes callers.old callers.new) }
 {
     let readers = accept_all(alloc, callers, lanes)?;
     greet_all(alloc, readers)
@@ -30,8 +33,12 @@ fn accept_all<R: Source + Drop + Send, C: Callers<Reader = R>>(
     callers: &mut C,
     lanes: u32,
 ) -> Result<Vec<R>, Status>
-    ensures ok { IfOk result (λ readers. (length readers.items ≡ lanes) × OneByOne C.brings callers.old readers.items callers.new) }
-    ensures refused { IfErr result (IsUnaccepted R.answers R.remaining C.brings C.brings_none lanes callers.old callers.new) }
+    ensures ok { IfOk result (λ readers. BringsAll
+        (sayings (WasRead R.answers R.remaining) C.brings C.brings_none C.takes_back)
+        lanes callers.old readers.items callers.new) }
+    ensures refused { IfErr result (IsUnaccepted
+        (sayings (WasRead R.answers R.remaining) C.brings C.brings_none C.takes_back)
+        lanes callers.old callers.new) }
 {
     let Ok(mut readers) = Vec::with_capacity(alloc, lanes as usize) else {
         return Err(Status::OutOfMemory);
@@ -46,8 +53,8 @@ fn accept_all<R: Source + Drop + Send, C: Callers<Reader = R>>(
 }
 
 fn greet_all<R: Source + Drop>(alloc: Global, readers: Vec<R>) -> Result<Vec<Upload<R>>, Status>
-    ensures ok { IfOk result (λ uploads. AreGreeted (length readers.items) uploads.items × (map (λ upload. upload.lines.first) uploads.items ≡ readers.items)) }
-    ensures refused { IfErr result (AreUngreeted R.answers R.remaining readers.items) }
+    ensures ok { IfOk result (λ uploads. AreGreetedOf readers.items uploads.items) }
+    ensures refused { IfErr result (AreUngreeted (WasRead R.answers R.remaining) readers.items) }
 {
     let Ok(mut uploads) = Vec::with_capacity(alloc, readers.len()) else {
         return Err(Status::OutOfMemory);
@@ -63,8 +70,8 @@ fn greet_all<R: Source + Drop>(alloc: Global, readers: Vec<R>) -> Result<Vec<Upl
 
 // The upload behind the hello that the source begins with.
 fn greet<R: Source + Drop>(alloc: Global, reader: R) -> Result<Upload<R>, Status>
-    ensures ok { IfOk result (λ upload. IsGreeted upload × (upload.lines.first ≡ reader)) }
-    ensures refused { IfErr result (IsUngreeted R.answers R.remaining reader) }
+    ensures ok { IfOk result (IsGreetedOf reader) }
+    ensures refused { IfErr result (IsUngreeted (WasRead R.answers R.remaining) reader) }
 {
     let Ok(lines) = Lines::over(alloc, reader) else {
         return Err(Status::OutOfMemory);
@@ -73,7 +80,7 @@ fn greet<R: Source + Drop>(alloc: Global, reader: R) -> Result<Upload<R>, Status
         Ok(upload) => Ok(upload),
         Err(refused) => {
             let _reader = refused.lines.into_reader();
-            Err(refused_status(no_hello(refused.fault)))
+            Err(no_hello(refused.fault))
         }
     }
 }

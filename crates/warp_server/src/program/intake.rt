@@ -1,13 +1,14 @@
 //! The site and the upload behind it, read from the lines of a source.
-ghost use Rattle.std.specs.Prelude.{◌≡◌, IfOk, IfErr, MatchResult};
+ghost use Rattle.std.specs.Prelude.{◌≡◌, IfOk, IfErr};
 ghost use Rattle.byte_streams.specs.Cutting.{ending_of};
-ghost use Rattle.byte_streams.specs.Reading.{input, ReadsWhile, NoLineYet};
+ghost use Rattle.byte_streams.specs.Reading.{input, ReadsWhile, NoLineYet, reads_of};
 ghost use Rattle.warp_server.specs.program.Run.{max_site_bytes, ReadWhileUndecided};
 ghost use Rattle.upload_reader.specs.Upload.{Begins};
-ghost use Rattle.warp_server.specs.inside.Answering.{IsOpened, IsUnread};
-ghost use Rattle.warp_server.specs.program.Connection.{IsFresh};
-ghost use Rattle.warp_server.specs.inside.Intake.{IsBehindSite, IsRefused, no_site, bad_site, no_hello};
+ghost use Rattle.warp_server.specs.inside.Answering.{IsOpened, HasNoInput};
+ghost use Rattle.warp_server.specs.program.Connection.{IsUnreadLines};
+ghost use Rattle.warp_server.specs.inside.Intake.{IsBehindSite, IsRefused, IsUnopened, no_site, bad_site, no_hello};
 
+use crate::program::status::Status;
 use byte_streams::{LineFault, Lines, Source};
 use site_line::{Site, SiteFault};
 use std::alloc::Global;
@@ -16,45 +17,32 @@ use upload_reader::{HelloFault, Upload};
 /// The longest site line, in bytes, without its line end.
 const MAX_SITE_BYTES: usize = 1_048_576;
 
-/// Why there is nothing to report.
-#[derive(Clone, Copy, Debug, PartialEq, Eq)]
-pub(crate) enum Refused {
-    /// A read of the site line failed.
-    ReadFailed,
-    /// The first line is no site.
-    NoSite,
-    /// What follows does not begin with a hello.
-    NoHello,
-    /// An allocation was refused.
-    NoMemory,
-}
-
-/// A source that gives no site with an upload behind it, and why.
+/// A source that gives no site with an upload behind it, and how the run ends.
 #[derive(Drop)]
-pub(crate) struct Unread<R: Source> {
+pub(crate) struct NoInput<R: Source> {
     pub(crate) reader: R,
-    pub(crate) refused: Refused,
+    pub(crate) status: Status,
 }
 
 /// The site that the first line says, and the upload behind it, up to its hello.
 pub(crate) fn read_input<R: Source>(
     alloc: Global,
     lines: Lines<R>,
-) -> Result<(Site, Upload<R>), Unread<R>>
-    requires fresh { IsFresh lines }
+) -> Result<(Site, Upload<R>), NoInput<R>>
+    requires fresh { IsUnreadLines lines }
     ensures ok { IfOk result (λ both. IsOpened lines both.0 both.1) }
-    ensures same { IfErr result (λ unread. R.lender unread.reader ≡ R.lender lines.first) }
-    ensures unread { IfErr result (λ unread. IsUnread (R.answers lines.first) (R.answers unread.reader) (R.remaining lines.first) (R.remaining unread.reader) unread.refused) }
+    ensures same { IfErr result (λ none. R.lender none.reader ≡ R.lender lines.first) }
+    ensures none { IfErr result (λ none. HasNoInput (reads_of R.answers R.remaining lines.first none.reader) none.status) }
 {
     let mut lines = lines;
     match read_site(alloc, &mut lines) {
-        Err(refused) => {
+        Err(status) => {
             let reader = lines.into_reader();
-            Err(Unread { reader, refused })
+            Err(NoInput { reader, status })
         }
         Ok(site) => match read_hello(alloc, lines, &site) {
             Ok(upload) => Ok((site, upload)),
-            Err(unread) => Err(unread),
+            Err(none) => Err(none),
         },
     }
 }
@@ -64,28 +52,30 @@ fn read_hello<R: Source>(
     alloc: Global,
     lines: Lines<R>,
     site: &Site,
-) -> Result<Upload<R>, Unread<R>>
+) -> Result<Upload<R>, NoInput<R>>
     requires needed { ReadWhileUndecided lines.answers }
     requires behind { IsBehindSite lines site.now }
     ensures ok { IfOk result (λ upload. Begins lines upload) }
-    ensures same { IfErr result (λ unread. R.lender unread.reader ≡ R.lender lines.first) }
-    ensures unread { IfErr result (λ unread. IsUnread (R.answers lines.first) (R.answers unread.reader) (R.remaining lines.first) (R.remaining unread.reader) unread.refused) }
+    ensures same { IfErr result (λ none. R.lender none.reader ≡ R.lender lines.first) }
+    ensures none { IfErr result (λ none. HasNoInput (reads_of R.answers R.remaining lines.first none.reader) none.status) }
 {
     match Upload::hello(alloc, lines) {
         Ok(upload) => Ok(upload),
         Err(refused) => {
             let reader = refused.lines.into_reader();
-            let refused = no_hello(refused.fault);
-            Err(Unread { reader, refused })
+            let status = no_hello(refused.fault);
+            Err(NoInput { reader, status })
         }
     }
 }
 
-/// The site that the first line says.
-pub(crate) fn read_site<R: Source>(alloc: Global, lines: &mut Lines<R>) -> Result<Site, Refused>
-    requires fresh { IsFresh lines.old }
+/// The site that the first line says; status 3 where it says none, 6 where a read failed.
+pub(crate) fn read_site<R: Source>(alloc: Global, lines: &mut Lines<R>) -> Result<Site, Status>
+    requires fresh { IsUnreadLines lines.old }
     ensures reads { ReadsWhile (NoLineYet max_site_bytes lines.old.place) lines.old lines.new }
-    ensures site { MatchResult result (IsBehindSite lines.new) (λ refused. IsRefused refused (input lines.new) (ending_of lines.new.answers)) }
+    ensures site { IfOk result (IsBehindSite lines.new) }
+    ensures refused { IfErr result (λ status. IsRefused status (input lines.new) (ending_of lines.new.answers)) }
+    ensures unopened { IfErr result IsUnopened }
 {
     match lines.advance(MAX_SITE_BYTES) {
         Err(fault) => Err(no_site(fault)),
@@ -96,31 +86,33 @@ pub(crate) fn read_site<R: Source>(alloc: Global, lines: &mut Lines<R>) -> Resul
     }
 }
 
-fn no_site(fault: LineFault) -> Refused
-    ensures { result ≡ no_site fault }
+fn no_site(fault: LineFault) -> Status
+    ensures status { result ≡ no_site fault }
+    ensures unopened { IsUnopened result }
 {
     match fault {
-        LineFault::ReadFailed => Refused::ReadFailed,
-        LineFault::NoMemory => Refused::NoMemory,
-        LineFault::TooManyReads | LineFault::Truncated | LineFault::LineTooLong => Refused::NoSite,
+        LineFault::ReadFailed => Status::InputOutput,
+        LineFault::NoMemory => Status::OutOfMemory,
+        LineFault::TooManyReads | LineFault::Truncated | LineFault::LineTooLong => Status::BadSite,
     }
 }
 
-fn bad_site(fault: SiteFault) -> Refused
-    ensures { result ≡ bad_site fault }
+fn bad_site(fault: SiteFault) -> Status
+    ensures status { result ≡ bad_site fault }
+    ensures unopened { IsUnopened result }
 {
     match fault {
-        SiteFault::NoMemory => Refused::NoMemory,
-        _ => Refused::NoSite,
+        SiteFault::NoMemory => Status::OutOfMemory,
+        _ => Status::BadSite,
     }
 }
 
-/// Why an upload doesn't begin.
-pub(crate) fn no_hello(fault: HelloFault) -> Refused
+/// Why an upload doesn't begin: status 4, but for want of memory.
+pub(crate) fn no_hello(fault: HelloFault) -> Status
     ensures { result ≡ no_hello fault }
 {
     match fault {
-        HelloFault::NoMemory => Refused::NoMemory,
-        _ => Refused::NoHello,
+        HelloFault::NoMemory => Status::OutOfMemory,
+        _ => Status::BadHello,
     }
 }

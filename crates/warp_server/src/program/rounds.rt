@@ -1,20 +1,21 @@
 //! Rounds of uploads, one after another.
-ghost use Rattle.std.specs.Prelude.{ℕ, Bool, false, ◌≡◌, ◌≢◌, ◌≤◌, ◌^◌, List, length, map, take, drop, true, IfOk, IfErr};
+ghost use Rattle.std.specs.Prelude.{ℕ, Bool, false, ◌≡◌, ◌≢◌, ◌≤◌, ◌^◌, length, map, true, IfOk, IfErr};
 ghost use Rattle.std.specs.List.{AllByRecursion};
 ghost use Rattle.lane_queue.specs.Limits.{AreLanes};
-ghost use Rattle.upload_reader.specs.Upload.{UploadState, IsUntouched};
+ghost use Rattle.upload_reader.specs.Upload.{IsUntouched};
+ghost use Rattle.byte_streams.specs.Reading.{WasRead};
 ghost use Rattle.site_line.specs.Reading.{site_quota};
 ghost use Rattle.upload_lanes.specs.Round.{has_twice, clients_of};
 ghost use Rattle.upload_lanes.specs.Threads.{Gathers};
 ghost use Rattle.warp_server.specs.Answer.{never};
 ghost use Rattle.warp_server.specs.Rounds.{let_go};
-ghost use Rattle.warp_server.specs.program.Callers.{OneByOne, held, gives_back, MakesRound, MakesRounds, RoundFails, NoFurtherRound};
-ghost use Rattle.warp_server.specs.program.Serve.{IsServed};
+ghost use Rattle.warp_server.specs.program.Callers.{sayings, uploads_in, RoundFails, NoFurtherRound};
+ghost use Rattle.warp_server.specs.program.Serve.{serving};
 ghost use Rattle.warp_server.specs.program.Shortage.{status_of};
 ghost use Rattle.warp_server.specs.declared.program.status.Status.TheVariants.{Done, OutOfMemory};
-ghost use Rattle.warp_server.specs.inside.Serving.{let_go_at};
+ghost use Rattle.warp_server.specs.inside.Serving.{GivesAllBack, let_go_at, uploads_at, MakesAll, MakesOne};
 
-use crate::program::answering::room_for;
+use crate::program::answering::take_to_ends;
 use crate::program::callers::Callers;
 use crate::program::ending::status_of;
 use crate::program::greeting::accept_uploads;
@@ -22,11 +23,10 @@ use crate::program::status::Status;
 use byte_streams::Source;
 use client_log::Quota;
 use indexmap::IndexMap;
-use lane_queue::Room;
 use site_line::Site;
 use std::sync::Wait;
 use std::thread::Threads;
-use upload_lanes::{GatherFault, Gathered, LaneResult, gather_again, has_twice};
+use upload_lanes::{GatherFault, Gathered, LaneResult, has_twice};
 use upload_reader::{Client, Upload};
 
 /// What so many rounds of these callers gather, each of so many uploads. A round in which memory is refused is the last.
@@ -36,8 +36,12 @@ pub(crate) fn gather_rounds<
     T: AllocGlobal + Threads + Wait + Sync,
 >(rt: &T, callers: &mut C, lanes: u32, rounds: u32, site: &Site) -> Result<Gathered<R>, Status>
     requires lanes { AreLanes lanes }
-    ensures ok { IfOk result (λ gathered. (made : List (List (UploadState R))) × IsServed site.now lanes rounds made gathered × MakesRounds R.answers R.remaining C.brings C.takes_back (site_quota site.now) lanes callers.old made gathered callers.new) }
-    ensures refused { IfErr result (NoFurtherRound R.answers R.remaining C.brings C.brings_none C.takes_back site.now lanes rounds callers.old callers.new) }
+    ensures ok { IfOk result (λ gathered. MakesAll
+        (sayings (WasRead R.answers R.remaining) C.brings C.brings_none C.takes_back)
+        (serving site.now lanes rounds) callers.old gathered callers.new) }
+    ensures refused { IfErr result (NoFurtherRound
+        (sayings (WasRead R.answers R.remaining) C.brings C.brings_none C.takes_back)
+        (serving site.now lanes rounds) callers.old callers.new) }
 {
     let mut gathered = Gathered::new(rt.alloc());
     for _ in 0..rounds {
@@ -74,29 +78,25 @@ fn gather_round<
 ) -> Result<Gathered<R>, Status>
     requires lanes { AreLanes lanes }
     requires whole { status_of earlier ≡ Done }
-    ensures ok { IfOk result (λ gathered. (uploads : List (UploadState R)) × MakesRound R.answers R.remaining C.brings C.takes_back (site_quota site.now) lanes callers.old earlier uploads gathered callers.new) }
-    ensures refused { IfErr result (RoundFails R.answers R.remaining C.brings C.brings_none C.takes_back lanes callers.old callers.new) }
+    ensures ok { IfOk result (λ gathered. MakesOne
+        (sayings (WasRead R.answers R.remaining) C.brings C.brings_none C.takes_back)
+        (site_quota site.now) lanes callers.old earlier gathered callers.new) }
+    ensures refused { IfErr result (RoundFails
+        (sayings (WasRead R.answers R.remaining) C.brings C.brings_none C.takes_back)
+        lanes callers.old callers.new) }
 {
     let uploads = accept_uploads(rt.alloc(), callers, lanes)?;
     if has_twice(uploads.as_slice()) {
         give_back(callers, uploads);
         return Err(Status::BadHello);
     }
-    let room = room_for(lanes as usize);
-    match take_behind(
-        rt,
-        earlier,
-        uploads,
-        site.quota(),
-        room,
-        &|_items: u64| false,
-    ) {
+    match take_behind(rt, earlier, uploads, site.quota(), &|_items: u64| false) {
         Ok(round) => Ok(give_back_all(callers, round)),
         Err(status) => Err(status),
     }
 }
 
-// Takes the uploads to their ends: the question whether to stop is never answered by true.
+// The same of a round of these lanes: only memory may be wanting.
 fn take_behind<
     H: Fn(u64) -> bool + Sync,
     R: Source + Drop + Send,
@@ -106,7 +106,6 @@ fn take_behind<
     earlier: Gathered<R>,
     uploads: Vec<Upload<R>>,
     quota: Quota,
-    room: Room,
     halt: &H,
 ) -> Result<Gathered<R>, Status>
     requires untouched { AllByRecursion IsUntouched uploads.items }
@@ -117,9 +116,9 @@ fn take_behind<
     ensures ok { IfOk result (Gathers never earlier uploads.items quota) }
     ensures refused { IfErr result (λ status. status ≡ OutOfMemory) }
 {
-    match gather_again(rt, earlier, uploads, quota, room, halt) {
+    match take_to_ends(rt, earlier, uploads, quota, halt) {
         Ok(gathered) => Ok(gathered),
-        Err(again) => match again.fault {
+        Err(fault) => match fault {
             GatherFault::BadLanes => unreachable!(),
             GatherFault::DuplicateClient => unreachable!(),
             GatherFault::NoMemory => Err(Status::OutOfMemory),
@@ -132,7 +131,9 @@ fn give_back<R: Source + Drop + Send, C: Callers<Reader = R>>(
     callers: &mut C,
     uploads: Vec<Upload<R>>,
 )
-    ensures { OneByOne (gives_back R.answers R.remaining C.takes_back) callers.old uploads.items callers.new }
+    ensures { GivesAllBack
+        (sayings (WasRead R.answers R.remaining) C.brings C.brings_none C.takes_back)
+        callers.old uploads.items callers.new }
 {
     for upload in uploads {
         callers.take_back(upload.into_reader());
@@ -146,7 +147,9 @@ fn give_back_all<R: Source + Drop + Send, C: Callers<Reader = R>>(
 ) -> Gathered<R>
     ensures clients { result.clients.entries ≡ map (λ entry. (entry.0, let_go entry.1)) round.clients.entries }
     ensures stop { result.stop ≡ round.stop }
-    ensures back { OneByOne (gives_back R.answers R.remaining C.takes_back) callers.old (held round.clients.entries) callers.new }
+    ensures back { GivesAllBack
+        (sayings (WasRead R.answers R.remaining) C.brings C.brings_none C.takes_back)
+        callers.old (uploads_in round.clients.entries) callers.new }
 {
     let mut round = round;
     for k in 0..round.clients.len() {
@@ -161,7 +164,9 @@ fn give_back_at<R: Source + Drop + Send, C: Callers<Reader = R>>(
     k: usize,
 )
     ensures clients { clients.new.entries ≡ let_go_at k clients.old.entries }
-    ensures back { OneByOne (gives_back R.answers R.remaining C.takes_back) callers.old (held (take 1 (drop k clients.old.entries))) callers.new }
+    ensures back { GivesAllBack
+        (sayings (WasRead R.answers R.remaining) C.brings C.brings_none C.takes_back)
+        callers.old (uploads_at k clients.old.entries) callers.new }
 {
     if let Some(lane) = clients.get_index_mut(k) {
         if let Some(upload) = lane.upload.take() {

@@ -1,15 +1,14 @@
 //! One run: the site line and one upload in, the report out.
 ghost use Rattle.std.specs.Prelude.{◌≡◌, [], ◌∷◌, IfSome, IfNone, IfOk, Some};
-ghost use Rattle.byte_streams.specs.Cutting.{StopsAtEnd};
-ghost use Rattle.byte_streams.specs.Reading.{Reading, WasRead};
+ghost use Rattle.byte_streams.specs.Reading.{Reading, WasRead, reads_of};
+ghost use Rattle.byte_streams.specs.Writing.{WritesNothing, writes_of};
 ghost use Rattle.upload_reader.specs.Upload.{IsUntouched};
-ghost use Rattle.warp_server.specs.Report.{WritesNothing};
 ghost use Rattle.warp_server.specs.program.Run.{Meets};
-ghost use Rattle.warp_server.specs.inside.Answering.{IsOpened, HasOnlyUpload};
-ghost use Rattle.warp_server.specs.program.Connection.{IsFresh};
+ghost use Rattle.warp_server.specs.inside.Answering.{IsOpened, HasOnlyUpload, IsReaderOf};
+ghost use Rattle.warp_server.specs.program.Connection.{IsUnreadLines};
 
 use crate::program::answering::answer;
-use crate::program::ending::{refused_status, status_of, written_status};
+use crate::program::ending::{status_of, written_status};
 use crate::program::intake::read_input;
 use crate::program::status::Status;
 use byte_streams::{Lines, Sink, Source};
@@ -24,14 +23,15 @@ use upload_reader::Upload;
 /// Reads a site line and an upload, replays what the log keeps of it on the site, puts the site's decisions, and writes the report. The upload is read and
 /// recorded on the thread that calls, and its visits are replayed by the site's workers.
 ///
-/// Nothing is written unless a site and a hello were read. A fault of a later line ends the upload and stands in the report; what stands behind it, or
+/// Status 0 says that the report was written. Nothing is written unless a site and a hello were read. A fault of a later line ends the upload and stands in the report; what stands behind it, or
 /// behind the bye, is not looked at.
 pub fn run<T: AllocGlobal + Threads + Wait + Sync, R: Source + Send, W: Sink>(
     rt: &T,
     reader: &mut R,
     writer: &mut W,
 ) -> Status
-    ensures { Meets (R.answers reader.old) (R.answers reader.new) (R.remaining reader.old) (R.remaining reader.new) (W.puts writer.old) (W.puts writer.new) (W.contents writer.old) (W.contents writer.new) result }
+    ensures { Meets (reads_of R.answers R.remaining reader.old reader.new)
+        (writes_of W.puts W.contents writer.old writer.new) result }
 {
     let Ok(lines) = Lines::over(rt.alloc(), &mut *reader) else {
         return Status::OutOfMemory;
@@ -49,13 +49,14 @@ fn run_lines<R: Source + Drop + Send, W: Sink, T: AllocGlobal + Threads + Wait +
     lines: Lines<R>,
     writer: &mut W,
 ) -> Option<(R, Status)>
-    requires fresh { IsFresh lines }
+    requires fresh { IsUnreadLines lines }
     ensures same { IfSome result (λ both. R.lender both.0 ≡ R.lender lines.first) }
-    ensures met { IfSome result (λ both. Meets (R.answers lines.first) (R.answers both.0) (R.remaining lines.first) (R.remaining both.0) (W.puts writer.old) (W.puts writer.new) (W.contents writer.old) (W.contents writer.new) both.1) }
-    ensures nothing { IfNone result (WritesNothing (W.puts writer.old) (W.puts writer.new) (W.contents writer.old) (W.contents writer.new)) }
+    ensures met { IfSome result (λ both. Meets (reads_of R.answers R.remaining lines.first both.0)
+        (writes_of W.puts W.contents writer.old writer.new) both.1) }
+    ensures nothing { IfNone result (WritesNothing (writes_of W.puts W.contents writer.old writer.new)) }
 {
     match read_input(rt.alloc(), lines) {
-        Err(unread) => Some((unread.reader, refused_status(unread.refused))),
+        Err(none) => Some((none.reader, none.status)),
         Ok((site, upload)) => run_upload(rt, &site, upload, writer),
     }
 }
@@ -68,9 +69,12 @@ fn run_upload<R: Source + Drop + Send, W: Sink, T: AllocGlobal + Threads + Wait 
     writer: &mut W,
 ) -> Option<(R, Status)>
     requires untouched { IsUntouched upload }
-    ensures same { (fresh : Reading R) → IsOpened fresh site.now upload → IfSome result (λ both. R.lender both.0 ≡ R.lender fresh.first) }
-    ensures met { (fresh : Reading R) → IsOpened fresh site.now upload → IfSome result (λ both. Meets (R.answers fresh.first) (R.answers both.0) (R.remaining fresh.first) (R.remaining both.0) (W.puts writer.old) (W.puts writer.new) (W.contents writer.old) (W.contents writer.new) both.1) }
-    ensures nothing { IfNone result (WritesNothing (W.puts writer.old) (W.puts writer.new) (W.contents writer.old) (W.contents writer.new)) }
+    ensures same { (fresh : Reading R) → IsOpened fresh site.now upload
+        → IfSome result (λ both. R.lender both.0 ≡ R.lender fresh.first) }
+    ensures met { (fresh : Reading R) → IsOpened fresh site.now upload → IfSome result (λ both.
+        Meets (reads_of R.answers R.remaining fresh.first both.0)
+        (writes_of W.puts W.contents writer.old writer.new) both.1) }
+    ensures nothing { IfNone result (WritesNothing (writes_of W.puts W.contents writer.old writer.new)) }
 {
     let Ok(uploads) = only(rt.alloc(), upload) else {
         return None;
@@ -95,7 +99,7 @@ fn only<R: Source + Drop>(alloc: Global, upload: Upload<R>) -> Result<Vec<Upload
 // The reader of the only lane.
 fn take_reader<R: Source + Drop>(gathered: Gathered<R>) -> R
     requires { HasOnlyUpload gathered }
-    ensures { (has : HasOnlyUpload gathered) → (R.lender result ≡ R.lender has.now.lines.first) × WasRead R.answers R.remaining has.now.lines.first result has.now.lines.answers × StopsAtEnd has.now.lines.answers }
+    ensures { (has : HasOnlyUpload gathered) → IsReaderOf R.lender (WasRead R.answers R.remaining) has.now.lines result }
 {
     let mut clients = gathered.clients;
     let Some((_, lane)) = clients.pop() else {

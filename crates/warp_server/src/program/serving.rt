@@ -2,16 +2,19 @@
 ghost use Rattle.std.specs.Prelude.{◌≡◌, IfErr};
 ghost use Rattle.byte_streams.specs.declared.source.Fed.{Fed};
 ghost use Rattle.lane_queue.specs.Limits.{AreLanes};
-ghost use Rattle.warp_server.specs.program.Callers.{ServesCallers};
-ghost use Rattle.warp_server.specs.program.Serve.{Serves, Listens};
-ghost use Rattle.warp_server.specs.inside.Serving.{IsUnopened, unopened_status};
+ghost use Rattle.byte_streams.specs.Reading.{WasRead};
+ghost use Rattle.byte_streams.specs.Writing.{writes_of};
+ghost use Rattle.warp_server.specs.program.Callers.{sayings, Serves, ServesSilent, Listens};
+ghost use Rattle.warp_server.specs.program.Serve.{serving};
+ghost use Rattle.warp_server.specs.inside.Intake.{IsUnopened};
+ghost use Rattle.warp_server.specs.inside.Serving.{unopened_status};
 
 use crate::program::answering::conclude;
 use crate::program::call::Listening;
 use crate::program::callers::Callers;
 use crate::program::connections::Connections;
 use crate::program::ending::{status_of, written_status};
-use crate::program::intake::{Refused, read_site};
+use crate::program::intake::read_site;
 use crate::program::rounds::gather_rounds;
 use crate::program::status::Status;
 use byte_streams::{Fed, Lines, Sink, Source};
@@ -39,7 +42,9 @@ pub fn serve_callers<
     T: AllocGlobal + Threads + Wait + Sync,
 >(rt: &T, callers: &mut C, lanes: u32, rounds: u32, site: &Site, writer: &mut W) -> Status
     requires lanes { AreLanes lanes }
-    ensures { ServesCallers R.answers R.remaining C.brings C.brings_none C.takes_back site.now lanes rounds callers.old callers.new (W.puts writer.old) (W.puts writer.new) (W.contents writer.old) (W.contents writer.new) result }
+    ensures { Serves
+        (sayings (WasRead R.answers R.remaining) C.brings C.brings_none C.takes_back)
+        (serving site.now lanes rounds) callers.old callers.new (writes_of W.puts W.contents writer.old writer.new) result }
 {
     let gathered = match gather_rounds(rt, callers, lanes, rounds, site) {
         Ok(gathered) => gathered,
@@ -60,7 +65,8 @@ pub fn serve<
     T: AllocGlobal + Threads + Wait + Sync,
 >(rt: &T, listener: &L, lanes: u32, rounds: u32, site: &Site, writer: &mut W) -> Status
     requires lanes { AreLanes lanes }
-    ensures { Serves (Fed S) site.now lanes rounds (W.puts writer.old) (W.puts writer.new) (W.contents writer.old) (W.contents writer.new) result }
+    ensures { ServesSilent (Fed S) (serving site.now lanes rounds)
+        (writes_of W.puts W.contents writer.old writer.new) result }
 {
     let mut connections = Connections { listener };
     serve_callers(rt, &mut connections, lanes, rounds, site, writer)
@@ -77,7 +83,8 @@ pub fn listen<
         + Sync,
 >(rt: &T, listening: &Listening, writer: &mut W) -> Status
     requires lanes { AreLanes listening.now.lanes }
-    ensures { Listens (Fed TcpStream) listening.now.lanes listening.now.rounds (W.puts writer.old) (W.puts writer.new) (W.contents writer.old) (W.contents writer.new) result }
+    ensures { Listens (Fed TcpStream) listening.now.lanes listening.now.rounds
+        (writes_of W.puts W.contents writer.old writer.new) result }
 {
     let site = match site_of_file(rt.alloc(), fs::open(rt, listening.site_file.as_str())) {
         Ok(site) => site,
@@ -113,21 +120,7 @@ fn read_site_alone<F: Read + Send + Drop>(alloc: Global, file: F) -> Result<Site
     let Ok(mut lines) = Lines::over(alloc, Fed::new(file)) else {
         return Err(Status::OutOfMemory);
     };
-    match read_site(alloc, &mut lines) {
-        Ok(site) => Ok(site),
-        Err(refused) => Err(no_site_status(refused)),
-    }
-}
-
-// No hello is asked for there.
-fn no_site_status(refused: Refused) -> Status
-    ensures { IsUnopened result }
-{
-    match refused {
-        Refused::NoMemory => Status::OutOfMemory,
-        Refused::ReadFailed => Status::InputOutput,
-        Refused::NoSite | Refused::NoHello => Status::BadSite,
-    }
+    read_site(alloc, &mut lines)
 }
 
 // How it ends where a file can't be opened, or no listener made.

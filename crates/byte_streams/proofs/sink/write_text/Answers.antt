@@ -9,6 +9,6 @@ loop-at-preserved g c =
     let long = rw rest at c.in-Ok.ensures.bound in
     record {
       within = omega (arith, c.in-Ok.ensures.bound);
-      takes = takes_more _ _ _ _ _ _ text at count c.loop-at.invariant.takes (rw rest at c.in-Ok.ensures.told) (rw rest at c.in-Ok.ensures.bytes)
+      takes = takes_more g.W.Sink.puts g.W.Write.contents _ _ _ text at count c.loop-at.invariant.takes (rw rest at c.in-Ok.ensures.told) (rw rest at c.in-Ok.ensures.bytes)
           (omega (arith, long, c.in-Ok.count-test.1, length-take count (drop at text)));
     }

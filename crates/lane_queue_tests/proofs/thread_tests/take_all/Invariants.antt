@@ -1,5 +1,5 @@
-use Rattle.lane_queue.specs.Queue.{IsOf}
+use Rattle.lane_queue.specs.Queue.{IsPassOf}
 use Rattle.lane_queue_tests.proofs.thread_tests.take_all.Given as goal
 
 abbrev pub invariant-loop : goal.invariant-loop
-invariant-loop g l = (goal.iterator-loop g).can_next l.iterator' × (goal.iterator-loop g).is_finite l.iterator' × IsOf l.lanes l.taker
+invariant-loop g l = (goal.iterator-loop g).can_next l.iterator' × (goal.iterator-loop g).is_finite l.iterator' × IsPassOf l.lanes l.taker

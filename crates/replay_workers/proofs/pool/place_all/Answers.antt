@@ -1,7 +1,7 @@
 use Rattle.std.proofs.Common.{◌≡◌, ◌<◌, ◌++◌, ◌∷◌, [], length, true, All, IfOk, option_to_list, refl, subst, sym, ap, ◌∙◌, arith}
 use Rattle.std.proofs.lemmas.List.{length-append}
 use Rattle.std.proofs.lemmas.List.Elements.{All-push}
-use Rattle.replay_workers.specs.Draws.{IsOf, is_spent}
+use Rattle.replay_workers.specs.Draws.{IsSeatOf, is_spent}
 use Rattle.replay_workers.specs.inside.Shares.{HasAll, IsWorked, IsPlaced}
 use Rattle.replay_workers.specs.declared.share.Done.{Done}
 use Rattle.replay_workers.specs.declared.share.Share.{Share}
@@ -30,7 +30,7 @@ loop-share-preserved c =
           let shares = front_all (IsWorked own claims) rest share (subst (All (IsWorked own claims)) split before.0) in
           let worked : HasAll own claims share.seat done.items = of_ok (λ d. d.items) (λ d. HasAll own claims share.seat d.items) share.done done c.in_ok-done.was shares.1.done in (
             shares.0,
-            subst (All (IsOf claims)) (sym c.push_reserved.ensures.items) (All-push (IsOf claims) seats share.seat before.1 shares.1.of),
+            subst (All (IsSeatOf claims)) (sym c.push_reserved.ensures.items) (All-push (IsSeatOf claims) seats share.seat before.1 shares.1.of),
             subst (All (λ seat. is_spent seat ≡ true)) (sym c.push_reserved.ensures.items) (All-push (λ seat. is_spent seat ≡ true) seats share.seat before.2 shares.1.spent),
             subst (λ them. IsPlaced own them c.place.new.all) (sym c.push_reserved.ensures.items)
                 (more_placed own claims sizes.1 c.loop-share.all c.place.new.all seats share.seat done.items worked before.3 (λ x stood. c.place.ensures own x worked.outcomes stood)),

@@ -1,7 +1,7 @@
 use Rattle.std.proofs.Common.{◌≡◌, ◌<◌, ◌≤◌, ◌+◌, List, length, true, All, IfOk}
 use Rattle.std.specs.Vec.{vec_capacity}
 use Rattle.visit_replay.specs.declared.outcome.Outcome.{Outcome}
-use Rattle.replay_workers.specs.Draws.{Pool, IsOf, is_spent}
+use Rattle.replay_workers.specs.Draws.{Pool, IsSeatOf, is_spent}
 use Rattle.replay_workers.specs.inside.Shares.{IsWorked, IsPlaced}
 use Rattle.replay_workers.proofs.pool.place_all.Given as goal
 
@@ -15,5 +15,5 @@ invariant-loop-share l = record {
   room : length l.fn.shares.items ≤ vec_capacity l.seats;
   within : All (λ share. IfOk share.done (λ done. All (λ one. one.number < length l.all) done.items)) l.shares.items;
   stands : (own : List Outcome) (claims : Pool) → (length own ≡ length l.fn.all) × (claims.count ≡ length own) → All (IsWorked own claims) l.fn.shares.items
-      → All (IsWorked own claims) l.shares.items × All (IsOf claims) l.seats.items × All (λ seat. is_spent seat ≡ true) l.seats.items × IsPlaced own l.seats.items l.all;
+      → All (IsWorked own claims) l.shares.items × All (IsSeatOf claims) l.seats.items × All (λ seat. is_spent seat ≡ true) l.seats.items × IsPlaced own l.seats.items l.all;
 }

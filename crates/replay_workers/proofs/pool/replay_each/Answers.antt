@@ -1,6 +1,7 @@
 use Rattle.std.proofs.Common.{◌≡◌, ◌<◌, List, length, All, slice_index_or, sym, ap, ◌∙◌, arith}
 use Rattle.std.proofs.lemmas.List.{length-map}
 use Rattle.visit_replay.specs.Outcome.{outcome}
+use Rattle.visit_replay.specs.RepairedSite.{site_by}
 use Rattle.visit_replay.proofs.Places.{written_back}
 use Rattle.visit_replay.specs.declared.outcome.Outcome.{Outcome}
 use Rattle.replay_workers.specs.Work.{own_outcomes}
@@ -10,8 +11,8 @@ use Rattle.replay_workers.proofs.pool.replay_each.Goals as goal
 
 pub place_all-requires-clause-within : goal.place_all-requires-clause-within
 place_all-requires-clause-within g c =
-    let own : List Outcome = own_outcomes (g.H.SiteLaw.page_of c.args.hooks.now) (g.H.SiteLaw.signals c.args.hooks.now) c.args.patch.now c.args.visits.now in
-    let many : length own ≡ length c.args.visits.now = length-map c.args.visits.now (outcome (g.H.SiteLaw.page_of c.args.hooks.now) (g.H.SiteLaw.signals c.args.hooks.now) c.args.patch.now) in
+    let own : List Outcome = own_outcomes (site_by g.H.SiteLaw.page_of g.H.SiteLaw.signals c.args.hooks.now c.args.patch.now) c.args.visits.now in
+    let many : length own ≡ length c.args.visits.now = length-map c.args.visits.now (outcome (site_by g.H.SiteLaw.page_of g.H.SiteLaw.signals c.args.hooks.now c.args.patch.now)) in
     let size : length own ≡ length c.as_mut_slice.result.now = many ∙ omega (arith, c.len.ensures, c.in_ok-own.ensures, ap length c.as_mut_slice.ensures.value) in
     λ k d below.
     let here : k < length c.args.seats.items = omega (arith, below, c.in_ok-shares.ensures.len) in
@@ -20,8 +21,8 @@ place_all-requires-clause-within g c =
 
 pub close-drawn-requires-clause-all : goal.close-drawn-requires-clause-all
 close-drawn-requires-clause-all g c =
-    let own : List Outcome = own_outcomes (g.H.SiteLaw.page_of c.args.hooks.now) (g.H.SiteLaw.signals c.args.hooks.now) c.args.patch.now c.args.visits.now in
-    let many : length own ≡ length c.args.visits.now = length-map c.args.visits.now (outcome (g.H.SiteLaw.page_of c.args.hooks.now) (g.H.SiteLaw.signals c.args.hooks.now) c.args.patch.now) in
+    let own : List Outcome = own_outcomes (site_by g.H.SiteLaw.page_of g.H.SiteLaw.signals c.args.hooks.now c.args.patch.now) c.args.visits.now in
+    let many : length own ≡ length c.args.visits.now = length-map c.args.visits.now (outcome (site_by g.H.SiteLaw.page_of g.H.SiteLaw.signals c.args.hooks.now c.args.patch.now)) in
     let size : length own ≡ length c.as_mut_slice.result.now = many ∙ omega (arith, c.len.ensures, c.in_ok-own.ensures, ap length c.as_mut_slice.ensures.value) in
     let worked : All (IsWorked own c.args.claims) c.in_ok-shares.shares.items = λ k d below. (c.in_ok-shares.ensures.each k d (omega (arith, below, c.in_ok-shares.ensures.len))).1.call.met in
     let back = c.in_ok-seats.ensures own c.args.claims (size, c.requires.count ∙ sym many) worked in
@@ -29,8 +30,8 @@ close-drawn-requires-clause-all g c =
 
 pub close-drawn-requires-clause-of : goal.close-drawn-requires-clause-of
 close-drawn-requires-clause-of g c =
-    let own : List Outcome = own_outcomes (g.H.SiteLaw.page_of c.args.hooks.now) (g.H.SiteLaw.signals c.args.hooks.now) c.args.patch.now c.args.visits.now in
-    let many : length own ≡ length c.args.visits.now = length-map c.args.visits.now (outcome (g.H.SiteLaw.page_of c.args.hooks.now) (g.H.SiteLaw.signals c.args.hooks.now) c.args.patch.now) in
+    let own : List Outcome = own_outcomes (site_by g.H.SiteLaw.page_of g.H.SiteLaw.signals c.args.hooks.now c.args.patch.now) c.args.visits.now in
+    let many : length own ≡ length c.args.visits.now = length-map c.args.visits.now (outcome (site_by g.H.SiteLaw.page_of g.H.SiteLaw.signals c.args.hooks.now c.args.patch.now)) in
     let size : length own ≡ length c.as_mut_slice.result.now = many ∙ omega (arith, c.len.ensures, c.in_ok-own.ensures, ap length c.as_mut_slice.ensures.value) in
     let worked : All (IsWorked own c.args.claims) c.in_ok-shares.shares.items = λ k d below. (c.in_ok-shares.ensures.each k d (omega (arith, below, c.in_ok-shares.ensures.len))).1.call.met in
     let back = c.in_ok-seats.ensures own c.args.claims (size, c.requires.count ∙ sym many) worked in
@@ -38,8 +39,8 @@ close-drawn-requires-clause-of g c =
 
 pub returns : goal.returns
 returns g c =
-    let own : List Outcome = own_outcomes (g.H.SiteLaw.page_of c.args.hooks.now) (g.H.SiteLaw.signals c.args.hooks.now) c.args.patch.now c.args.visits.now in
-    let many : length own ≡ length c.args.visits.now = length-map c.args.visits.now (outcome (g.H.SiteLaw.page_of c.args.hooks.now) (g.H.SiteLaw.signals c.args.hooks.now) c.args.patch.now) in
+    let own : List Outcome = own_outcomes (site_by g.H.SiteLaw.page_of g.H.SiteLaw.signals c.args.hooks.now c.args.patch.now) c.args.visits.now in
+    let many : length own ≡ length c.args.visits.now = length-map c.args.visits.now (outcome (site_by g.H.SiteLaw.page_of g.H.SiteLaw.signals c.args.hooks.now c.args.patch.now)) in
     let size : length own ≡ length c.as_mut_slice.result.now = many ∙ omega (arith, c.len.ensures, c.in_ok-own.ensures, ap length c.as_mut_slice.ensures.value) in
     let worked : All (IsWorked own c.args.claims) c.in_ok-shares.shares.items = λ k d below. (c.in_ok-shares.ensures.each k d (omega (arith, below, c.in_ok-shares.ensures.len))).1.call.met in
     let back = c.in_ok-seats.ensures own c.args.claims (size, c.requires.count ∙ sym many) worked in

@@ -1,4 +1,5 @@
 use Rattle.std.proofs.Common.{◌-◌}
+use Rattle.visit_replay.specs.RepairedSite.{site_by}
 use Rattle.replay_workers.specs.Work.{own_outcomes}
 use Rattle.replay_workers.proofs.Divided.{next_after}
 use Rattle.replay_workers.proofs.Working.{IsWorking}
@@ -8,4 +9,4 @@ abbrev pub decreases-loop-alloc : goal.decreases-loop-alloc
 decreases-loop-alloc g l = l.claims.count - next_after l.seat.drawn
 
 abbrev pub invariant-loop-alloc : goal.invariant-loop-alloc
-invariant-loop-alloc g l = IsWorking (λ done. done.items) (own_outcomes (g.H.SiteLaw.page_of l.hooks) (g.H.SiteLaw.signals l.hooks) l.patch l.visits) l.claims l.fn.seat l.seat l.done
+invariant-loop-alloc g l = IsWorking (λ done. done.items) (own_outcomes (site_by g.H.SiteLaw.page_of g.H.SiteLaw.signals l.hooks l.patch) l.visits) l.claims l.fn.seat l.seat l.done

@@ -2,13 +2,13 @@ use Rattle.std.proofs.Common.{slice_set, subst, sym, ◌∙◌}
 use Rattle.std.specs.List.{AllByRecursion}
 use Rattle.upload_lanes.proofs.AloneLaws.{one_of, taken_alone}
 use Rattle.upload_lanes.specs.Threads.{AreTaken}
-use Rattle.upload_lanes.specs.inside.AllGroups.{IsFresh}
+use Rattle.upload_lanes.specs.inside.AllGroups.{IsFreshLane}
 use Rattle.upload_lanes.proofs.alone.take_only.Goals as goal
 
 pub take_alone-stop-requires-clause-fresh : goal.take_alone-stop-requires-clause-fresh
 take_alone-stop-requires-clause-fresh g c κs within =
     let one = one_of c.args.lanes.items c.index_mut.result.now c.requires.one c.index_mut.ensures.value in
-    (subst (AllByRecursion IsFresh) one c.requires.fresh).0
+    (subst (AllByRecursion IsFreshLane) one c.requires.fresh).0
 
 pub returns : goal.returns
 returns g c = λ known quota uploads is.

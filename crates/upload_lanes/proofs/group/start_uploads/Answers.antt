@@ -30,7 +30,7 @@ loop-upload-preserved g c =
     let more = ap (map (λ one. one.promise)) c.push_reserved.ensures.items ∙ map-append (λ one. one.promise) c.loop-upload.handles.items (handle ∷ []) in
     let started = starts_one c.args.queue.now (map (λ one. one.promise) c.loop-upload.handles.items) (into_iter_items c.loop-upload.putters) rest c.loop-upload.upload-iterator.rest.items
     c.next.new.self.rest.items c.args.uploads.items (vec_capacity c.loop-upload.handles) c.unwrap-putter.result c.in-Some.upload first c.in-Some.ensures.steps.0 c.loop-upload.invariant
-    handle.promise c.in_ok-start_upload.ensures.0 c.in_ok-start_upload.ensures.1 c.in_ok-start_upload.ensures.2 in
+    handle.promise c.in_ok-start_upload.ensures.queue c.in_ok-start_upload.ensures.putter c.in_ok-start_upload.ensures.upload in
     subst (λ promises. IsStarting c.args.queue.now promises rest c.next.new.self.rest.items c.args.uploads.items (vec_capacity c.push_reserved.new.self)) (sym more)
     (subst (λ capacity. IsStarting c.args.queue.now (map (λ one. one.promise) c.loop-upload.handles.items ++ handle.promise ∷ []) rest c.next.new.self.rest.items c.args.uploads.items capacity)
     (sym c.push_reserved.ensures.capacity) started)

@@ -29,10 +29,10 @@ loop-one-preserved g c =
     let fewer = next_within _ c.args.uploading.items c.loop-one.one-iterator.rest.items c.next.new.self.rest.items made (vec_capacity c.loop-one.running) c.in-Some.one c.in-Some.ensures.steps.0 c.loop-one.invariant in
     let n : c.len-at.result ≡ length made = omega (arith, c.len-at.ensures, c.loop-one.running.len) in
     let queue_at = slice_get-get_or c.args.queues.now c.len-at.result c.index-queues-at.result (omega (arith, n, fewer, c.requires.duties.count)) ∙ ap Some (sym c.index-queues-at.is) in
-    let one = c.in-Ok.started in
+    let one = c.in_ok-start_recorder.field-0 in
     let more = makes_one (λ k before made_one. (queue : Queue) → slice_get c.args.queues.now k ≡ Some queue → IsRunning queue c.args.halt.now before made_one) c.args.uploading.items c.loop-one.one-iterator.rest.items
     c.next.new.self.rest.items made (vec_capacity c.loop-one.running) c.in-Some.one c.in-Some.ensures.steps.0 c.loop-one.invariant one
-    (λ queue at. subst (λ q. IsRunning q c.args.halt.now c.in-Some.one one) (same_place c.args.queues.now (length made) c.index-queues-at.result queue (ap (slice_get c.args.queues.now) (sym n) ∙ queue_at) at) c.in-Ok.ensures) in
+    (λ queue at. subst (λ q. IsRunning q c.args.halt.now c.in-Some.one one) (same_place c.args.queues.now (length made) c.index-queues-at.result queue (ap (slice_get c.args.queues.now) (sym n) ∙ queue_at) at) c.in_ok-start_recorder.ensures) in
     subst (λ ys. IsMaking (λ k before made_one. (queue : Queue) → slice_get c.args.queues.now k ≡ Some queue → IsRunning queue c.args.halt.now before made_one) c.args.uploading.items c.next.new.self.rest.items ys
     (vec_capacity c.push_reserved.new.self)) (sym c.push_reserved.ensures.items)
     (subst (λ capacity. IsMaking (λ k before made_one. (queue : Queue) → slice_get c.args.queues.now k ≡ Some queue → IsRunning queue c.args.halt.now before made_one) c.args.uploading.items c.next.new.self.rest.items

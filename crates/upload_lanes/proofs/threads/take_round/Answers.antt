@@ -4,13 +4,13 @@ use Rattle.std.specs.List.{AllByRecursion}
 use Rattle.indexmap.specs.IndexMap.{get}
 use Rattle.upload_lanes.proofs.TakenLaws.{fresh_begun, zip_length}
 use Rattle.upload_lanes.specs.Threads.{IsLaneOf}
-use Rattle.upload_lanes.specs.inside.AllGroups.{IsFresh}
+use Rattle.upload_lanes.specs.inside.AllGroups.{IsFreshLane}
 use Rattle.upload_lanes.specs.inside.Lanes.{begun_lane}
 use Rattle.upload_lanes.proofs.threads.take_round.Goals as goal
 
 pub take_lanes-requires-clause-fresh : goal.take_lanes-requires-clause-fresh
 take_lanes-requires-clause-fresh g c κs within =
-    subst (AllByRecursion IsFresh) (sym c.in_ok-lanes.ensures.ok.1) (fresh_begun (get bytes_eq c.args.clients.now) c.args.quota c.args.uploads.items c.requires.untouched)
+    subst (AllByRecursion IsFreshLane) (sym c.in_ok-lanes.ensures.ok.1) (fresh_begun (get bytes_eq c.args.clients.now) c.args.quota c.args.uploads.items c.requires.untouched)
 
 pub returns-clause-ok : goal.returns-clause-ok
 returns-clause-ok g c =

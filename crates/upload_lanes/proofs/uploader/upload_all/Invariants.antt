@@ -1,6 +1,6 @@
 use Rattle.std.proofs.Common.{◌≡◌, ◌≤◌, length}
 use Rattle.crossbeam_queue.specs.Passes.{view}
-use Rattle.lane_queue.specs.Queue.{IsOf}
+use Rattle.lane_queue.specs.Queue.{IsPassOf}
 use Rattle.upload_reader.specs.Limits.{max_messages}
 use Rattle.upload_lanes.specs.inside.Sent.{IsReadOn, IsPutting}
 use Rattle.upload_lanes.proofs.uploader.upload_all.Given as goal
@@ -9,7 +9,7 @@ abbrev pub invariant-loop : goal.invariant-loop
 invariant-loop g l =
     (goal.iterator-loop g).can_next l.iterator'
     × (goal.iterator-loop g).is_finite l.iterator'
-    × IsOf l.queue l.putter
+    × IsPassOf l.queue l.putter
     × ((view l.putter).lane ≡ (view l.fn.putter).lane)
     × (length l.upload.given ≤ max_messages)
     × IsReadOn l.fn.upload l.upload

@@ -16,12 +16,12 @@ returns-in-Some-clause-stop c = rw (← c.as_slice-event-items.ensures)
 
 pub returns-in-Some-clause-requests : goal.returns-in-Some-clause-requests
 returns-in-Some-clause-requests c = rw (← c.as_slice-event-items.ensures)
-    (not_added _ _ _ _ _ _ _ _ c.in-Some.kind c.in_ok-kind.ensures.steps c.in-Some.is ∙ c.loop-i.invariant.made)
+    (not_added c.args.visit.now _ _ _ _ _ _ _ c.in-Some.kind c.in_ok-kind.ensures.steps c.in-Some.is ∙ c.loop-i.invariant.made)
 
 pub loop-i-preserved : goal.loop-i-preserved
 loop-i-preserved c = record {
-  kept = kept_on c.args.visit.now.address c.args.new.now c.as_slice-event-items.result.now c.loop-i.i c.event-item.result c.loop-i.fields c.step.new.fields c.loop-i.requests c.step.new.requests c.in_ok-kind.field-0 (omega (arith, c.loop-i-test.true)) c.event-item.is c.loop-i.invariant.kept c.in_ok-kind.ensures.steps c.in_default.is;
-  made = made_on c.args.visit.now.address c.args.new.now c.as_slice-event-items.result.now c.loop-i.i c.event-item.result c.loop-i.fields c.step.new.fields c.loop-i.requests c.step.new.requests c.in_ok-kind.field-0 (omega (arith, c.loop-i-test.true)) c.event-item.is c.loop-i.invariant.kept c.loop-i.invariant.made c.in_ok-kind.ensures.steps c.in_default.is;
+  kept = kept_on c.args.visit.now c.args.new.now c.as_slice-event-items.result.now c.loop-i.i c.event-item.result c.loop-i.fields c.step.new.fields c.loop-i.requests c.step.new.requests c.in_ok-kind.field-0 (omega (arith, c.loop-i-test.true)) c.event-item.is c.loop-i.invariant.kept c.in_ok-kind.ensures.steps c.in_default.is;
+  made = made_on c.args.visit.now c.args.new.now c.as_slice-event-items.result.now c.loop-i.i c.event-item.result c.loop-i.fields c.step.new.fields c.loop-i.requests c.step.new.requests c.in_ok-kind.field-0 (omega (arith, c.loop-i-test.true)) c.event-item.is c.loop-i.invariant.kept c.loop-i.invariant.made c.in_ok-kind.ensures.steps c.in_default.is;
   good = good_on c.args.visit.now.page c.args.new.now c.as_slice-event-items.result.now c.loop-i.i c.event-item.result c.in_ok-kind.field-0 _ (omega (arith, c.loop-i-test.true)) c.event-item.is c.in_ok-kind.ensures.conflict c.in_default.is c.loop-i.invariant.good;
 }
 

@@ -1,18 +1,19 @@
 use Rattle.std.proofs.Common.{bytes_eq, ◌++◌, map, sym, ap, subst, ◌∙◌, append-nil}
 use Rattle.std.specs.List.{IsDistinct}
+use Rattle.visit_replay.specs.RepairedSite.{site_by}
 use Rattle.warp_server.specs.Repair.{docket_for}
 use Rattle.warp_server.proofs.RepairLaws.{dockets_clients}
 use Rattle.warp_server.proofs.repairing.replay_lanes.Goals as goal
 
 pub returns-clause-for_desk : goal.returns-clause-for_desk
 returns-clause-for_desk g c =
-    let page_of = g.H.SiteLaw.page_of c.args.hooks.now in let signals = g.H.SiteLaw.signals c.args.hooks.now in let patch = c.args.patch.now in
+    let site = site_by g.H.SiteLaw.page_of g.H.SiteLaw.signals c.args.hooks.now c.args.patch.now in
     let all =
     sym (append-nil c.loop-client.dockets.items)
-    ∙ ap (λ rest. c.loop-client.dockets.items ++ map (docket_for page_of signals patch) rest) (sym c.in-None.ensures.steps.0)
+    ∙ ap (λ rest. c.loop-client.dockets.items ++ map (docket_for site) rest) (sym c.in-None.ensures.steps.0)
     ∙ c.loop-client.invariant.dockets
-    ∙ ap (map (docket_for page_of signals patch)) (c.into_iter-client-iterator.ensures.into_iter_gives ∙ c.iter-client-items.ensures.rest) in
+    ∙ ap (map (docket_for site)) (c.into_iter-client-iterator.ensures.into_iter_gives ∙ c.iter-client-items.ensures.rest) in
     record {
-      clients = subst (IsDistinct bytes_eq) (sym (ap (map (λ docket. docket.client)) all ∙ dockets_clients page_of signals patch c.args.clients.now.entries)) c.len-count.ensures.unique;
+      clients = subst (IsDistinct bytes_eq) (sym (ap (map (λ docket. docket.client)) all ∙ dockets_clients site c.args.clients.now.entries)) c.len-count.ensures.unique;
       visits = c.loop-client.invariant.ascend;
     }

@@ -6,7 +6,7 @@ use Rattle.std.proofs.lemmas.List.{append-nil, length_push, at_drop_all}
 use Rattle.xpath_child.specs.Path.{max_steps}
 use Rattle.page_tree.specs.FirstFault.{ok_unless}
 use Rattle.xpath_child.specs.Fault.{is_slash, text_fault, first_step_fault, written_steps}
-use Rattle.xpath_child.specs.inside.Placed.{placed, placed_steps}
+use Rattle.xpath_child.specs.inside.Placed.{step_at, placed_steps}
 use Rattle.xpath_child.proofs.Faults.{bytes_of, bytes_of-slice_split, too_many, drop_next, bytes_next, own_fault, no_fault, unless_ok, fails_along}
 use Rattle.xpath_child.proofs.Placed.{length_of_step}
 use Rattle.xpath_child.proofs.step.read_steps.Goals as goal
@@ -42,7 +42,7 @@ returns-in_err-read_step c =
     let start = c.loop-text.slash + 1 in
     let few : length c.loop-text.yielded < max_steps = omega arith in
     let p = err_from_is_err_and c.from_residual.result c.from_residual.ensures.1 in
-    rw (p.1, p.2) (fails_along (text_fault start c.in-Some.text.now) (first_step_fault 0 1 all) (placed start c.in-Some.text.now) (placed_steps 1 all) _ _
+    rw (p.1, p.2) (fails_along (text_fault start c.in-Some.text.now) (first_step_fault 0 1 all) (step_at start c.in-Some.text.now) (placed_steps 1 all) _ _
     (λ f h. sym c.loop-text.invariant.fault ∙ own_fault all (length c.loop-text.yielded) c.in-Some.text.now t.0 t.1 start few f h) c.in_err-read_step.ensures)
 
 pub overflow_add-slash : goal.overflow_add-slash
@@ -61,7 +61,7 @@ loop-text-preserved c =
     let past = start + length text + 1 in
     let few : k < max_steps = omega arith in
     let next : length (c.loop-text.yielded ++ c.in-Some.text ∷ []) ≡ k + 1 = length_push c.loop-text.yielded c.in-Some.text in
-    let read = unless_ok (text_fault start text) (placed start text) step c.in_ok-read_step.ensures in
+    let read = unless_ok (text_fault start text) (step_at start text) step c.in_ok-read_step.ensures in
     let before = c.loop-text.steps.items in
     record {
       count = omega (arith, next, c.in_ok-push.ensures.len);

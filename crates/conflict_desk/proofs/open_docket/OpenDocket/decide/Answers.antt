@@ -11,12 +11,12 @@ use Rattle.conflict_desk.proofs.open_docket.OpenDocket.decide.Goals as goal
 pub returns-then-next-as_slice-clause-refused : goal.returns-then-next-as_slice-clause-refused
 returns-then-next-as_slice-clause-refused c =
     let none = front_none _ _ _ _ c.self.invariant.0 _ c.as_slice.ensures c.if-next-as_slice.true ∙ ap front_visit c.self.view_is in
-    (ap (λ front. NotFront front) none, (λ same. not_none _ (sym (none ∙ same))), refl)
+    ((ap (λ front. NotFront front) none, (λ same. not_none _ (sym (none ∙ same)))), refl)
 
 pub returns-then-front-visit-clause-refused : goal.returns-then-front-visit-clause-refused
 returns-then-front-visit-clause-refused c =
     let is = front_at _ _ _ _ c.self.invariant.0 _ _ c.as_slice-2.ensures (omega (arith, c.if-next-as_slice.false, ap length c.as_slice.ensures, ap length c.as_slice-2.ensures)) ∙ ap front_visit c.self.view_is in
-    (ap (λ front. NotFront front) is, (λ same. c.if-front-visit.true (same_some _ _ (is ∙ same))), refl)
+    ((ap (λ front. NotFront front) is, (λ same. c.if-front-visit.true (same_some _ _ (is ∙ same)))), refl)
 
 pub invariant_of-self : goal.invariant_of-self
 invariant_of-self c =

@@ -9,7 +9,7 @@ pub returns-clause-headline : goal.returns-clause-headline
 returns-clause-headline g c =
     let gathered = c.in_ok-gathered.gathered in
     record {
-      has = all_prefixes (site_quota c.args.site.now) never c.args.uploads.items gathered (subst (λ quota. GathersFirst never c.args.uploads.items quota gathered) c.quota.ensures c.in_ok-gathered.ensures.ok);
+      has = all_prefixes (site_quota c.args.site.now) never c.args.uploads.items gathered (subst (λ quota. GathersFirst never c.args.uploads.items quota gathered) c.quota.ensures (c.new-none.result, c.new-none.ensures.clients, c.in_ok-gathered.ensures.ok));
       replayed = c.in_ok-repaired.ensures.replayed;
       leave = c.in_ok-repaired.ensures.leave;
     }

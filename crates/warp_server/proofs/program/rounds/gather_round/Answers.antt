@@ -27,7 +27,13 @@ returns-in-Ok-clause-ok g c = (
 
 pub returns-then-has_twice-clause-refused : goal.returns-then-has_twice-clause-refused
 returns-then-has_twice-clause-refused g c =
-    inr (c.in_ok-uploads.uploads.items, ap (λ uploads. has_twice (clients_of uploads)) (sym c.as_slice.ensures.value) ∙ sym c.has_twice.ensures ∙ c.if-has_twice.true, c.accept_uploads.new.callers, c.in_ok-uploads.ensures.ok, c.give_back.ensures)
+    inr record {
+      uploads = c.in_ok-uploads.uploads.items;
+      twice = ap (λ uploads. has_twice (clients_of uploads)) (sym c.as_slice.ensures.value) ∙ sym c.has_twice.ensures ∙ c.if-has_twice.true;
+      begun = c.accept_uploads.new.callers;
+      came = c.in_ok-uploads.ensures.ok;
+      back = c.give_back.ensures;
+    }
 
 pub returns-in-Err-clause-refused : goal.returns-in-Err-clause-refused
 returns-in-Err-clause-refused g c = rw c.in-Err.ensures.refused tt

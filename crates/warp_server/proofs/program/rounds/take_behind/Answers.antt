@@ -1,5 +1,6 @@
-use Rattle.warp_server.proofs.RoundSteps.{round_never}
+use Rattle.std.proofs.Common.{subst}
+use Rattle.upload_lanes.specs.Round.{IsNoRound}
 use Rattle.warp_server.proofs.program.rounds.take_behind.Goals as goal
 
-pub returns-in-Ok-clause-ok : goal.returns-in-Ok-clause-ok
-returns-in-Ok-clause-ok g c = round_never _ c.requires.never c.args.earlier c.args.uploads.items c.args.quota c.in-Ok.gathered c.in-Ok.ensures.ok
+pub unreachable-requires : goal.unreachable-requires
+unreachable-requires g c = subst (IsNoRound c.args.uploads.items) c.in-BadLanes.is c.in-Err.ensures.refused c.requires.lanes

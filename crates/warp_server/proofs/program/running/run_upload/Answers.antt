@@ -30,4 +30,4 @@ returns-in-Ok-answer-clause-met g c fresh opened =
     let back = c.take_reader.ensures (has_only upload (site_quota site) gathered whole) in
     let repaired = c.in-Ok-answer.answered.repaired in
     let read = answered g.R.Source.answers g.R.Read.remaining fresh site upload opened gathered whole (report_text repaired) (ap report_text c.in-Ok-answer.ensures.repaired) c.take_reader.result back.1 back.2 in
-    rw (c.written_status-status.ensures, c.status_of.ensures) (report_met _ _ _ _ _ _ _ _ _ (report_text repaired) c.in-Ok-answer.answered.report read c.in-Ok-answer.ensures.report)
+    rw (c.written_status-status.ensures, c.status_of.ensures) (report_met _ _ _ (report_text repaired) c.in-Ok-answer.answered.report read c.in-Ok-answer.ensures.report)

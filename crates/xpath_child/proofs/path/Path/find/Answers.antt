@@ -1,7 +1,7 @@
 use Rattle.std.proofs.Common.{◌≡◌, subst, ap, sym, ◌∙◌, ◌&&◌, cond, [], fold}
 use Rattle.page_tree.specs.Look.{name_at}
 use Rattle.page_tree.specs.Number.{place_numbered}
-use Rattle.xpath_child.specs.Seen.{step_seen, steps_seen}
+use Rattle.xpath_child.specs.inside.Seen.{step_seen, steps_seen}
 use Rattle.xpath_child.specs.Reaches.{IsTarget, matches}
 use Rattle.xpath_child.specs.Targets.{is_nth, places_below}
 use Rattle.xpath_child.specs.Found.{place_found}

@@ -1,7 +1,0 @@
-//! Tests of `byte_streams` by its public names, in a crate of their own: with them inside, the library would be proved once more.
-#![tactic(auto)]
-
-#[cfg(test)]
-mod line_tests;
-#[cfg(test)]
-mod sink_tests;

@@ -1,7 +1,0 @@
-use Rattle.lane_queue.proofs.Steps.{pushes, sees}
-use Rattle.lane_queue.proofs.lanes.Lanes.push.Goals as goal
-
-pub push_as-pushed-requires-clause-rule : goal.push_as-pushed-requires-clause-rule
-push_as-pushed-requires-clause-rule g c =
-    let may = c.requires.may in
-    (pushes _ _ _ _ may.puts may.lane may.number may.few may.unended, sees _ _)

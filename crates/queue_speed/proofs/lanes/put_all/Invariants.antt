@@ -1,7 +1,0 @@
-use Rattle.std.proofs.Common.{◌≤◌, length}
-use Rattle.crossbeam_queue.specs.Passes.{view}
-use Rattle.lane_queue.specs.Queue.{IsOf}
-use Rattle.queue_speed.proofs.lanes.put_all.Given as goal
-
-abbrev pub invariant-loop-body : goal.invariant-loop-body
-invariant-loop-body g l = IsOf l.lanes l.putter × (length (view l.putter).put ≤ l.body)

@@ -1,0 +1,160 @@
+ghost use Rattle.std.specs.Prelude.{ℕ, List, Bool, false, None};
+ghost use Rattle.page_tree.specs.Tree.{Tree};
+ghost use Rattle.site_hooks.specs.Closures.{AtAddresses, AtPages, MakesBy, TellsBy};
+
+use crate::made::{NEW, OLD, page, site, text};
+use page_tree::{NoMemory, Page};
+use site_hooks::{Closures, ConflictTeller, Fork, PageMaker, SiteHooks, SiteLaw, Table};
+use std::alloc::{AllocError, Global};
+use std::process::Abort;
+use std::test::Fail;
+use xpath_child::Path;
+
+const WITH_X: &str = r#"{"n":"html","c":[{"n":"p","c":["x"]}]}"#;
+
+const WITH_Y: &str = r#"{"n":"html","c":[{"n":"p","c":["y"]}]}"#;
+
+// That page at these addresses, and a watched paragraph.
+fn watching(alloc: Global, addresses: &[&str], of: &str) -> Result<Table, Fail> {
+    let mut table = site(alloc, addresses, of)?;
+    table.watch(Path::read(alloc, "/html/p")?)?;
+    Ok(table)
+}
+
+// How many nodes the page at an address has, if any.
+fn count_at<H: SiteHooks>(site: &H, address: &str) -> Result<Option<u32>, Fail> {
+    Ok(site.make(address)?.map(|page| page.node_count()))
+}
+
+fn signals_at<H: SiteHooks>(alloc: Global, site: &H, address: &str) -> Result<bool, Fail> {
+    let (old, new) = (page(alloc, WITH_X)?, page(alloc, WITH_Y)?);
+    Ok(site.signals(address, &old, &new)?)
+}
+
+#[test]
+fn table_has_pages_and_watches_paths(rt: HostRuntime) -> Result<(), Fail> {
+    let alloc = rt.alloc();
+    let mut table = watching(alloc, &["/p"], WITH_X)?;
+    assert_eq!(rt; count_at(&table, "/p")?, Some(3));
+    assert_eq!(rt; count_at(&table, "/q")?, None);
+    // A later page of the same address replaces, and a reference to a site is one.
+    table.add_page(text(alloc, "/p")?, page(alloc, NEW)?)?;
+    assert_eq!(rt; count_at(&&table, "/p")?, Some(4));
+    assert!(rt; signals_at(alloc, &&table, "/p")?);
+    Ok(())
+}
+
+// an address, and whether it begins with `/a`
+const PARTED: &[(&str, bool)] = &[
+    ("/a", true),
+    ("/ab", true),
+    ("/b", false),
+    ("", false),
+    ("/", false),
+];
+
+// Two sites with pages at all these addresses: that of the prefix has three nodes, and watches a path.
+fn forked(alloc: Global) -> Result<Fork<Table, Table>, Fail> {
+    let addresses = ["/a", "/ab", "/b", "", "/"];
+    let inside = watching(alloc, &addresses, WITH_X)?;
+    let outside = site(alloc, &addresses, OLD)?;
+    Ok(Fork::new(text(alloc, "/a")?, inside, outside))
+}
+
+#[test]
+fn fork_parts_addresses_by_their_prefix(rt: HostRuntime) -> Result<(), Fail> {
+    let alloc = rt.alloc();
+    let site = forked(alloc)?;
+    for &(address, within) in PARTED {
+        let count = if within { 3 } else { 4 };
+        assert_eq!(rt; count_at(&site, address)?, Some(count), "at {address}");
+        assert_eq!(rt;
+            signals_at(alloc, &site, address)?,
+            within,
+            "signals at {address}"
+        );
+    }
+    Ok(())
+}
+
+// What the site that two closures make answers at an address.
+fn ask<F: PageMaker + Sync + Drop, C: ConflictTeller + Sync + Drop, L: SiteLaw + Sync + Drop>(
+    maker: F,
+    teller: C,
+    law: L,
+    address: &str,
+    old: &Page,
+    new: &Page,
+) -> (Result<Option<Page>, NoMemory>, Result<bool, NoMemory>)
+    requires callable_maker { AtAddresses (F.can_make maker) }
+    requires lawful_maker { MakesBy (L.page_of law) (F.may_make maker) }
+    requires callable_teller { AtPages (C.can_tell teller) }
+    requires lawful_teller { TellsBy (L.signals law) (C.may_tell teller) }
+{
+    let site = Closures::new(maker, teller, law);
+    (site.make(address), site.signals(address, old, new))
+}
+
+// How many nodes the page has that closures over a table make at an address, and what they signal there.
+fn asked_of(alloc: Global, table: &Table, address: &str) -> Result<(Option<u32>, bool), Fail> {
+    let (old, new) = (page(alloc, WITH_X)?, page(alloc, WITH_Y)?);
+    let (made, told) = ask(
+        |at: &str| table.make(at),
+        |at: &str, old: &Page, new: &Page| table.signals(at, old, new),
+        &table,
+        address,
+        &old,
+        &new,
+    );
+    Ok((made?.map(|page| page.node_count()), told?))
+}
+
+#[test]
+fn closures_answer_by_their_law(rt: HostRuntime) -> Result<(), Fail> {
+    let table = watching(rt.alloc(), &["/p"], WITH_X)?;
+    assert_eq!(rt; asked_of(rt.alloc(), &table, "/p")?, (Some(3), true));
+    assert_eq!(rt; asked_of(rt.alloc(), &table, "/q")?, (None, true));
+    Ok(())
+}
+
+// A site that has no page and signals nothing.
+#[derive(Drop)]
+struct NoSite;
+
+impl SiteLaw for NoSite {
+    ghost page_of = { λ site address. None };
+
+    ghost signals = { λ site address old new. false };
+}
+
+#[test]
+fn closures_of_no_site(rt: HostRuntime) -> Result<(), Fail> {
+    let page = page(rt.alloc(), WITH_X)?;
+    let (made, told) = ask(
+        |_at: &str| Ok(None),
+        |_at: &str, _old: &Page, _new: &Page| Ok(false),
+        NoSite,
+        "/p",
+        &page,
+        &page,
+    );
+    assert!(rt; made?.is_none());
+    assert!(rt; !told?);
+    Ok(())
+}
+
+#[test]
+fn want_of_memory_is_passed_on(rt: HostRuntime) -> Result<(), Fail> {
+    let page = page(rt.alloc(), WITH_X)?;
+    let (made, told) = ask(
+        |_at: &str| Err(AllocError),
+        |_at: &str, _old: &Page, _new: &Page| Err(AllocError),
+        NoSite,
+        "/p",
+        &page,
+        &page,
+    );
+    assert!(rt; made.is_err());
+    assert!(rt; told.is_err());
+    Ok(())
+}
