@@ -1,5 +1,5 @@
 -- Where the first line feed stands, and so how long the next line is.
-use Rattle.std.proofs.Common.{◌≡◌, ℕ, zero, suc, ◌+◌, ◌-◌, ◌<◌, ◌≤◌, min, List, [], ◌∷◌, ◌++◌, length, take, drop, true, false, cond, not, nat_lt, position, Option, Some, None, ap, arith, length-take, length-drop}
+use Rattle.std.proofs.Common.{◌≡◌, ℕ, ◌+◌, ◌-◌, ◌<◌, ◌≤◌, min, List, ◌++◌, length, take, drop, cond, not, nat_lt, position, Option, Some, None, ap, arith, length-take, length-drop}
 use Rattle.std.specs.List.{position_or_len}
 use Rattle.std.proofs.lemmas.List.{take-append-drop, take_all}
 use Rattle.std.proofs.lemmas.List.Folds.{prefix_len-append}
@@ -15,15 +15,13 @@ before_feed bytes = position_or_len is_line_feed bytes
 pub feed_within : (bytes : List ℕ) → before_feed bytes ≤ length bytes
 feed_within bytes = prefix_len-le-length (λ b. not (is_line_feed b)) bytes
 
-before_feed-take : (n : ℕ) (bytes : List ℕ) → before_feed (take n bytes) ≡ min n (before_feed bytes)
-before_feed-take zero bytes = omega arith
-before_feed-take (suc n) [] = omega arith
-before_feed-take (suc n) (b ∷ bs) =
-    let rest = before_feed-take n bs in
-    elim (is_line_feed b) as (λ t. cond (not t) (1 + before_feed (take n bs)) 0 ≡ min (suc n) (cond (not t) (1 + before_feed bs) 0)) [ true ↦ omega arith | false ↦ omega arith ]
-
 before_feed-append : (front rest : List ℕ) → before_feed (front ++ rest) ≡ cond (nat_lt (before_feed front) (length front)) (before_feed front) (length front + before_feed rest)
 before_feed-append front rest = grind (arith, prefix_len-append (λ b. not (is_line_feed b)) front rest, feed_within front)
+
+before_feed-take : (n : ℕ) (bytes : List ℕ) → before_feed (take n bytes) ≡ min n (before_feed bytes)
+before_feed-take n bytes =
+    let whole : before_feed (take n bytes ++ drop n bytes) ≡ before_feed bytes = ap before_feed (take-append-drop n bytes) in
+    grind (arith, whole, before_feed-append (take n bytes) (drop n bytes), length-take n bytes, feed_within (take n bytes), feed_within bytes)
 
 -- more bytes behind them move it only where there was none
 pub still_before : (bytes more : List ℕ) → before_feed bytes < length bytes → before_feed (bytes ++ more) ≡ before_feed bytes

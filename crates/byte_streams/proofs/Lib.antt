@@ -1,11 +1,9 @@
 pub mod Steps
 pub mod Sent
 pub mod Feeds
-pub mod Cutting
 pub mod ReadLaws
 pub mod ReadingLaws
 pub mod Searching
-pub mod Advancing
 pub mod LineLaws
 pub mod CutLaws
 pub mod TextWriting

@@ -1,11 +1,11 @@
 -- What several reads in turn come to.
-use Rattle.std.proofs.Common.{◌≡◌, ℕ, ◌+◌, ◌-◌, ◌<◌, List, [], ◌∷◌, ◌++◌, length, take, Option, Some, None, refl, sym, ap, ◌∙◌, arith, append-nil, append_assoc, length-append}
+use Rattle.std.proofs.Common.{◌≡◌, ℕ, ◌+◌, ◌-◌, ◌<◌, List, [], ◌∷◌, ◌++◌, length, take, Option, Some, None, refl, sym, ap, ◌∙◌, arith, append-nil, append_assoc}
 use Rattle.std.proofs.lemmas.Grind.{common_steps}
 use Rattle.std.proofs.Math.Decide.{dec_le}
 use Rattle.std.proofs.Math.Nat.{lt_of_not-le}
 use Rattle.std.proofs.Math.Seq.{take-append-add}
-use Rattle.std.proofs.lemmas.List.{take_all, take-append-le}
-use Rattle.std.specs.Io.KnownBytes.{Consumes, Keeps}
+use Rattle.std.proofs.lemmas.List.{take-append-le}
+use Rattle.std.specs.Io.KnownBytes.{Consumes}
 use Rattle.byte_streams.specs.Answers.{Answer, bytes_of}
 use Rattle.byte_streams.specs.Reading.{Reading, WasRead, MadeWhile, ReadsWhile}
 
@@ -14,15 +14,9 @@ bytes_of-append earlier later = grind (arith, common_steps)
 
 -- ---- each made while something was undecided
 
--- no read was made
-pub made_none : (Undecided : List Answer → Type 0) (answers : List Answer) → MadeWhile Undecided answers answers
-made_none Undecided answers n low high = absurd (omega (arith, low, high))
-
 -- one read, where it was undecided
 pub made_one : (Undecided : List Answer → Type 0) (answers : List Answer) (answer : Answer) → Undecided answers → MadeWhile Undecided answers (answers ++ answer ∷ [])
-made_one Undecided answers answer undecided n low high =
-    let grown = length-append answers (answer ∷ []) in
-    rw (take-append-le n answers (answer ∷ []) (omega (arith, high, grown)), take_all n answers (omega (arith, low))) undecided
+made_one Undecided answers answer undecided n low high = grind (arith, common_steps)
 
 -- Reads that were made while `Before` held, and further ones while `Then` held: what `Then` says behind the first ones has to be a case of `Before`.
 pub made_then : (Before Then : List Answer → Type 0) (earlier middle later more : List Answer) → later ≡ middle ++ more → ((rest : List Answer) → Then (middle ++ rest) → Before (middle ++ rest))
@@ -48,7 +42,7 @@ module _ {R : Type 0} where
     first = first;
     more = [];
     answers = same ∙ sym (append-nil old.answers);
-    needed = rw same (made_none Undecided old.answers);
+    needed = rw same (λ n low high. absurd (omega (arith, low, high)));
   }
 
   -- one read was made
@@ -70,34 +64,16 @@ module _ {R : Type 0} where
 
 -- ---- the reader
 
-pub consumes_none : (known : Option (List ℕ)) → Consumes known known []
-consumes_none None = tt
-consumes_none (Some bytes) = refl
-
-pub consumes_then : (a b c : Option (List ℕ)) (xs ys : List ℕ) → Consumes a b xs → Consumes b c ys → Consumes a c (xs ++ ys)
-consumes_then None b c xs ys p q = tt
-consumes_then (Some x) None c xs ys p q = absurd p
-consumes_then (Some x) (Some y) None xs ys p q = absurd q
-consumes_then (Some x) (Some y) (Some z) xs ys p q = p ∙ ap (λ rest. xs ++ rest) q ∙ sym (append_assoc xs ys z)
-
-keeps_is : (a b : Option (List ℕ)) → Keeps a b → Consumes a b []
-keeps_is None b same = tt
-keeps_is (Some x) None same = same
-keeps_is (Some x) (Some y) same = sym same
-
 module _ {R : Type 0} (answers : R → List Answer) (remaining : R → Option (List ℕ)) where
   pub was_none : (first : R) → WasRead answers remaining first first []
-  was_none first = record { told = sym (append-nil (answers first)); bytes = consumes_none (remaining first) }
+  was_none first = record { told = sym (append-nil (answers first)); bytes = elim (remaining first) as (λ known. Consumes known known []) [ None ↦ tt | Some bytes ↦ refl ] }
 
   pub was_then : (first now new : R) (own more : List Answer) → WasRead answers remaining first now own → WasRead answers remaining now new more → WasRead answers remaining first new (own ++ more)
   was_then first now new own more before then = record {
     told = then.told ∙ ap (λ told. told ++ more) before.told ∙ append_assoc (answers first) own more;
-    bytes = rw (bytes_of-append own more) (consumes_then (remaining first) (remaining now) (remaining new) (bytes_of own) (bytes_of more) before.bytes then.bytes);
+    bytes = rw (bytes_of-append own more) (grind (arith, common_steps, before.bytes, then.bytes));
   }
 
-  -- a read that gave bytes, and one that failed
+  -- a read that gave bytes
   pub was_given : (now new : R) (bytes : List ℕ) → answers new ≡ answers now ++ Some bytes ∷ [] → Consumes (remaining now) (remaining new) bytes → WasRead answers remaining now new (Some bytes ∷ [])
   was_given now new bytes told consumed = record { told = told; bytes = rw (append-nil bytes) consumed }
-
-  pub was_failed : (now new : R) → answers new ≡ answers now ++ None ∷ [] → Keeps (remaining now) (remaining new) → WasRead answers remaining now new (None ∷ [])
-  was_failed now new told same = record { told = told; bytes = keeps_is (remaining now) (remaining new) same }

@@ -1,6 +1,7 @@
 -- How a stream of bytes is cut into lines: this project's own rule. The reads by which the bytes came don't occur in
 -- it.
-use Rattle.std.specs.Prelude.{◌≡◌, ℕ, ◌+◌, ◌<◌, List, length, take, Bool, ◌==◌, if◌then◌else◌, nat_lt, nat_le, position, find, option_map, Option, Some, None, Result, Ok, Err}
+use Rattle.std.specs.Prelude.{◌≡◌, ℕ, ◌+◌, ◌<◌, List, length, take, Bool, ◌==◌, if◌then◌else◌, nat_lt, nat_le, position, find, option_map, is_none, Option, Some, None, Result, Ok, Err}
+use Rattle.std.specs.Option.{option_map_or}
 use Rattle.byte_streams.specs.Answers.{Answer, moves_nothing}
 use Rattle.byte_streams.specs.Limits.{max_reads}
 use Rattle.byte_streams.specs.declared.fault.LineFault.{LineFault}
@@ -23,19 +24,12 @@ cut_by None limit bytes ending = if nat_lt limit (length bytes) then Some (Err L
 unfoldable pub cut : ℕ → List ℕ → Option LineFault → Option (Result (List ℕ) LineFault)
 cut limit bytes ending = cut_by (line_length limit bytes) limit bytes ending
 
--- what a read that gave nothing means: E1 where it failed, E3 where the input ended
-abbrev pub fault_of : Answer → LineFault
-fault_of None = ReadFailed
-fault_of (Some bytes) = Truncated
-
-abbrev end_by_count : Option Answer → ℕ → Option LineFault
-end_by_count (Some answer) reads = Some (fault_of answer)
-end_by_count None reads = if nat_le max_reads reads then Some TooManyReads else None
-
--- How the input of these reads ends: with the first one that failed or gave nothing, else with the last one that may be
--- made (E2), else not yet.
+-- How the input of these reads ends: with the first one that failed (E1) or gave nothing (E3), else with the last one
+-- that may be made (E2), else not yet.
 abbrev pub ending_of : List Answer → Option LineFault
-ending_of answers = end_by_count (find moves_nothing answers) (length answers)
+ending_of answers =
+    option_map_or (λ answer. Some (if is_none answer then ReadFailed else Truncated)) (find moves_nothing answers)
+    (if nat_le max_reads (length answers) then Some TooManyReads else None)
 
 -- No read was made once the input had ended.
 abbrev pub StopsAtEnd : List Answer → Type 0

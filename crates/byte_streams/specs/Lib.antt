@@ -1,13 +1,10 @@
 pub mod Limits
 pub mod LineFaultCode
 pub mod Answers
-pub mod Last
-pub mod Fed
-pub mod Told
+pub mod Streams
 pub mod Writing
 pub mod Cutting
 pub mod CompleteLines
 pub mod GoesOn
 pub mod Reading
-pub mod Giving
 pub mod inside

@@ -1,6 +1,7 @@
 -- What was read of a source, and how far it is cut into lines: what clauses see of a Lines, and what a call does to
 -- one.
-use Rattle.std.specs.Prelude.{◌≡◌, ℕ, ◌+◌, ◌*◌, ◌<◌, ◌≤◌, List, ◌++◌, length, take, drop, option_map, Option, Some, None, Result, Ok, Err, IsNone, IfSome, IsErrOf, MatchResult}
+use Rattle.std.specs.Prelude.{◌≡◌, ℕ, ◌+◌, ◌*◌, ◌<◌, ◌≤◌, List, ◌++◌, length, take, drop, Option, Some, None, Result, Ok, Err, IsNone, IfSome, IfOk, IsErrOf, MatchResult}
+use Rattle.std.specs.Borrow.{Bor}
 use Rattle.std.specs.Io.KnownBytes.{Consumes}
 use Rattle.byte_streams.specs.Answers.{Answer, bytes_of}
 use Rattle.byte_streams.specs.Cutting.{cut, ending_of}
@@ -29,23 +30,6 @@ abbrev pub uncut : {R : Type 0} → Reading R → List ℕ
 uncut lines = drop lines.place (input lines)
 
 -- ---- reads
-
--- What a call did to its source: what the reads had answered before it and behind it, and what was left to read then,
--- where that is known.
-pub record CallReads : Type 0 where
-  pub reads_before : List Answer
-  pub reads_after : List Answer
-  pub left_before : Option (List ℕ)
-  pub left_after : Option (List ℕ)
-
--- of a source of which these are known, from the one to the other
-abbrev pub reads_of : {R : Type 0} → (R → List Answer) → (R → Option (List ℕ)) → R → R → CallReads
-reads_of answers remaining before after = record {
-  reads_before = answers before;
-  reads_after = answers after;
-  left_before = remaining before;
-  left_after = remaining after;
-}
 
 -- From one reader to the other: its answers go on with these, and where its bytes are known, these were the first of
 -- them.
@@ -81,14 +65,9 @@ abbrev pub StopsLine : LineFault → Option (Result (List ℕ) LineFault) → Ty
 StopsLine NoMemory next = next ≡ None
 StopsLine fault next = next ≡ Some (Err fault)
 
--- no byte more came, and the fault is how the input ends, or there is no memory
-abbrev pub EndsReads : {R : Type 0} → Reading R → Reading R → LineFault → Type 0
-EndsReads old new fault = (input new ≡ input old) × StopsLine fault (option_map Err (ending_of new.answers))
-
 -- The answer is what the bytes hold next, a line or a fault.
 abbrev pub Tells : {A : Type 0} → Result A LineFault → List ℕ → Option (Result (List ℕ) LineFault) → Type 0
-Tells (Ok x) line next = next ≡ Some (Ok line)
-Tells (Err fault) line next = StopsLine fault next
+Tells result line next = MatchResult result (λ _. next ≡ Some (Ok line)) (λ fault. StopsLine fault next)
 
 -- What a call for the next line does, of at most so many bytes.
 pub record Advances {R A : Type 0} (limit : ℕ) (old new : Reading R) (result : Result A LineFault) : Type 0 where
@@ -98,3 +77,10 @@ pub record Advances {R A : Type 0} (limit : ℕ) (old new : Reading R) (result :
   pub fault : MatchResult result (λ _. new.fault ≡ None) (λ fault. new.fault ≡ Some fault)
   pub again : IfSome old.fault (λ fault. IsErrOf result fault × (new ≡ old))
   pub bounded : new.place ≤ read_bytes * max_reads
+
+-- What `next_line` does, by the time that the line is given back: the bytes that are given are the line, and the rest
+-- is what `advance` ensures.
+pub record GivesNext {R : Type 0} (limit : ℕ) (old new : Reading R) (result : Result (Bor (List ℕ)) LineFault)
+    : Type 0 where
+  pub value : IfOk result (λ line. line.now ≡ new.line)
+  pub advances : Advances limit old new result

@@ -1,7 +1,7 @@
 -- What writing a text does to its writer.
-use Rattle.std.specs.Prelude.{◌≡◌, ℕ, ◌<◌, List, ◌++◌, length, take, true, Option, Result, Ok, Err}
+use Rattle.std.specs.Prelude.{◌≡◌, ℕ, ◌<◌, List, ◌++◌, length, take, true, count_by, Option, Result, MatchResult}
 use Rattle.std.specs.Io.KnownBytes.{Appends}
-use Rattle.byte_streams.specs.Answers.{Answer, bytes_of, empty_of, last_moved_nothing}
+use Rattle.byte_streams.specs.Answers.{Answer, bytes_of, moves_nothing, last_moved_nothing}
 
 -- What a call did to its writer: what the writes had answered before it and behind it, and the contents then, where
 -- they are known.
@@ -13,12 +13,8 @@ pub record CallWrites : Type 0 where
 
 -- of a writer of which these are known, from the one to the other
 abbrev pub writes_of : {W : Type 0} → (W → List Answer) → (W → Option (List ℕ)) → W → W → CallWrites
-writes_of puts contents before after = record {
-  puts_before = puts before;
-  puts_after = puts after;
-  contents_before = contents before;
-  contents_after = contents after;
-}
+writes_of puts held old new =
+    record { puts_before = puts old; puts_after = puts new; contents_before = held old; contents_after = held new }
 
 -- The writer took just these bytes, in any number of writes, of which so many failed or took nothing. Where its
 -- contents are known, they grew by just these bytes.
@@ -26,7 +22,7 @@ pub record Takes (call : CallWrites) (bytes : List ℕ) (empty : ℕ) : Type 0 w
   pub more : List Answer
   pub puts_are : call.puts_after ≡ call.puts_before ++ more
   pub bytes_are : bytes_of more ≡ bytes
-  pub empty_are : empty_of more ≡ empty
+  pub empty_are : count_by moves_nothing more ≡ empty
   pub contents_are : Appends call.contents_before call.contents_after bytes
 
 -- It took a part from the front of the text. Just one write failed or took nothing, and it was the last.
@@ -38,8 +34,7 @@ pub record TakesPart (call : CallWrites) (text : List ℕ) : Type 0 where
 
 -- It took the whole text, or else a part.
 abbrev pub WritesText : {E : Type 0} → CallWrites → List ℕ → Result (Unit {0}) E → Type 0
-WritesText call text (Ok done) = Takes call text 0
-WritesText call text (Err fault) = TakesPart call text
+WritesText call text result = MatchResult result (λ _. Takes call text 0) (λ _. TakesPart call text)
 
 -- It took nothing, and was not asked to.
 pub record WritesNothing (call : CallWrites) : Type 0 where

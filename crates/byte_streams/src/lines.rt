@@ -1,11 +1,11 @@
 //! Lines that are cut from a source, each when it is asked for.
-ghost use Rattle.std.specs.Prelude.{◌≡◌, ◌+◌, ◌<◌, ◌≤◌, [], length, option_map, Err, Some, None, IfSome, IfOk, IfErr, OnOk, MatchResult};
+ghost use Rattle.std.specs.Prelude.{◌≡◌, ◌+◌, ◌<◌, ◌≤◌, [], length, option_map, Err, Some, None, IfSome, IfOk, IfErr, OnOk, OnErr, MatchResult};
 ghost use Rattle.std.specs.List.{position_or_len};
 ghost use Rattle.std.specs.Borrow.{sem};
 ghost use Rattle.std.specs.Io.BufRead.{Rests};
 ghost use Rattle.byte_streams.specs.Answers.{failures_of};
 ghost use Rattle.byte_streams.specs.Cutting.{cut, line_length, ending_of, is_line_feed, StopsAtEnd};
-ghost use Rattle.byte_streams.specs.Reading.{input, uncut, WasRead, ReadsWhile, NoLineYet, EndsReads, StopsLine, Advances, failures_told};
+ghost use Rattle.byte_streams.specs.Reading.{input, uncut, WasRead, ReadsWhile, NoLineYet, StopsLine, Advances, failures_told};
 
 use crate::fault::LineFault;
 use crate::history::History;
@@ -31,11 +31,11 @@ pub struct Lines<R: Source> {
 }
 
 impl<R: Source> Model for Lines<R> {
-    ghost use Rattle.std.specs.Prelude.{◌≡◌, ◌-◌, length, vec_len};
+    ghost use Rattle.std.specs.Prelude.{◌≡◌, ◌-◌, length, drop, vec_len};
     ghost use Rattle.byte_streams.specs.Answers.{bytes_of};
     ghost use Rattle.byte_streams.specs.Limits.{read_bytes};
     ghost use Rattle.byte_streams.specs.Reading.{Reading, WasRead};
-    ghost use Rattle.byte_streams.specs.inside.Kept.{IsTail, ReadsMade};
+    ghost use Rattle.byte_streams.specs.inside.{ReadsMade};
 
     ghost Value = { Reading R };
 
@@ -49,13 +49,13 @@ impl<R: Source> Model for Lines<R> {
 
     ghost invariant = { λ l. (vec_len l.chunk ≡ read_bytes)
         × ReadsMade l.history.answers l.reads l.fault
-        × IsTail (bytes_of l.history.answers) l.window.kept
+        × (drop (length (bytes_of l.history.answers) - length l.window.kept) (bytes_of l.history.answers) ≡ l.window.kept)
         × WasRead R.answers R.remaining l.first.value l.reader l.history.answers
         × (R.lender l.reader ≡ R.lender l.first.value) };
 }
 
 impl<R: Source> Lines<R> {
-    ghost use Rattle.byte_streams.specs.Giving.{GivesNext};
+    ghost use Rattle.byte_streams.specs.Reading.{GivesNext};
     ghost use Rattle.byte_streams.specs.contracts.lines.Lines.{the_row};
 
     /// The lines of what the source gives from here on.
@@ -157,12 +157,14 @@ impl<R: Source> Lines<R> {
     }
 
     // One read more, behind the bytes that aren't cut: E1, E2 or E3 where none gives bytes.
+    #[tactic(auto, using(crate::proofs::ReadLaws::ended))]
     fn fill(&mut self) -> Result<(), LineFault>
         requires going { self.old.fault ≡ None }
         ensures reads { ReadsWhile (λ answers. answers ≡ self.old.answers) self.old self.new }
         ensures place { self.new.place ≡ self.old.place }
         ensures grows { OnOk result (length self.old.answers < length self.new.answers) }
-        ensures ends { IfErr result (EndsReads self.old self.new) }
+        ensures nothing { OnErr result (input self.new ≡ input self.old) }
+        ensures ends { IfErr result (λ fault. StopsLine fault (option_map Err (ending_of self.new.answers))) }
         ensures fault { MatchResult result (λ _. self.new.fault ≡ None) (λ fault. self.new.fault ≡ Some fault) }
     {
         if self.reads == MAX_READS {

@@ -51,7 +51,7 @@ pub struct Told<W> {
 }
 
 impl<W: Write> Told<W> {
-    ghost use Rattle.byte_streams.specs.Told.{told_writer, told_puts};
+    ghost use Rattle.byte_streams.specs.Streams.{told_writer, told_puts};
 
     /// A sink that wasn't written to yet.
     pub fn new(writer: W) -> Told<W>
@@ -67,7 +67,7 @@ impl<W: Write> Told<W> {
 }
 
 impl<W: Write> Write for Told<W> {
-    ghost use Rattle.byte_streams.specs.Told.{told_writer, told_puts};
+    ghost use Rattle.byte_streams.specs.Streams.{told_writer, told_puts};
 
     ghost contents = { λ told. W.contents (told_writer told) };
 
@@ -99,7 +99,7 @@ impl<W: Write> Write for Told<W> {
 }
 
 impl<W: Write> Sink for Told<W> {
-    ghost use Rattle.byte_streams.specs.Told.{told_puts};
+    ghost use Rattle.byte_streams.specs.Streams.{told_puts};
 
     ghost puts = { λ told. told_puts told };
 

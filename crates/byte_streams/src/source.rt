@@ -3,8 +3,7 @@ ghost use Rattle.std.specs.Prelude.{◌≡◌, length, [], ◌∷◌, ◌++◌, 
 ghost use Rattle.std.specs.Borrow.{GName};
 ghost use Rattle.std.specs.Io.{ReadsAtMost};
 ghost use Rattle.std.specs.Io.KnownBytes.{ReadConsumes};
-ghost use Rattle.byte_streams.specs.Answers.{Answer, answer_of};
-ghost use Rattle.byte_streams.specs.Last.{last_read};
+ghost use Rattle.byte_streams.specs.Answers.{Answer, answer_of, last_read};
 ghost use Rattle.byte_streams.specs.Limits.{read_bytes};
 
 use crate::history::History;
@@ -70,7 +69,7 @@ pub struct Fed<R> {
 }
 
 impl<R: Read> Fed<R> {
-    ghost use Rattle.byte_streams.specs.Fed.{fed_reader, fed_answers};
+    ghost use Rattle.byte_streams.specs.Streams.{fed_reader, fed_answers};
 
     /// A source that wasn't read yet.
     pub fn new(reader: R) -> Fed<R>
@@ -86,7 +85,7 @@ impl<R: Read> Fed<R> {
 }
 
 impl<R: Read> Read for Fed<R> {
-    ghost use Rattle.byte_streams.specs.Fed.{fed_reader, fed_answers};
+    ghost use Rattle.byte_streams.specs.Streams.{fed_reader, fed_answers};
 
     ghost remaining = { λ fed. R.remaining (fed_reader fed) };
 
@@ -115,7 +114,7 @@ impl<R: Read> Read for Fed<R> {
 }
 
 impl<R: Read + Send> Source for Fed<R> {
-    ghost use Rattle.byte_streams.specs.Fed.{fed_answers};
+    ghost use Rattle.byte_streams.specs.Streams.{fed_answers};
 
     ghost answers = { λ fed. fed_answers fed };
 

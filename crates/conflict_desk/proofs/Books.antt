@@ -1,66 +1,41 @@
 -- The books on a desk.
-use Rattle.std.proofs.Common.{◌≡◌, ◌≢◌, ℕ, zero, suc, List, [], ◌∷◌, ◌++◌, length, map, Bool, true, false, bytes_eq, position, Option, Some, None, slice_get, ap, sym, refl, ◌∙◌, Result, Ok, Err, append-nil, append_assoc, arith}
+use Rattle.std.proofs.Common.{◌≡◌, ℕ, zero, suc, List, [], ◌∷◌, ◌++◌, length, map, Bool, false, bytes_eq, position, Some, None, slice_get, ap, sym, refl, ◌∙◌, Result, Ok, Err, append-nil, append_assoc, arith}
+use Rattle.std.proofs.lemmas.Option.{same_Some}
 use Rattle.std.specs.Map.{keys_of, values_of, lookup}
 use Rattle.std.specs.List.{AllByRecursion}
-use Rattle.std.proofs.lemmas.Bool.{cond-true, cond-false, ne_eqb, eq-eqb}
+use Rattle.std.proofs.lemmas.Bool.{cases_Bool, cond-true, cond-false}
 use Rattle.std.specs.Result.{IfErr, OnOk}
 use Rattle.std.specs.List.{IsDistinct}
 use Rattle.std.specs.Cmp.Lexicographic.{nat_list_eq_equiv}
 use Rattle.indexmap.specs.IndexMap.{insert_all, set_value_at}
 use Rattle.indexmap.proofs.MapLemmas.{insert_entry-first, insert_entry-absent, absent_from_lookup, Found-position}
-use Rattle.conflict_desk.specs.Book.{Book, new_book, is_decided, is_cancelled, standing_by, standing_in, front_visit, with_decision}
-use Rattle.conflict_desk.specs.Desk.{book_of, is_front, refusal_in, decided_on, decided_in, new_books}
+use Rattle.conflict_desk.specs.Book.{Book, new_book, is_decided, is_cancelled, standing_by, standing_in, with_decision}
+use Rattle.conflict_desk.specs.Desk.{book_of, decided_on, decided_in, new_books}
 use Rattle.conflict_desk.specs.declared.docket.Docket.{Docket}
 use Rattle.conflict_desk.specs.declared.decided.Choice.{Choice}
-use Rattle.conflict_desk.specs.declared.fault.DeskFault.TheVariants.{NotFront}
 use Rattle.visit_replay.specs.declared.outcome.Outcome.{Outcome}
 use Rattle.visit_replay.specs.declared.outcome.Outcome.TheVariants as outcome
 use Rattle.conflict_desk.specs.Laws.{IsBelowCancelled}
 use Rattle.conflict_desk.specs.declared.docket.Case.{Case}
 use Rattle.conflict_desk.specs.declared.decided.Standing.TheVariants as standing
 use Rattle.conflict_desk.proofs.Chains.{below_cancelled, cancelled_below}
-use Rattle.conflict_desk.proofs.Gets.{same_some, not_none, there_is}
 
 pub value_same : (books : List (List ℕ × Book)) (place : ℕ) (book : Book) → slice_get (values_of books) place ≡ Some book → set_value_at books place book ≡ books
 value_same [] place book at = refl
-value_same (e ∷ books) zero book at = ap (λ b. (e.0, b) ∷ books) (sym (same_some e.1 book at))
+value_same (e ∷ books) zero book at = ap (λ b. (e.0, b) ∷ books) (sym (same_Some e.1 book at))
 value_same (e ∷ books) (suc place) book at = ap (λ l. e ∷ l) (value_same books place book at)
 
-module _ (client : List ℕ) (visit : ℕ) (books : List (List ℕ × Book)) (place : ℕ) (at : position (bytes_eq client) (keys_of books) ≡ Some place) where
-  pub book_at : (book : Book) → book_of client books ≡ Some book → slice_get (values_of books) place ≡ Some book
-  book_at book is = sym (Found-position (bytes_eq client) books place at).value ∙ is
+module _ (client : List ℕ) (books : List (List ℕ × Book)) (place : ℕ) (at : Some place ≡ position (bytes_eq client) (keys_of books)) (book : Book)
+    (here : Some book ≡ slice_get (values_of books) place) where
+  pub book_here : book_of client books ≡ Some book
+  book_here = (Found-position (bytes_eq client) books place (sym at)).value ∙ sym here
 
-  pub decided_by : (choice : Choice) (new : List (List ℕ × Book)) (book : Book) → book_of client books ≡ Some book → new ≡ set_value_at books place (with_decision visit choice book) → new ≡ decided_on client visit choice books
-  decided_by choice new book is made =
-      made
-      ∙ sym (insert_entry-first bytes_eq client (with_decision visit choice book) books place (Found-position (bytes_eq client) books place at).first)
-      ∙ sym (ap (decided_in client visit choice books) is)
-
--- the client's book, where it has a place
-pub record IsThere (client : List ℕ) (books : List (List ℕ × Book)) (place : ℕ) : Type 0 where
-  pub book : Book
-  pub is : book_of client books ≡ Some book
-  pub at : slice_get (values_of books) place ≡ Some book
-
-values_length : (books : List (List ℕ × Book)) → length (values_of books) ≡ length books
-values_length [] = refl
-values_length (e ∷ books) = ap suc (values_length books)
-
-pub there_at : (client : List ℕ) (books : List (List ℕ × Book)) (place : ℕ) → position (bytes_eq client) (keys_of books) ≡ Some place → IsThere client books place
-there_at client books place at =
-    let found = Found-position (bytes_eq client) books place at in
-    let there = there_is (values_of books) place (omega (arith, found.within, values_length books)) in
-    record { book = there.0; is = found.value ∙ there.1; at = there.1 }
-
-pub not_front : (visit : ℕ) (o : Option ℕ) → o ≢ Some visit → is_front visit o ≡ false
-not_front visit None other = refl
-not_front visit (Some front) other = ne_eqb _ _ (λ same. other (ap (λ v. Some v) same))
-
-pub refused_is : (visit : ℕ) (book : Book) → front_visit book ≢ Some visit → refusal_in visit (Some book) ≡ Some (NotFront (front_visit book))
-refused_is visit book other = cond-false (is_front visit (front_visit book)) None (Some (NotFront (front_visit book))) (not_front visit (front_visit book) other)
-
-pub accepted_is : (visit : ℕ) (book : Book) → front_visit book ≡ Some visit → refusal_in visit (Some book) ≡ None
-accepted_is visit book front = cond-true (is_front visit (front_visit book)) None (Some (NotFront (front_visit book))) (ap (is_front visit) front ∙ eq-eqb visit visit refl)
+  pub decided_here : (visit : ℕ) (choice : Choice) (new : Book) → new ≡ with_decision visit choice book
+      → set_value_at books place new ≡ decided_on client visit choice books
+  decided_here visit choice new made =
+      ap (set_value_at books place) made
+      ∙ sym (insert_entry-first bytes_eq client (with_decision visit choice book) books place (Found-position (bytes_eq client) books place (sym at)).first)
+      ∙ sym (ap (decided_in client visit choice books) book_here)
 
 pub err_more : {T E : Type 0} (r : Result T E) (P Q : E → Type 0) → ((e : E) → P e → Q e) → IfErr r P → IfErr r Q
 err_more (Ok x) P Q more holds = holds
@@ -74,13 +49,7 @@ ok_more (Err e) P Q more holds = holds
 
 absent_push : (k key : List ℕ) (book : Book) (books : List (List ℕ × Book)) → lookup (bytes_eq k) books ≡ None → bytes_eq k key ≡ false → lookup (bytes_eq k) (books ++ (key, book) ∷ []) ≡ None
 absent_push k key book [] none other = cond-false (bytes_eq k key) (Some book) None other
-absent_push k key book (e ∷ books) none other = absent_by (bytes_eq k e.0) refl (absent_push k key book books)
-  where
-    absent_by : (b : Bool) → bytes_eq k e.0 ≡ b → (lookup (bytes_eq k) books ≡ None → bytes_eq k key ≡ false → lookup (bytes_eq k) (books ++ (key, book) ∷ []) ≡ None) → lookup (bytes_eq k) ((e ∷ books) ++ (key, book) ∷ []) ≡ None
-    absent_by true is rest = absurd (not_none e.1 (sym (cond-true (bytes_eq k e.0) (Some e.1) (lookup (bytes_eq k) books) is) ∙ none))
-    absent_by false is rest =
-        cond-false (bytes_eq k e.0) (Some e.1) (lookup (bytes_eq k) (books ++ (key, book) ∷ [])) is
-        ∙ rest (sym (cond-false (bytes_eq k e.0) (Some e.1) (lookup (bytes_eq k) books) is) ∙ none) other
+absent_push k key book (e ∷ books) none other = grind (arith, absent_push k key book books)
 
 all_absent : (key : List ℕ) (book : Book) (books : List (List ℕ × Book)) (dockets : List Docket) → AllByRecursion (λ docket. lookup (bytes_eq docket.client) books ≡ None) dockets
     → AllByRecursion (λ client. bytes_eq key client ≡ false) (map (λ docket. docket.client) dockets) → AllByRecursion (λ docket. lookup (bytes_eq docket.client) (books ++ (key, book) ∷ []) ≡ None) dockets
@@ -108,17 +77,11 @@ all_inserted dockets distinct = insert_behind [] dockets (none_yet dockets) dist
 -- ---- cancelled visits stand cancelled, and no others
 
 never_by : (o : Outcome) (decided : Bool) → standing_by o decided ≡ standing.Cancelled → ⊥
-never_by outcome.Untouched decided is = cc
-never_by (outcome.Done requests) decided is = cc
-never_by (outcome.Conflict requests at kind) true is = cc
-never_by (outcome.Conflict requests at kind) false is = cc
-
-only_by : (book : Book) (c : Case) (b : Bool) → is_cancelled book c ≡ b → standing_in book c ≡ standing.Cancelled → is_cancelled book c ≡ true
-only_by book c true is stands = is
-only_by book c false is stands = absurd (never_by c.outcome (is_decided book.decisions c.visit) (sym (cond-false (is_cancelled book c) standing.Cancelled (standing_by c.outcome (is_decided book.decisions c.visit)) is) ∙ stands))
+never_by o decided is = grind arith
 
 pub stands_below : (book : Book) (c : Case) → standing_in book c ≡ standing.Cancelled → IsBelowCancelled book c
-stands_below book c stands = below_cancelled book c (only_by book c (is_cancelled book c) refl stands)
+stands_below book c stands =
+    below_cancelled book c (grind (arith, cases_Bool (is_cancelled book c), never_by c.outcome (is_decided book.decisions c.visit)))
 
 pub below_stands : (book : Book) (c : Case) → IsBelowCancelled book c → standing_in book c ≡ standing.Cancelled
 below_stands book c below = cond-true (is_cancelled book c) standing.Cancelled (standing_by c.outcome (is_decided book.decisions c.visit)) (cancelled_below book c below)

@@ -2,7 +2,7 @@
 use Rattle.std.proofs.Common.{◌≡◌, ◌≢◌, ℕ, zero, suc, ◌<◌, List, [], ◌∷◌, ◌++◌, true, false, ◌||◌, ◌&&◌, ◌==◌, Option, Some, None, inl, inr, ap, sym, refl, ◌∙◌, arith}
 use Rattle.std.specs.List.{list_any}
 use Rattle.std.specs.Option.{option_map_or}
-use Rattle.std.proofs.lemmas.Bool.{eq-eqb, ne_eqb, or_cases, or_parts, or_left, or_right, or_from, and_left, false≢true}
+use Rattle.std.proofs.lemmas.Bool.{eq-eqb, ne_eqb, or_cases, or_parts, or_left, or_right, and_left, false≢true}
 use Rattle.std.proofs.Math.Bool.{or-false}
 use Rattle.std.proofs.lemmas.List.Folds.{list_any-append}
 use Rattle.conflict_desk.specs.Docket.{parent_of}
@@ -64,9 +64,7 @@ module _ (book : Book) where
 
 pub undecided_stays : (decisions : List Decided) (visit : ℕ) → is_decided decisions visit ≡ false → was_cancelled decisions visit ≡ false
 undecided_stays [] visit none = refl
-undecided_stays (d ∷ decisions) visit none =
-    let parts = or_parts _ _ none in
-    or_from _ _ (and_left (d.visit == visit) (is_cancel d.choice) parts.0) (undecided_stays decisions visit parts.1)
+undecided_stays (d ∷ decisions) visit none = grind (arith, undecided_stays decisions visit)
 
 module _ (decisions : List Decided) (visit : ℕ) (choice : Choice) where
   pub decided_more : (other : ℕ) → is_decided (decisions ++ record { visit = visit; choice = choice } ∷ []) other ≡ (is_decided decisions other || visit == other)

@@ -1,5 +1,5 @@
 -- Which dockets a desk takes.
-use Rattle.std.proofs.Common.{◌≡◌, ◌↔◌, ℕ, ◌+◌, ◌-◌, ◌<◌, ◌≤◌, List, [], ◌∷◌, length, map, get_or, false, bytes_eq, option_map, inl, inr, ap, sym, refl, subst, ◌∙◌, arith}
+use Rattle.std.proofs.Common.{◌≡◌, ◌↔◌, ℕ, ◌+◌, ◌-◌, ◌<◌, ◌≤◌, List, [], ◌∷◌, length, map, get_or, false, bytes_eq, option_map, ap, sym, refl, subst, ◌∙◌, arith}
 use Rattle.std.specs.List.{AllByRecursion, IsDistinct, list_any}
 use Rattle.std.proofs.lemmas.Bool.{cases_lt, or_parts, or_from}
 use Rattle.std.proofs.lemmas.Map.Keys.{IsDistinct-head, IsDistinct-tail, IsDistinct-cons}
@@ -20,18 +20,13 @@ none_to : (client : List ℕ) (dockets : List Docket) → AllByRecursion (λ oth
 none_to client [] none = refl
 none_to client (docket ∷ dockets) none = or_from _ _ none.0 (none_to client dockets none.1)
 
-module _ (docket : Docket) (others : List Docket) where
-  one_more : AreAscending docket.cases → list_any (λ other. bytes_eq docket.client other.client) others ≡ false → AreDockets others → AreDockets (docket ∷ others)
-  one_more up alone are = record {
-    clients = IsDistinct-cons bytes_eq docket.client (map (λ docket. docket.client) others) (none_from docket.client others alone) are.clients;
-    visits = (up, are.visits);
-  }
-
-  one_less : AreDockets (docket ∷ others) → AreDockets others
-  one_less are = record { clients = IsDistinct-tail bytes_eq docket.client (map (λ docket. docket.client) others) are.clients; visits = are.visits.1 }
-
-  is_alone : AreDockets (docket ∷ others) → list_any (λ other. bytes_eq docket.client other.client) others ≡ false
-  is_alone are = none_to docket.client others (IsDistinct-head bytes_eq docket.client (map (λ docket. docket.client) others) are.clients)
+one_docket : (docket : Docket) (others : List Docket)
+    → AreDockets (docket ∷ others) ↔ (AreAscending docket.cases × (list_any (λ other. bytes_eq docket.client other.client) others ≡ false) × AreDockets others)
+one_docket docket others =
+    let clients = map (λ (docket : Docket). docket.client) others in (
+      (λ are. (are.visits.0, none_to docket.client others (IsDistinct-head bytes_eq docket.client clients are.clients), record { clients = IsDistinct-tail bytes_eq docket.client clients are.clients; visits = are.visits.1 })),
+      (λ parts. record { clients = IsDistinct-cons bytes_eq docket.client clients (none_from docket.client others parts.1) parts.2.clients; visits = (parts.0, parts.2.visits) }),
+    )
 
 none_left : (dockets : List Docket) → length dockets ≡ 0 → AreDockets dockets
 unfolding IsDistinct
@@ -47,12 +42,12 @@ module _ (all rest : List Docket) (so_far : AreDockets rest ↔ AreDockets all) 
   module _ (docket : Docket) (others : List Docket) (is : rest ≡ docket ∷ others) where
     pub one_on : AreAscending docket.cases → list_any (λ other. bytes_eq docket.client other.client) others ≡ false → AreDockets others ↔ AreDockets all
     one_on up alone = (
-      (λ are. so_far.0 (subst AreDockets (sym is) (one_more docket others up alone are))),
-      (λ are. one_less docket others (subst AreDockets is (so_far.1 are))),
+      (λ are. so_far.0 (subst AreDockets (sym is) ((one_docket docket others).1 (up, alone, are)))),
+      (λ are. ((one_docket docket others).0 (subst AreDockets is (so_far.1 are))).2),
     )
 
     pub not_twice : AreDockets all → list_any (λ other. bytes_eq docket.client other.client) others ≡ false
-    not_twice are = is_alone docket others (subst AreDockets is (so_far.1 are))
+    not_twice are = ((one_docket docket others).0 (subst AreDockets is (so_far.1 are))).1
 
 -- ---- one docket's order
 
@@ -65,18 +60,7 @@ visit_at cases k d within =
     get_or_from_slice_get (map (λ case. case.visit) cases) k (get_or cases k d).visit 0 (slice_get-map (λ (case : Case). case.visit) cases k ∙ ap (option_map (λ case. case.visit)) (slice_get-get_or cases k d within))
 
 pub ascend_more : (cases : List Case) (k : ℕ) (d e : Case) → AscendTo cases k → 1 ≤ k → k < length cases → (get_or cases (k - 1) d).visit < (get_or cases k e).visit → AscendTo cases (k + 1)
-ascend_more cases k d e so_far first within less i below = elim (cases_lt (i + 1) k) [
-  | inl before ↦ so_far i before
-  | inr last ↦
-      let here : k ≡ i + 1 = omega (arith, last, below) in
-      let one : k - 1 ≡ i = omega (arith, here) in
-      omega (
-        arith,
-        visit_at cases i d (omega (arith, here, within)),
-        visit_at cases (i + 1) e (omega (arith, here, within)),
-        subst (λ j. (get_or cases j d).visit < (get_or cases (i + 1) e).visit) one (subst (λ j. (get_or cases (k - 1) d).visit < (get_or cases j e).visit) here less),
-      )
-]
+ascend_more cases k d e so_far first within less i below = grind (arith, cases_lt (i + 1) k, so_far i, visit_at cases i d, visit_at cases (i + 1) e)
 
 -- where a number isn't below the next, they don't ascend
 pub falls_there : (cases : List Case) (k : ℕ) (d e : Case) → AreAscending cases → 1 ≤ k → k < length cases → (get_or cases k e).visit ≤ (get_or cases (k - 1) d).visit → ⊥

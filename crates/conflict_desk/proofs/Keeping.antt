@@ -1,25 +1,24 @@
 -- What an open docket keeps.
-use Rattle.std.proofs.Common.{◌≡◌, ℕ, ◌+◌, ◌<◌, ◌≤◌, List, [], ◌∷◌, ◌++◌, length, get_or, Bool, true, false, not, Some, None, slice_get, option_map, nat_lt, cond, ◌⊎◌, inl, inr, ap, sym, refl, subst, ◌∙◌, length-append, arith}
+use Rattle.std.proofs.Common.{◌≡◌, ◌≢◌, ℕ, ◌+◌, ◌<◌, ◌≤◌, List, [], ◌∷◌, ◌++◌, length, get_or, Bool, true, false, Some, None, slice_get, option_map, ◌⊎◌, inl, inr, ap, sym, refl, subst, ◌∙◌, length-append, arith}
 use Rattle.std.proofs.Math.ListN.{set}
-use Rattle.std.specs.Option.{option_map_or}
-use Rattle.std.proofs.lemmas.Bool.{cases_lt, true≢false, not-true, not-false, and_parts, and_from, and_left, and_right, and_cases, cond-true, cond-false, ltb-true, ltb-false}
+use Rattle.std.proofs.lemmas.Bool.{cases_order, eq-eqb, ne_eqb}
 use Rattle.std.proofs.lemmas.List.{length-set}
-use Rattle.std.proofs.lemmas.Option.{slice_get-get_or}
-use Rattle.visit_replay.specs.declared.outcome.Outcome.{Outcome}
-use Rattle.visit_replay.specs.declared.outcome.Outcome.TheVariants.{Untouched, Done, Conflict}
+use Rattle.std.proofs.lemmas.Option.{slice_get_within, slice_get-get_or}
 use Rattle.conflict_desk.specs.Docket.{AreAscending, is_conflict}
-use Rattle.conflict_desk.specs.Book.{Book, new_book, is_cancel, is_decided, is_cancelled, waits, front_visit, with_decision, standing_by, standing_in}
+use Rattle.conflict_desk.specs.Book.{Book, new_book, is_cancel, is_decided, is_cancelled, waits, front_visit, with_decision}
 use Rattle.conflict_desk.specs.declared.decided.Standing.TheVariants as standing
+use Rattle.conflict_desk.specs.Desk.{refusal_of}
+use Rattle.conflict_desk.specs.declared.fault.DeskFault.TheVariants.{NotFront}
 use Rattle.conflict_desk.specs.inside.Links.{Follows, AreLinks}
 use Rattle.conflict_desk.specs.inside.Settling.{Tell, IsSettled, Settles}
 use Rattle.conflict_desk.specs.inside.Kept.{cancelled_at, IsKept}
 use Rattle.conflict_desk.specs.declared.docket.Case.{Case}
 use Rattle.conflict_desk.specs.declared.decided.Choice.{Choice}
 use Rattle.conflict_desk.specs.declared.links.Link.{Link}
-use Rattle.conflict_desk.proofs.Gets.{same_some, there_is, is_within, find_is, find_none}
+use Rattle.conflict_desk.proofs.Gets.{there_is, find_is, find_none}
 use Rattle.conflict_desk.proofs.Places.{in_order}
 use Rattle.conflict_desk.proofs.Chains.{decided_other, decided_now, decided_still, cancelled_before, cancelled_still, cancelled_now}
-use Rattle.conflict_desk.proofs.Ways.{cancelled_follows}
+use Rattle.conflict_desk.proofs.Ways.{at_case, cancelled_follows}
 use Rattle.conflict_desk.proofs.Fronts.{tell_more}
 
 -- ---- who waits
@@ -27,40 +26,22 @@ use Rattle.conflict_desk.proofs.Fronts.{tell_more}
 module _ (book : Book) (c : Case) where
   -- why a case doesn't wait
   pub why : waits book c ≡ false → (is_conflict c.outcome ≡ false) ⊎ ((is_decided book.decisions c.visit ≡ true) ⊎ (is_cancelled book c ≡ true))
-  why none = elim (and_cases _ _ none) [
-    | inl left ↦ elim (and_cases _ _ left) [
-      | inl quiet ↦ inl quiet
-      | inr done ↦ inr (inl (not-false _ done))
-    ]
-    | inr went ↦ inr (inr (not-false _ went))
-  ]
+  why none = grind arith
 
   pub no_wait : (is_conflict c.outcome ≡ false) ⊎ ((is_decided book.decisions c.visit ≡ true) ⊎ (is_cancelled book c ≡ true)) → waits book c ≡ false
-  no_wait (inl quiet) = and_left _ _ (and_left _ _ quiet)
-  no_wait (inr (inl done)) = and_left _ _ (and_right _ _ (ap not done))
-  no_wait (inr (inr went)) = and_right _ _ (ap not went)
+  no_wait reason = grind arith
 
   pub it_waits : is_conflict c.outcome ≡ true → is_decided book.decisions c.visit ≡ false → is_cancelled book c ≡ false → waits book c ≡ true
-  it_waits conflict undecided stays = and_from _ _ (and_from _ _ conflict (ap not undecided)) (ap not stays)
+  it_waits conflict undecided stays = grind arith
 
   pub waiting_parts : waits book c ≡ true → (is_conflict c.outcome ≡ true) × (is_decided book.decisions c.visit ≡ false) × (is_cancelled book c ≡ false)
-  waiting_parts is = let outer = and_parts _ _ is in let inner = and_parts _ _ outer.0 in (inner.0, not-true _ inner.1, not-true _ outer.1)
-
-  quiet_or : (b : Bool) → is_conflict c.outcome ≡ b → (is_conflict c.outcome ≡ true → is_cancelled book c ≡ true) → waits book c ≡ false
-  quiet_or true is went = no_wait (inr (inr (went is)))
-  quiet_or false is went = no_wait (inl is)
+  waiting_parts is = grind arith
 
   pub no_wait_where : (is_conflict c.outcome ≡ true → is_cancelled book c ≡ true) → waits book c ≡ false
-  no_wait_where went = quiet_or (is_conflict c.outcome) refl went
+  no_wait_where went = grind arith
 
 pub no_wait_still : (book : Book) (visit : ℕ) (choice : Choice) (c : Case) → waits book c ≡ false → waits (with_decision visit choice book) c ≡ false
-no_wait_still book visit choice c none = elim (why book c none) [
-  | inl quiet ↦ no_wait (with_decision visit choice book) c (inl quiet)
-  | inr other ↦ elim other [
-    | inl done ↦ no_wait (with_decision visit choice book) c (inr (inl (decided_still book.decisions visit choice c.visit done)))
-    | inr went ↦ no_wait (with_decision visit choice book) c (inr (inr (cancelled_still book visit choice c went)))
-  ]
-]
+no_wait_still book visit choice c none = grind (arith, decided_still book.decisions visit choice c.visit, cancelled_still book visit choice c)
 
 -- ---- the front
 
@@ -68,16 +49,22 @@ module _ (book : Book) (links : List Link) (flags : List Bool) (next : ℕ) (kep
   pub front_at : (items : List Case) (d : Case) → items ≡ book.cases → next < length items → Some (get_or items next d).visit ≡ front_visit book
   front_at items d same within =
       let at = ap (λ l. slice_get l next) (sym same) ∙ slice_get-get_or items next d within in
-      sym (ap (option_map (λ case. case.visit)) (find_is (waits book) book.cases next (get_or items next d) at (kept.front _ at) (λ j y less here. kept.passed j y less here)))
+      sym (ap (option_map (λ case. case.visit)) (find_is (waits book) book.cases next (get_or items next d) at (kept.front _ at) kept.passed))
 
   pub front_none : (items : List Case) → items ≡ book.cases → length items ≤ next → None ≡ front_visit book
   front_none items same past =
-      sym (ap (option_map (λ case. case.visit)) (find_none (waits book) book.cases (λ j y here. kept.passed j y (omega (arith, is_within book.cases j y here, ap length same, past)) here)))
+      sym (ap (option_map (λ case. case.visit))
+      (find_none (waits book) book.cases (λ j y here. kept.passed j y (omega (arith, slice_get_within book.cases j y here, ap length same, past)) here)))
 
--- ---- an new_book docket
+-- a visit that isn't the front, and one that is
+pub refused_front : (visit front : ℕ) (book : Book) → Some front ≡ front_visit book → front ≢ visit
+    → refusal_of visit book ≡ Some (NotFront (Some front))
+refused_front visit front book is other = rw (← is, ne_eqb front visit other) refl
 
-at_case : (book : Book) (k : ℕ) (c : Case) → slice_get book.cases k ≡ Some c → cancelled_at book k ≡ is_cancelled book c
-at_case book k c at = ap (λ o. option_map_or (is_cancelled book) o false) at
+pub accepted_front : (visit front : ℕ) (book : Book) → Some front ≡ front_visit book → front ≡ visit → refusal_of visit book ≡ None
+accepted_front visit front book is same = rw (← is, eq-eqb front visit same) refl
+
+-- ---- a new docket
 
 pub opened_kept : (cases : List Case) (links : List Link) (before after : List Bool) (next : ℕ) → AreAscending cases → AreLinks cases links → length links ≡ length cases → length after ≡ length cases → next ≤ length cases
     → Settles cases links before 0 next after → IsKept (new_book cases) links after next
@@ -115,23 +102,19 @@ module _ (book : Book) (links : List Link) (flags : List Bool) (next : ℕ) (kep
   pub then_tell : Tell (cancelled_at (with_decision c.visit choice book)) (next + 1) (set flags next (is_cancel choice))
   then_tell =
       let parts = waiting_parts book c (kept.front c at) in
-      tell_more (cancelled_at (with_decision c.visit choice book)) flags next (is_cancel choice) still_told (omega (arith, is_within book.cases next c at, kept.flags_count))
+      tell_more (cancelled_at (with_decision c.visit choice book)) flags next (is_cancel choice) still_told
+      (omega (arith, slice_get_within book.cases next c at, kept.flags_count))
       (sym (at_case (with_decision c.visit choice book) next c at ∙ cancelled_now book c.visit choice c refl parts.1 parts.2))
 
   module _ (after : List Bool) (then : ℕ) (later : next + 1 ≤ then) (within : then ≤ length book.cases) (count : length after ≡ length book.cases)
       (s : IsSettled (cancelled_at (with_decision c.visit choice book)) book.cases (next + 1) then after) where
     then_passed : (k : ℕ) (d : Case) → k < then → slice_get book.cases k ≡ Some d → waits (with_decision c.visit choice book) d ≡ false
-    then_passed k d less here = elim (cases_lt k next) [
-      | inl before ↦ no_wait_still book c.visit choice d (kept.passed k d before here)
-      | inr from ↦ elim (cases_lt next k) [
-        | inl behind ↦ no_wait_where (with_decision c.visit choice book) d (λ conflict.
-            sym (at_case (with_decision c.visit choice book) k d here) ∙ s.passed k d (omega (arith, behind)) less here conflict)
-        | inr up_to ↦
-            let same : next ≡ k = omega (arith, from, up_to) in
-            let it : c ≡ d = same_some c d (sym at ∙ ap (slice_get book.cases) same ∙ here) in
-            no_wait (with_decision c.visit choice book) d (inr (inl (subst (λ (x : Case). is_decided (book.decisions ++ record { visit = c.visit; choice = choice } ∷ []) x.visit ≡ true) it (decided_now book.decisions c.visit choice))))
-      ]
-    ]
+    then_passed k d less here =
+        let new = with_decision c.visit choice book in
+        let own = no_wait new c (inr (inl (decided_now book.decisions c.visit choice))) in
+        let behind = λ (more : next < k). no_wait_where new d
+        (λ conflict. sym (at_case new k d here) ∙ s.passed k d (omega (arith, more)) less here conflict) in
+        grind (arith, cases_order k next, kept.passed k d, no_wait_still book c.visit choice d, own, behind, at, here)
 
     then_undecided : (k : ℕ) (d : Case) → then ≤ k → slice_get book.cases k ≡ Some d → is_decided (book.decisions ++ record { visit = c.visit; choice = choice } ∷ []) d.visit ≡ false
     then_undecided k d le here =
@@ -180,29 +163,6 @@ module _ (book : Book) (links : List Link) (flags : List Bool) (next : ℕ) (kep
 
 -- ---- how a visit stands
 
-conflict_only : (o : Outcome) (b d : Bool) → (is_conflict o ≡ true → b ≡ d) → standing_by o b ≡ standing_by o d
-conflict_only Untouched b d same = refl
-conflict_only (Done requests) b d same = refl
-conflict_only (Conflict requests at kind) b d same = ap (λ x. cond x standing.Kept standing.Waiting) (same refl)
-
 module _ (book : Book) (links : List Link) (flags : List Bool) (next : ℕ) (kept : IsKept book links flags next) (place : ℕ) (c : Case) (at : slice_get book.cases place ≡ Some c) where
   pub cancelled_is_said : (b : Bool) → ((said : ℕ → Bool) → Follows next links said → Tell said next flags → b ≡ said place) → b ≡ is_cancelled book c
   cancelled_is_said b is = is (cancelled_at book) (cancelled_follows book links kept.links_are next kept.undecided) kept.tell ∙ at_case book place c at
-
-  decided_by : is_conflict c.outcome ≡ true → is_cancelled book c ≡ false → (b : Bool) → nat_lt place next ≡ b → b ≡ is_decided book.decisions c.visit
-  decided_by conflict stays true before = elim (why book c (kept.passed place c (ltb-true _ _ before) at)) [
-    | inl quiet ↦ absurd (true≢false (sym conflict ∙ quiet))
-    | inr other ↦ elim other [
-      | inl done ↦ sym done
-      | inr went ↦ absurd (true≢false (sym went ∙ stays))
-    ]
-  ]
-  decided_by conflict stays false after = sym (kept.undecided place c (ltb-false _ _ after) at)
-
-  pub cancelled_standing : is_cancelled book c ≡ true → standing.Cancelled ≡ standing_in book c
-  cancelled_standing went = sym (cond-true (is_cancelled book c) standing.Cancelled (standing_by c.outcome (is_decided book.decisions c.visit)) went)
-
-  pub other_standing : is_cancelled book c ≡ false → standing_by c.outcome (nat_lt place next) ≡ standing_in book c
-  other_standing stays =
-      conflict_only c.outcome (nat_lt place next) (is_decided book.decisions c.visit) (λ conflict. decided_by conflict stays (nat_lt place next) refl)
-      ∙ sym (cond-false (is_cancelled book c) standing.Cancelled (standing_by c.outcome (is_decided book.decisions c.visit)) stays)

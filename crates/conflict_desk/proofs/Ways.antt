@@ -1,14 +1,14 @@
 -- Ways up the chains of parents.
-use Rattle.std.proofs.Common.{◌≡◌, ℕ, zero, suc, ◌<◌, ◌≤◌, List, [], ◌∷◌, ◌++◌, length, get_or, Bool, false, ◌||◌, Option, Some, None, slice_get, IfSome, option_and_then, ◌⊎◌, inl, inr, ap, sym, refl, subst, ◌∙◌, arith}
+use Rattle.std.proofs.Common.{◌≡◌, ℕ, ◌<◌, ◌≤◌, List, [], ◌∷◌, ◌++◌, length, get_or, Bool, false, ◌||◌, Option, Some, None, slice_get, IfSome, option_and_then, ◌⊎◌, inl, inr, ap, sym, refl, subst, ◌∙◌, arith}
 use Rattle.std.specs.Option.{option_map_or}
-use Rattle.std.proofs.lemmas.Option.{slice_get-get_or, get_or_from_slice_get}
+use Rattle.std.proofs.lemmas.Option.{slice_get-get_or}
 use Rattle.conflict_desk.specs.Docket.{AreAscending, parent_of}
 use Rattle.conflict_desk.specs.Book.{Book, is_decided, is_cancelled}
-use Rattle.conflict_desk.specs.inside.Links.{Follows, LeadsTo, IsLink, AreLinks, HaveJumps, HaveParents, IsUp}
+use Rattle.conflict_desk.specs.inside.Links.{Follows, LeadsTo, AllLeadBack, IsLink, AreLinks}
 use Rattle.conflict_desk.specs.inside.Kept.{cancelled_at}
 use Rattle.conflict_desk.specs.declared.docket.Case.{Case}
 use Rattle.conflict_desk.specs.declared.links.Link.{Link}
-use Rattle.conflict_desk.proofs.Gets.{not_none, still_at, at_push, at_end}
+use Rattle.conflict_desk.proofs.Gets.{there_is, still_at, at_push, at_end}
 use Rattle.conflict_desk.proofs.Places.{before_it, parent_is}
 use Rattle.conflict_desk.proofs.Chains.{cancelled_is, undecided_stays}
 
@@ -22,7 +22,8 @@ jump_more links more k None leads = tt
 jump_more links more k (Some j) leads = leads_more links more k j leads
 
 link_more : (cases : List Case) (links more : List Link) (k : ℕ) (link : Link) → IsLink cases links k link → IsLink cases (links ++ more) k link
-link_more cases links more k link is = record { case = is.case; at = is.at; parent = is.parent; before = is.before; jump = jump_more links more k link.jump is.jump }
+link_more cases links more k link is =
+    record { case = is.case; at = is.at; parent = is.parent; back = (is.back.0, jump_more links more k link.jump is.back.1) }
 
 pub links_push : (cases : List Case) (links : List Link) (link : Link) → AreLinks cases links → IsLink cases (links ++ link ∷ []) (length links) link → AreLinks cases (links ++ link ∷ [])
 links_push cases links link are is k other at = elim (at_push links link k other at) [
@@ -32,26 +33,16 @@ links_push cases links link are is k other at = elim (at_push links link k other
 
 -- ---- one link
 
-pub jump_leads : (links : List Link) → HaveJumps links → (k j : ℕ) (d : Link) → k < length links → (get_or links k d).jump ≡ Some j → LeadsTo links k j
-jump_leads links have k j d within is = subst (λ o. IfSome o (LeadsTo links k)) is (have k (get_or links k d) (slice_get-get_or links k d within))
+pub jump_leads : (links : List Link) → AllLeadBack links → (k j : ℕ) (d : Link) → k < length links → (get_or links k d).jump ≡ Some j
+    → LeadsTo links k j
+jump_leads links have k j d within is = subst (λ o. IfSome o (LeadsTo links k)) is (have k (get_or links k d) (slice_get-get_or links k d within)).1
 
-pub parent_of_link : (links : List Link) (k : ℕ) (link d : Link) (o : Option ℕ) → slice_get links k ≡ Some link → (get_or links k d).parent ≡ o → link.parent ≡ o
-parent_of_link links k link d o at is = ap (λ (other : Link). other.parent) (sym (get_or_from_slice_get links k link d at)) ∙ is
-
-pub root_link : (cases : List Case) (links : List Link) (c : Case) → slice_get cases (length links) ≡ Some c → None ≡ parent_of cases c → IsLink cases (links ++ record { parent = None; jump = None; reach = 0 } ∷ []) (length links) record { parent = None; jump = None; reach = 0 }
-root_link cases links c at none = record { case = c; at = at; parent = sym none; before = tt; jump = tt }
-
-pub parent_there : (cases : List Case) → AreAscending cases → (k p : ℕ) (c : Case) → slice_get cases k ≡ Some c → slice_get cases p ≡ parent_of cases c → p < length cases → p < k
-parent_there cases up k p c at is within = parent_at cases up k p c at is (slice_get cases p) refl within
-  where
-    parent_at : (cases : List Case) → AreAscending cases → (k p : ℕ) (c : Case) → slice_get cases k ≡ Some c → slice_get cases p ≡ parent_of cases c → (o : Option Case) → slice_get cases p ≡ o → p < length cases → p < k
-    parent_at cases up k p c at is None none within = absurd (omega (arith, within, past cases p none))
-      where
-        past : (xs : List Case) (p : ℕ) → slice_get xs p ≡ None → length xs ≤ p
-        past [] p none = omega arith
-        past (x ∷ xs) zero none = absurd (not_none x none)
-        past (x ∷ xs) (suc p) none = omega (arith, past xs p none)
-    parent_at cases up k p c at is (Some d) there within = before_it cases up p k d c there at (parent_is cases c d (sym is ∙ there)).1
+pub parent_there : (cases : List Case) → AreAscending cases → (k p : ℕ) (c : Case) → slice_get cases k ≡ Some c
+    → slice_get cases p ≡ parent_of cases c
+    → p < length cases → p < k
+parent_there cases up k p c at is within =
+    let there = there_is cases p within in
+    before_it cases up p k there.0 c there.1 at (parent_is cases c there.0 (sym is ∙ there.1)).1
 
 -- from a case one step up leads to its parent
 step_up : (links : List Link) (k p : ℕ) (link : Link) → slice_get links k ≡ Some link → link.parent ≡ Some p → p < k → LeadsTo links k p
@@ -60,7 +51,8 @@ step_up links k p link at is less = (less, λ from said follows le. follows k li
 pub leads_on : (links : List Link) (k j i : ℕ) → LeadsTo links k j → LeadsTo links j i → LeadsTo links k i
 leads_on links k j i first then = (omega (arith, first.0, then.0), λ from said follows le. first.1 from said follows (omega (arith, le, then.0)) ∙ then.1 from said follows le)
 
-pub new_link : (cases : List Case) (links : List Link) (c : Case) (p j reach : ℕ) → slice_get cases (length links) ≡ Some c → slice_get cases p ≡ parent_of cases c → p < length links → IsUp links p j
+pub new_link : (cases : List Case) (links : List Link) (c : Case) (p j reach : ℕ) → slice_get cases (length links) ≡ Some c
+    → slice_get cases p ≡ parent_of cases c → p < length links → (j ≡ p) ⊎ LeadsTo links p j
     → IsLink cases (links ++ record { parent = Some p; jump = Some j; reach = reach } ∷ []) (length links) record { parent = Some p; jump = Some j; reach = reach }
 new_link cases links c p j reach at is less up =
     let link : Link = record { parent = Some p; jump = Some j; reach = reach } in
@@ -69,27 +61,28 @@ new_link cases links c p j reach at is less up =
       case = c;
       at = at;
       parent = sym is;
-      before = less;
-      jump = elim up [
-        | inl same ↦ subst (LeadsTo (links ++ link ∷ []) (length links)) (sym same) step
-        | inr further ↦ leads_on (links ++ link ∷ []) (length links) p j step (leads_more links (link ∷ []) p j further)
-      ];
+      back = (
+        less,
+        elim up [
+          | inl same ↦ subst (LeadsTo (links ++ link ∷ []) (length links)) (sym same) step
+          | inr further ↦ leads_on (links ++ link ∷ []) (length links) p j step (leads_more links (link ∷ []) p j further)
+        ],
+      );
     }
 
 -- ---- what is cancelled follows the links where nothing is decided
 
+pub at_case : (book : Book) (k : ℕ) (c : Case) → slice_get book.cases k ≡ Some c → cancelled_at book k ≡ is_cancelled book c
+at_case book k c at = ap (λ o. option_map_or (is_cancelled book) o false) at
+
 module _ (book : Book) (links : List Link) (are : AreLinks book.cases links) where
   parent_follows : (o : Option ℕ) → option_map_or (is_cancelled book) (option_and_then (slice_get book.cases) o) false ≡ option_map_or (cancelled_at book) o false
-  parent_follows None = refl
-  parent_follows (Some p) = refl
-
-  at_place : (k : ℕ) (c : Case) → slice_get book.cases k ≡ Some c → cancelled_at book k ≡ is_cancelled book c
-  at_place k c at = ap (λ o. option_map_or (is_cancelled book) o false) at
+  parent_follows o = grind arith
 
   pub cancelled_follows : (from : ℕ) → ((k : ℕ) (c : Case) → from ≤ k → slice_get book.cases k ≡ Some c → is_decided book.decisions c.visit ≡ false) → Follows from links (cancelled_at book)
   cancelled_follows from none k link after at =
       let is = are k link at in
-      at_place k is.case is.at
+      at_case book k is.case is.at
       ∙ cancelled_is book is.case
       ∙ ap (λ b. b || option_map_or (is_cancelled book) (parent_of book.cases is.case) false) (undecided_stays book.decisions is.case.visit (none k is.case after is.at))
       ∙ ap (λ o. option_map_or (is_cancelled book) o false) is.parent
@@ -97,18 +90,15 @@ module _ (book : Book) (links : List Link) (are : AreLinks book.cases links) whe
 
 -- ---- one step up
 
-module _ (links : List Link) (parents : HaveParents links) (jumps : HaveJumps links) (k up next : ℕ) (d : Link) (within : k < length links) (after : next ≤ k) where
+module _ (links : List Link) (back : AllLeadBack links) (k up next : ℕ) (d : Link) (within : k < length links) (after : next ≤ k) where
   jump_up : (get_or links k d).jump ≡ Some up → next ≤ up → (up < k) × ((said : ℕ → Bool) → Follows next links said → said k ≡ said up)
-  jump_up is le = let leads = jump_leads links jumps k up d within is in (leads.0, λ said follows. leads.1 next said follows le)
+  jump_up is le = let leads = jump_leads links back k up d within is in (leads.0, λ said follows. leads.1 next said follows le)
 
   parent_up : (get_or links k d).parent ≡ Some up → (up < k) × ((said : ℕ → Bool) → Follows next links said → said k ≡ said up)
   parent_up is =
       let at = slice_get-get_or links k d within in
-      (subst (λ o. IfSome o (λ p. p < k)) is (parents k (get_or links k d) at), λ said follows. follows k (get_or links k d) after at ∙ ap (λ o. option_map_or said o false) is)
+      (subst (λ o. IfSome o (λ p. p < k)) is (back k (get_or links k d) at).0, λ said follows. follows k (get_or links k d) after at ∙ ap (λ o. option_map_or said o false) is)
 
   pub step_leads : (((get_or links k d).jump ≡ Some up) × (next ≤ up)) ⊎ ((get_or links k d).parent ≡ Some up) → (up < k) × ((said : ℕ → Bool) → Follows next links said → said k ≡ said up)
   step_leads (inl by_jump) = jump_up by_jump.0 by_jump.1
   step_leads (inr by_parent) = parent_up by_parent
-
-  pub at_root : (get_or links k d).parent ≡ None → (said : ℕ → Bool) → Follows next links said → said k ≡ false
-  at_root none said follows = follows k (get_or links k d) after (slice_get-get_or links k d within) ∙ ap (λ o. option_map_or said o false) none

@@ -42,13 +42,10 @@ abbrev pub chain : List Case → ℕ → Case → List Case
 chain cases zero case = []
 chain cases (suc n) case = case ∷ option_map_or (chain cases n) (parent_of cases case) []
 
--- A visit and its chain of parents. Numbers fall along it, so no chain is longer.
-abbrev pub chain_of : List Case → Case → List Case
-chain_of cases case = chain cases (suc case.visit) case
-
--- It, or a visit on its chain of parents, was cancelled by a decision.
+-- It, or a visit on its chain of parents, was cancelled by a decision. Numbers fall along the chain, so none is longer.
 unfoldable pub is_cancelled : Book → Case → Bool
-is_cancelled book case = list_any (λ above. was_cancelled book.decisions above.visit) (chain_of book.cases case)
+is_cancelled book case =
+    list_any (λ above. was_cancelled book.decisions above.visit) (chain book.cases (suc case.visit) case)
 
 -- ---- what waits
 

@@ -1,18 +1,15 @@
 -- What a desk answers and what a decision does: this project's own rule.
-use Rattle.std.specs.Prelude.{ℕ, List, Bool, false, ◌==◌, if◌then◌else◌, bytes_eq, map, fold, Option, Some, None, option_and_then, Result, Ok, Err}
-use Rattle.std.specs.Option.{option_map_or}
+use Rattle.std.specs.Prelude.{ℕ, nat_eq, List, if◌then◌else◌, bytes_eq, map, fold, Option, Some, None, option_and_then}
+use Rattle.std.specs.Option.{option_eq, option_map_or}
 use Rattle.std.specs.List.{IsDistinct, AllByRecursion}
 use Rattle.std.specs.Map.{lookup}
 use Rattle.indexmap.specs.IndexMap.{insert_entry}
-use Rattle.visit_replay.specs.declared.outcome.Outcome.{Outcome}
-use Rattle.visit_replay.specs.declared.requests.Request.{Request}
 use Rattle.conflict_desk.specs.Docket.{AreAscending}
-use Rattle.conflict_desk.specs.Book.{Book, new_book, at_visit, front_visit, with_decision, standing_in, standing_requests}
+use Rattle.conflict_desk.specs.Book.{Book, new_book, at_visit, front_visit, with_decision}
 use Rattle.conflict_desk.specs.declared.docket.Case.{Case}
 use Rattle.conflict_desk.specs.declared.docket.Docket.{Docket}
 use Rattle.conflict_desk.specs.declared.decided.Choice.{Choice}
 use Rattle.conflict_desk.specs.declared.decision.Decision.{Decision}
-use Rattle.conflict_desk.specs.declared.decided.Standing.{Standing}
 use Rattle.conflict_desk.specs.declared.fault.DeskFault.{DeskFault}
 use Rattle.conflict_desk.specs.declared.fault.DeskFault.TheVariants.{NoClient, NotFront}
 
@@ -35,35 +32,20 @@ new_books dockets = map (λ docket. (docket.client, new_book docket.cases)) dock
 abbrev pub book_of : List ℕ → Books → Option Book
 book_of client books = lookup (bytes_eq client) books
 
--- the client's front; C1 where the client isn't there
-abbrev pub front_on : List ℕ → Books → Result (Option ℕ) DeskFault
-front_on client books = option_map_or (λ book. Ok (front_visit book)) (book_of client books) (Err NoClient)
-
+-- what is said of the case of a client's visit, where both are there
 abbrev pub by_case : {T : Type 0} → (Book → Case → T) → List ℕ → ℕ → Books → Option T
 by_case f client visit books = option_and_then (λ book. at_visit f book visit) (book_of client books)
 
-abbrev pub standing_on : List ℕ → ℕ → Books → Option Standing
-standing_on client visit books = by_case standing_in client visit books
-
-abbrev pub outcome_on : List ℕ → ℕ → Books → Option Outcome
-outcome_on client visit books = by_case (λ book case. case.outcome) client visit books
-
-abbrev pub requests_on : List ℕ → ℕ → Books → Option (List Request)
-requests_on client visit books = by_case standing_requests client visit books
-
 -- ---- what a decision does
 
-abbrev pub is_front : ℕ → Option ℕ → Bool
-is_front visit None = false
-is_front visit (Some front) = front == visit
+-- Why that visit of a docket can't be decided: it isn't the front (C2).
+abbrev pub refusal_of : ℕ → Book → Option DeskFault
+refusal_of visit book =
+    if option_eq nat_eq (front_visit book) (Some visit) then None else Some (NotFront (front_visit book))
 
 -- Why that visit can't be decided: its client isn't there (C1), or it isn't its client's front (C2).
-abbrev pub refusal_in : ℕ → Option Book → Option DeskFault
-refusal_in visit None = Some NoClient
-refusal_in visit (Some book) = if is_front visit (front_visit book) then None else Some (NotFront (front_visit book))
-
 abbrev pub refusal : List ℕ → ℕ → Books → Option DeskFault
-refusal client visit books = refusal_in visit (book_of client books)
+refusal client visit books = option_map_or (refusal_of visit) (book_of client books) (Some NoClient)
 
 -- a decision more in a client's book
 abbrev pub decided_in : List ℕ → ℕ → Choice → Books → Option Book → Books
@@ -76,13 +58,11 @@ decided_on client visit choice books = decided_in client visit choice books (boo
 -- ---- any calls
 
 abbrev pub unless_refused : Option DeskFault → Books → Books → Books
-unless_refused None new old = new
-unless_refused (Some fault) new old = old
+unless_refused refused new old = option_map_or (λ _. old) refused new
 
 abbrev pub after_call : Books → Decision → Books
 after_call books call =
-    let new = decided_on call.client call.visit call.choice books in
-    unless_refused (refusal call.client call.visit books) new books
+    unless_refused (refusal call.client call.visit books) (decided_on call.client call.visit call.choice books) books
 
 abbrev pub after_calls : Books → List Decision → Books
 after_calls books calls = fold after_call books calls

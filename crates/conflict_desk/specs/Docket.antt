@@ -22,9 +22,8 @@ parent_of cases case =
     if nat_lt 0 case.parent && nat_lt case.parent case.visit then case_of_visit cases case.parent else None
 
 abbrev pub is_conflict : Outcome → Bool
-is_conflict Untouched = false
-is_conflict (Done requests) = false
 is_conflict (Conflict requests at kind) = true
+is_conflict _ = false
 
 abbrev pub requests_in : Outcome → List Request
 requests_in Untouched = []

@@ -1,10 +1,11 @@
 -- What holds of every book on a desk, whatever calls were made.
 use Rattle.std.specs.Prelude.{◌≡◌, ◌↔◌, ℕ, List, map, true, Option, None, Some, ◌⊎◌}
 use Rattle.std.specs.List.{AllByRecursion}
+use Rattle.std.specs.Option.{IsSomeAnd}
 use Rattle.std.specs.List.Sorted.{IsStrictlyIncreasing}
 use Rattle.conflict_desk.specs.Docket.{case_of_visit, parent_of, is_conflict}
-use Rattle.conflict_desk.specs.Book.{Book, is_decided, was_cancelled, front_visit}
-use Rattle.conflict_desk.specs.Desk.{Books, book_of, standing_on, after_calls}
+use Rattle.conflict_desk.specs.Book.{Book, is_decided, was_cancelled, front_visit, standing_in}
+use Rattle.conflict_desk.specs.Desk.{Books, book_of, by_case, after_calls}
 use Rattle.conflict_desk.specs.declared.decision.Decision.{Decision}
 use Rattle.conflict_desk.specs.declared.docket.Case.{Case}
 use Rattle.conflict_desk.specs.declared.decided.Decided.{Decided}
@@ -25,10 +26,9 @@ IsBelowCancelled book case = (visit : ℕ) × IsOnChain book.cases visit case ×
 
 -- ---- how conflicts leave
 
-pub record IsConflictOf (cases : List Case) (decided : Decided) : Type 0 where
-  pub case : Case
-  pub is_case : case_of_visit cases decided.visit ≡ Some case
-  pub conflict : is_conflict case.outcome ≡ true
+-- the visit that was decided is a conflict
+abbrev pub IsConflictOf : List Case → Decided → Type 0
+IsConflictOf cases decided = IsSomeAnd (case_of_visit cases decided.visit) (λ case. is_conflict case.outcome ≡ true)
 
 -- no visit above the decided one on its chain of parents was cancelled by a decision, be it an earlier or a later one
 abbrev pub IsSpared : Book → Decided → Type 0
@@ -52,25 +52,18 @@ pub record LeaveInOrder (book : Book) : Type 0 where
 abbrev pub AllLeaveInOrder : Books → Type 0
 AllLeaveInOrder books = AllByRecursion (λ entry. LeaveInOrder entry.1) books
 
--- ---- what left stays as it left
-
--- A conflict that left stands kept or cancelled. A visit that stands so before some calls stands so after them.
-pub record StayAsTheyLeft (before after : Books) : Type 0 where
-  pub kept : (client : List ℕ) (visit : ℕ)
-      → standing_on client visit before ≡ Some Kept → standing_on client visit after ≡ Some Kept
-  pub cancelled : (client : List ℕ) (visit : ℕ)
-      → standing_on client visit before ≡ Some Cancelled → standing_on client visit after ≡ Some Cancelled
-
 -- ---- of every desk
 
 -- whatever calls follow, each client's conflicts are decided in order, none twice, and none below a cancelled visit
 abbrev pub IsInOrder : Books → Type 0
 IsInOrder books = (calls : List Decision) → AllLeaveInOrder (after_calls books calls)
 
--- and a visit that stands kept or cancelled after some calls stands so after any more
+-- And a conflict that left, which stands kept or cancelled after some calls, stands so after any more.
 abbrev pub IsSteady : Books → Type 0
 IsSteady books =
-    (calls more : List Decision) → StayAsTheyLeft (after_calls books calls) (after_calls (after_calls books calls) more)
+    (calls more : List Decision) (client : List ℕ) (visit : ℕ) (left : Standing) → (left ≡ Kept) ⊎ (left ≡ Cancelled)
+    → by_case standing_in client visit (after_calls books calls) ≡ Some left
+    → by_case standing_in client visit (after_calls (after_calls books calls) more) ≡ Some left
 
 -- a visit stands cancelled exactly where it, or a visit on its chain of parents, was cancelled by a decision
 abbrev pub TellsCancelled : List ℕ → ℕ → Books → Option Standing → Type 0

@@ -1,4 +1,3 @@
 pub mod Links
 pub mod Settling
 pub mod Kept
-pub mod Deciding

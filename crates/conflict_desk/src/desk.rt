@@ -1,11 +1,11 @@
 //! A desk with the dockets of several clients.
-ghost use Rattle.std.specs.Prelude.{◌≡◌, ◌<◌, ◌+◌, ◌≤◌, length, option_map, Some, None, bytes_eq, IfOk, IfErr, IfSome, OnOk};
+ghost use Rattle.std.specs.Prelude.{◌≡◌, ◌<◌, ◌+◌, ◌≤◌, option_map, ok_or, Some, None, bytes_eq, IfOk, IfErr, IfSome, OnOk, OnErr};
 ghost use Rattle.indexmap.specs.IndexMap.{spare, insert_entry};
-ghost use Rattle.conflict_desk.specs.Desk.{AreDockets, new_books, book_of, standing_on, outcome_on, requests_on, refusal, front_on, decided_on};
+ghost use Rattle.conflict_desk.specs.Desk.{AreDockets, new_books, book_of, by_case, refusal, decided_on};
 ghost use Rattle.conflict_desk.specs.Laws.{IsInOrder, IsSteady, TellsCancelled};
 ghost use Rattle.conflict_desk.specs.Docket.{AreAscending};
-ghost use Rattle.conflict_desk.specs.inside.Deciding.{DecidesAt};
-ghost use Rattle.conflict_desk.specs.declared.fault.DeskFault.TheVariants.{NoMemory};
+ghost use Rattle.conflict_desk.specs.Book.{front_visit, standing_in, standing_requests};
+ghost use Rattle.conflict_desk.specs.declared.fault.DeskFault.TheVariants.{NoClient, NoMemory};
 
 use crate::decided::{Choice, Standing};
 use crate::docket::{Case, Docket};
@@ -58,7 +58,7 @@ impl Desk {
 
     /// The least visit of a client whose conflict waits, if any does. C1 where the client isn't there.
     pub fn front(&self, client: &Client) -> Result<Option<u64>, DeskFault>
-        ensures { result ≡ front_on client.now self.now }
+        ensures { result ≡ ok_or (option_map front_visit (book_of client.now self.now)) NoClient }
     {
         match self.dockets.get(client) {
             Some(docket) => Ok(docket.front()),
@@ -72,15 +72,12 @@ impl Desk {
         ensures decided { OnOk result (self.new ≡ decided_on client.now visit choice self.old) }
         ensures refused { IfErr result (λ fault. (refusal client.now visit self.old ≡ Some fault) × (self.new ≡ self.old)) }
     {
-        let Some(place) = self.dockets.get_index_of(client) else {
-            return Err(DeskFault::NoClient);
-        };
-        decide_at(&mut self.dockets, place, visit, choice)
+        decide_for(&mut self.dockets, client, visit, choice)
     }
 
     /// How a client's visit stands; none where the client or the visit isn't there.
     pub fn standing(&self, client: &Client, visit: u64) -> Option<Standing>
-        ensures standing { result ≡ standing_on client.now visit self.now }
+        ensures standing { result ≡ by_case standing_in client.now visit self.now }
 
         // A visit stands cancelled exactly where it, or a visit on its chain of parents, was cancelled by a decision.
         ensures chain { TellsCancelled client.now visit self.now result }
@@ -90,7 +87,7 @@ impl Desk {
 
     /// What became of a client's visit, as it was opened, whatever was decided since.
     pub fn outcome(&self, client: &Client, visit: u64) -> Option<&Outcome>
-        ensures { option_map (λ outcome. outcome.now) result ≡ outcome_on client.now visit self.now }
+        ensures { option_map (λ outcome. outcome.now) result ≡ by_case (λ _ case. case.outcome) client.now visit self.now }
     {
         let case = self.dockets.get(client)?.case(visit)?;
         Some(&case.outcome)
@@ -98,7 +95,7 @@ impl Desk {
 
     /// The requests of a client's visit: those of its outcome, and none where it is cancelled.
     pub fn requests(&self, client: &Client, visit: u64) -> Option<&[Request]>
-        ensures { option_map (λ requests. requests.now) result ≡ requests_on client.now visit self.now }
+        ensures { option_map (λ requests. requests.now) result ≡ by_case standing_requests client.now visit self.now }
     {
         self.dockets.get(client)?.requests(visit)
     }
@@ -128,16 +125,21 @@ fn put(dockets: &mut IndexMap<Client, OpenDocket>, client: Client, docket: OpenD
     let _known = dockets.insert(client, docket);
 }
 
-// Decides the front of the docket at that place.
-fn decide_at(
+// Decides the front of that client's docket.
+fn decide_for(
     dockets: &mut IndexMap<Client, OpenDocket>,
-    place: usize,
+    client: &Client,
     visit: u64,
     choice: Choice,
 ) -> Result<(), DeskFault>
-    requires { place < length dockets.old.entries }
-    ensures { DecidesAt dockets.old.entries dockets.new.entries place visit choice result }
+    ensures ok { OnOk result (refusal client.now visit dockets.old.entries ≡ None) }
+    ensures decided { OnOk result (dockets.new.entries ≡ decided_on client.now visit choice dockets.old.entries) }
+    ensures refused { IfErr result (λ fault. refusal client.now visit dockets.old.entries ≡ Some fault) }
+    ensures same { OnErr result (dockets.new.entries ≡ dockets.old.entries) }
 {
+    let Some(place) = dockets.get_index_of(client) else {
+        return Err(DeskFault::NoClient);
+    };
     match dockets.get_index_mut(place) {
         Some(docket) => docket.decide(visit, choice),
         None => Err(DeskFault::NoClient),

@@ -2,7 +2,7 @@
 ghost use Rattle.std.specs.Prelude.{ℕ, ◌≡◌, ◌≤◌, ◌⊎◌, Bool, None, ◌<◌, ◌++◌, [], ◌∷◌, length, slice_get, Some, IfOk, IfSome};
 ghost use Rattle.conflict_desk.specs.Docket.{AreAscending};
 ghost use Rattle.conflict_desk.specs.inside.Settling.{Tell};
-ghost use Rattle.conflict_desk.specs.inside.Links.{IsLink, AreLinks, HaveJumps, HaveParents, IsUp, Follows};
+ghost use Rattle.conflict_desk.specs.inside.Links.{IsLink, AreLinks, AllLeadBack, LeadsTo, Follows};
 
 use crate::docket::{Case, parent_of};
 use page_tree::NoMemory;
@@ -55,8 +55,8 @@ fn link_of(cases: &[Case], links: &[Link], case: &Case) -> Link
 // From below that parent: over two jumps above it where they are of one length, else to the parent. And how many steps that is.
 fn jump_over(links: &[Link], parent: usize) -> (usize, usize)
     requires parent { parent < length links.now }
-    requires jumps { HaveJumps links.now }
-    ensures { IsUp links.now parent result.0 }
+    requires back { AllLeadBack links.now }
+    ensures { (result.0 ≡ parent) ⊎ LeadsTo links.now parent result.0 }
 {
     let near = links[parent];
     if let Some(jump) = near.jump {
@@ -72,8 +72,7 @@ fn jump_over(links: &[Link], parent: usize) -> (usize, usize)
 
 // Whether the case at that place is below one before `next` that is marked, or is itself such a one.
 pub(crate) fn is_gone(links: &[Link], gone: &[bool], next: usize, place: usize) -> bool
-    requires parents { HaveParents links.now }
-    requires jumps { HaveJumps links.now }
+    requires back { AllLeadBack links.now }
     requires count { length gone.now ≡ length links.now }
     requires place { place < length links.now }
     ensures { (said : ℕ → Bool) → Follows next links.now said → Tell said next gone.now → result ≡ said place }

@@ -1,11 +1,10 @@
 //! A docket on the desk.
-ghost use Rattle.std.specs.Prelude.{◌≡◌, ◌≤◌, ◌<◌, length, slice_get, Some, option_map, IfOk, IfErr, OnOk};
-ghost use Rattle.conflict_desk.specs.declared.links.Link.{Link as Linked};
+ghost use Rattle.std.specs.Prelude.{◌≡◌, ◌≤◌, ◌<◌, length, slice_get, Some, None, option_map, IfOk, IfErr, OnOk};
 ghost use Rattle.conflict_desk.specs.Docket.{AreAscending, case_of_visit};
 ghost use Rattle.conflict_desk.specs.Book.{new_book, at_visit, is_cancel, is_cancelled, front_visit, with_decision, standing_by, standing_in, standing_requests};
 ghost use Rattle.conflict_desk.specs.declared.docket.Case.{Case as OneCase};
-ghost use Rattle.conflict_desk.specs.inside.Deciding.{IsRefusal};
-ghost use Rattle.conflict_desk.specs.inside.Links.{AreLinks, IsParentBelow, flag_above};
+ghost use Rattle.conflict_desk.specs.Desk.{refusal_of};
+ghost use Rattle.conflict_desk.specs.inside.Links.{AreLinks};
 ghost use Rattle.conflict_desk.specs.inside.Settling.{Settles};
 
 use crate::decided::{Choice, Decided, Standing};
@@ -85,9 +84,9 @@ impl OpenDocket {
 
     /// Decides the front. C2 with the front for any other visit.
     pub(crate) fn decide(&mut self, visit: u64, choice: Choice) -> Result<(), DeskFault>
-        ensures front { OnOk result (front_visit self.old ≡ Some visit) }
+        ensures ok { OnOk result (refusal_of visit self.old ≡ None) }
         ensures decided { OnOk result (self.new ≡ with_decision visit choice self.old) }
-        ensures refused { IfErr result (λ fault. IsRefusal self.old visit fault × (self.new ≡ self.old)) }
+        ensures refused { IfErr result (λ fault. (refusal_of visit self.old ≡ Some fault) × (self.new ≡ self.old)) }
     {
         let next = self.next;
         if next >= self.cases.as_slice().len() {
@@ -205,23 +204,11 @@ fn settle(cases: &[Case], links: &[Link], gone: &mut [bool], from: usize) -> usi
 {
     let mut place = from;
     while place < cases.len() {
-        gone[place] = is_below_gone(links, gone, place);
+        gone[place] = is_gone(links, gone, place, place);
         if !gone[place] && cases[place].is_conflict() {
             return place;
         }
         place += 1;
     }
     place
-}
-
-// Whether the visit at that place has a parent that is marked.
-fn is_below_gone(links: &[Link], gone: &[bool], place: usize) -> bool
-    requires place { place < length links.now }
-    requires parent { (link : Linked) → slice_get links.now place ≡ Some link → IsParentBelow (length gone.now) link }
-    ensures { (link : Linked) → slice_get links.now place ≡ Some link → result ≡ flag_above gone.now link }
-{
-    match links[place].parent {
-        Some(parent) => gone[parent],
-        None => false,
-    }
 }

@@ -1,9 +1,10 @@
 -- Lists of items by lane, and lists of passes of which one or two change.
-use Rattle.std.proofs.Common.{◌≡◌, ◌≢◌, ◌⊎◌, ℕ, zero, suc, ◌==◌, ◌<◌, ◌≤◌, List, [], ◌∷◌, ◌++◌, length, set, inl, inr, ⊎_elim, refl, sym, ◌∙◌, ap, subst, cond, arith, append-nil}
+use Rattle.std.proofs.Common.{◌≡◌, ◌≢◌, ◌⊎◌, ℕ, zero, suc, ◌==◌, ◌<◌, List, [], ◌∷◌, ◌++◌, length, get_or, set, inl, inr, ⊎_elim, refl, sym, ◌∙◌, ap, subst, cond, append-nil}
 use mathlib.Core.Option.{some, some-injective, some-ne-none}
 use lib.ListN.{get_elem?}
-use Rattle.std.specs.List.{AllByRecursion}
+use Rattle.std.proofs.lemmas.Bool.{eq-eqb, ne_eqb}
 use Rattle.std.proofs.lemmas.Bool.Decides.{eqb_tells}
+use Rattle.std.proofs.lemmas.List.{get_or-set_same, get_or-set_other}
 use Rattle.std.proofs.lemmas.List.Elements.{filter-append}
 use Rattle.crossbeam_queue.proofs.Lists.{at_set}
 use Rattle.lane_queue.specs.declared.item.Item.{Item}
@@ -34,16 +35,10 @@ module _ {T : Type 0} where
   of_append lane xs ys = filter-append (λ x. x.lane == lane) xs ys
 
   pub of_one : (lane : ℕ) (x : Item T) → x.lane ≡ lane → of_lane lane (x ∷ []) ≡ x ∷ []
-  of_one lane x is = elim (eqb_tells x.lane lane) [
-    | inl same ↦ ap (λ b. cond b (x ∷ []) []) same.0
-    | inr other ↦ absurd (other.1 is)
-  ]
+  of_one lane x is = ap (λ b. cond b (x ∷ []) []) (eq-eqb x.lane lane is)
 
   pub of_other : (lane : ℕ) (x : Item T) → x.lane ≢ lane → of_lane lane (x ∷ []) ≡ []
-  of_other lane x is = elim (eqb_tells x.lane lane) [
-    | inl same ↦ absurd (is same.1)
-    | inr other ↦ ap (λ b. cond b (x ∷ []) []) other.0
-  ]
+  of_other lane x is = ap (λ b. cond b (x ∷ []) []) (ne_eqb x.lane lane is)
 
   -- one item more
   pub of_more : (lane : ℕ) (all : List (Item T)) (x : Item T) → x.lane ≡ lane → of_lane lane (all ++ x ∷ []) ≡ of_lane lane all ++ x ∷ []
@@ -52,29 +47,36 @@ module _ {T : Type 0} where
   pub of_same : (lane : ℕ) (all : List (Item T)) (x : Item T) → x.lane ≢ lane → of_lane lane (all ++ x ∷ []) ≡ of_lane lane all
   of_same lane all x is = of_append lane all (x ∷ []) ∙ ap (λ l. of_lane lane all ++ l) (of_other lane x is) ∙ append-nil (of_lane lane all)
 
-  -- no item of a lane that wasn't made
-  pub of_unmade : (made lane : ℕ) (xs : List (Item T)) → made ≤ lane → AllByRecursion (λ x. x.lane < made) xs → of_lane lane xs ≡ []
-  of_unmade made lane [] past all = refl
-  of_unmade made lane (x ∷ xs) past (here, all) =
-      let other : x.lane ≢ lane = λ e. omega (arith, e, here, past) in
-      of_append lane (x ∷ []) xs ∙ ap (λ l. l ++ of_lane lane xs) (of_other lane x other) ∙ of_unmade made lane xs past all
+  -- what is so of a lane's items, where one more was put
+  pub lane_more : (P : List (Item T) → Type 0) (all : List (Item T)) (x : Item T) (lane : ℕ) → (x.lane ≡ lane → P (of_lane lane all ++ x ∷ []))
+      → (x.lane ≢ lane → P (of_lane lane all)) → P (of_lane lane (all ++ x ∷ []))
+  lane_more P all x lane mine others = elim (eqb_tells x.lane lane) [
+    | inl same ↦ subst P (sym (of_more lane all x same.1)) (mine same.1)
+    | inr other ↦ subst P (sym (of_same lane all x other.1)) (others other.1)
+  ]
 
--- ---- passes
+  -- what f makes of each lane's items, entry by entry, where one more was put and its lane's entry is made anew
+  pub entry_more : {B : Type 0} (f : List (Item T) → B) (all : List (Item T)) (x : Item T) (entries : List B) (b d : B) (lane : ℕ)
+      → x.lane < length entries → b ≡ f (of_lane x.lane all ++ x ∷ []) → get_or entries lane d ≡ f (of_lane lane all)
+      → get_or (set entries x.lane b) lane d ≡ f (of_lane lane (all ++ x ∷ []))
+  entry_more f all x entries b d lane there is was = lane_more (λ l. get_or (set entries x.lane b) lane d ≡ f l) all x lane
+      (λ same. subst (λ k. get_or (set entries x.lane b) k d ≡ f (of_lane k all ++ x ∷ [])) same (get_or-set_same entries x.lane b d there ∙ is))
+      (λ other. get_or-set_other entries x.lane lane b d (λ e. other (sym e)) ∙ was)
+
+-- ---- passes: what is so of each, where one gets another view, and where one more is made
 
 module _ {V : Type 0} where
-  abbrev pub EachPass : (ℕ → V → Type 0) → List V → Type 0
-  EachPass holds views = (pass : ℕ) (v : V) → get_elem? views pass ≡ some v → holds pass v
-
-  -- one pass gets another view
   pub each_set : (holds : ℕ → V → Type 0) (views : List V) (pass : ℕ) (w : V) → holds pass w
-      → ((j : ℕ) (u : V) → j ≢ pass → get_elem? views j ≡ some u → holds j u) → EachPass holds (set views pass w)
+      → ((j : ℕ) (u : V) → j ≢ pass → get_elem? views j ≡ some u → holds j u)
+      → (j : ℕ) (u : V) → get_elem? (set views pass w) j ≡ some u → holds j u
   each_set holds views pass w mine others j u at = ⊎_elim
       (λ (here : (j ≡ pass) × (w ≡ u)). subst (λ (p : ℕ × V). holds p.0 p.1) (λ i. (sym here.0 i, here.1 i)) mine)
       (λ (else : (j ≢ pass) × (get_elem? views j ≡ some u)). others j u else.0 else.1) (at_set views pass j w u at)
 
-  -- what stands in a list that is longer by one
-  pub at_more : (views : List V) (a b : V) (j : ℕ) → get_elem? (views ++ a ∷ []) j ≡ some b → (get_elem? views j ≡ some b) ⊎ ((j ≡ length views) × (a ≡ b))
-  at_more [] a b zero at = inr (refl, some-injective a b at)
-  at_more [] a b (suc j) at = absurd (some-ne-none b (sym at))
-  at_more (x ∷ xs) a b zero at = inl at
-  at_more (x ∷ xs) a b (suc j) at = ⊎_elim (λ was. inl was) (λ (new : (j ≡ length xs) × (a ≡ b)). inr (ap suc new.0, new.1)) (at_more xs a b j at)
+  pub each_more : (holds : ℕ → V → Type 0) (views : List V) (a : V)
+      → ((j : ℕ) (u : V) → get_elem? views j ≡ some u → holds j u) → holds (length views) a
+      → (j : ℕ) (u : V) → get_elem? (views ++ a ∷ []) j ≡ some u → holds j u
+  each_more holds [] a old new zero u at = subst (holds 0) (some-injective a u at) new
+  each_more holds [] a old new (suc j) u at = absurd (some-ne-none u (sym at))
+  each_more holds (x ∷ xs) a old new zero u at = old zero u at
+  each_more holds (x ∷ xs) a old new (suc j) u at = each_more (λ k. holds (suc k)) xs a (λ k. old (suc k)) new j u at

@@ -21,14 +21,13 @@ module _ {T : Type 0} where
   Puts v w last body (put.Closed back) = (has_last v.put ≡ false) × (back ≡ body) × (w ≡ v)
   Puts v w last body (put.Over back) = (has_last v.put ≡ true) × (back ≡ body) × (w ≡ v)
 
-  -- the same of one try; at Full there is a state of the rule, for a pass that knows this, in which a queue of that
+  -- the same of one try; at Full there is a state of the rule, for a pass that knows this, in which a queue of n items'
   -- room is full
   abbrev pub TriesToPut : ℕ → QueueView T → QueueView T → T → TryPut T → Type 0
-  TriesToPut room v w body try_put.Done = Puts v w false body put.Done
-  TriesToPut room v w body (try_put.Full back) =
-      (has_last v.put ≡ false) × (back ≡ body) × (w ≡ v) × Held room (IsSeen v)
-  TriesToPut room v w body (try_put.Closed back) = Puts v w false body (put.Closed back)
-  TriesToPut room v w body (try_put.Over back) = Puts v w false body (put.Over back)
+  TriesToPut n v w body try_put.Done = Puts v w false body put.Done
+  TriesToPut n v w body (try_put.Full back) = (has_last v.put ≡ false) × (back ≡ body) × (w ≡ v) × Held n (IsSeen v)
+  TriesToPut n v w body (try_put.Closed back) = Puts v w false body (put.Closed back)
+  TriesToPut n v w body (try_put.Over back) = Puts v w false body (put.Over back)
 
   -- each lane's last item was taken
   abbrev pub AreEnded : QueueView T → Type 0
@@ -44,7 +43,6 @@ module _ {T : Type 0} where
   TriesToTake v w try_take.AllEnded = AreEnded v × (w ≡ v)
   TriesToTake v w try_take.Empty = (¬ AreEnded v) × (w ≡ v) × Held 0 (IsSeen v)
 
-  -- what was put in a putter's lane is what was taken of it, and then so many items
+  -- what was put in the putter's lane (w) is what the taker (v) took of it, and then so many items
   abbrev pub LeavesRest : QueueView T → QueueView T → ℕ → Type 0
-  LeavesRest taker putter many =
-      (rest : List (Item T)) × (putter.put ≡ of_lane putter.lane taker.got ++ rest) × (many ≡ length rest)
+  LeavesRest v w many = (rest : List (Item T)) × (w.put ≡ of_lane w.lane v.got ++ rest) × (many ≡ length rest)

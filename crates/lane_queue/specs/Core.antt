@@ -1,5 +1,6 @@
 -- The queue as a machine: what one step after another does to what was put, to the row, and to what was taken.
-use Rattle.std.specs.Prelude.{◌≡◌, ◌<◌, ℕ, Bool, true, ◌&&◌, not, nat_lt, if◌then◌else◌, List, [], ◌∷◌, ◌++◌, length, take, fold}
+use Rattle.std.specs.Prelude.{◌≡◌, ℕ, Bool, true, ◌&&◌, not, nat_lt, if◌then◌else◌, List, [], ◌∷◌, ◌++◌, length, take, drop, slice_get}
+use Rattle.std.specs.Option.{option_map_or}
 use Rattle.lane_queue.specs.declared.item.Item.{Item}
 use Rattle.lane_queue.specs.declared.queue_core.QueueStep.{QueueStep}
 use Rattle.lane_queue.specs.declared.queue_core.QueueStep.TheVariants as step
@@ -26,30 +27,15 @@ may_put m lane = nat_lt lane m.lanes && not (has_last (of_lane lane m.put)) && n
 abbrev pub with_item : Machine → Item ℕ → Machine
 with_item m x = record m { put = m.put ++ x ∷ []; row = m.row ++ x ∷ [] }
 
--- the front of the row is taken, if there is one
-abbrev pub with_front : Machine → List (Item ℕ) → Machine
-with_front m [] = m
-with_front m (x ∷ rest) = record m { row = rest; got = m.got ++ x ∷ [] }
-
-abbrev pub front_of : List (Item ℕ) → Did
-front_of [] = did.Empty
-front_of (x ∷ rest) = did.Took x
-
+-- an item is put at the back, if it may; the front is taken, if there is one
 abbrev pub after_step : Machine → QueueStep → Machine
 after_step m (step.Put lane item last) =
     if may_put m lane then with_item m (next_item lane (of_lane lane m.put) last item) else m
-after_step m step.Take = with_front m m.row
+after_step m step.Take = record m { row = drop 1 m.row; got = m.got ++ take 1 m.row }
 
 abbrev pub answer : Machine → QueueStep → Did
 answer m (step.Put lane item last) = if may_put m lane then did.Put else did.Refused
-answer m step.Take = front_of m.row
-
-abbrev pub after_steps : Machine → List QueueStep → Machine
-after_steps m steps = fold after_step m steps
-
--- so many of the steps were taken, and no further one
-abbrev pub StopsAt : Machine → List QueueStep → ℕ → Machine → Type 0
-StopsAt old steps done new = (done < length steps) × (new ≡ after_steps old (take done steps))
+answer m step.Take = option_map_or (λ x. did.Took x) (slice_get m.row 0) did.Empty
 
 -- first in, first out, lane by lane: what was taken, and then the row, is what was put
 abbrev pub IsFifo : Machine → Type 0

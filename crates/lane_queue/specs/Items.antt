@@ -16,6 +16,6 @@ module _ {T : Type 0} where
   next_item lane put last body = record { lane = lane; number = length put; last = last; body = body }
 
   -- what was put in one lane: each item is numbered by how many came before it, none of them as the last
-  pub record AreNumbered (items : List (Item T)) : Type 0 where
-    pub numbered : (before after : List (Item T)) (x : Item T) → items ≡ before ++ x ∷ after → x.number ≡ length before
-    pub unended : (before after : List (Item T)) (x : Item T) → items ≡ before ++ x ∷ after → has_last before ≡ false
+  abbrev pub AreNumbered : List (Item T) → Type 0
+  AreNumbered items = (before after : List (Item T)) (x : Item T) → items ≡ before ++ x ∷ after
+      → (x.number ≡ length before) × (has_last before ≡ false)

@@ -1,13 +1,16 @@
 -- This project's own limits on queues.
-use Rattle.std.specs.Prelude.{◌≤◌, ◌^◌, ℕ}
+use Rattle.std.specs.Prelude.{◌≤◌, ◌^◌, ◌*◌, ℕ}
 
 abbrev pub max_lanes : ℕ
 max_lanes = 16
 
--- How many items one lane has at the most: those of all lanes together, 16 times as many (2 ^ 61), are counted in 64
--- bits.
+-- how many items one lane has at the most
 abbrev pub max_lane_items : ℕ
 max_lane_items = 2 ^ 57
+
+-- how many items all lanes together have at the most: a recorder that counts them in 64 bits stays far below the end
+abbrev pub max_items : ℕ
+max_items = max_lanes * max_lane_items
 
 -- how many items a queue holds at the most
 abbrev pub max_room : ℕ

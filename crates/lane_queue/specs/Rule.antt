@@ -1,6 +1,5 @@
 -- The rule of the queue: what holds between any two steps of any threads.
-use Rattle.std.specs.Prelude.{◌≡◌, ℕ, ◌<◌, ◌≤◌, true, false, List, [], ◌∷◌, ◌++◌, length}
-use Rattle.std.specs.List.{AllByRecursion}
+use Rattle.std.specs.Prelude.{◌≡◌, ℕ, ◌<◌, ◌≤◌, true, false, List, [], ◌∷◌, ◌++◌, length, slice_index}
 use mathlib.Core.Option.{some}
 use lib.ListN.{get_elem?}
 use Rattle.lane_queue.specs.declared.item.Item.{Item}
@@ -9,44 +8,28 @@ use Rattle.lane_queue.specs.Limits.{max_lane_items}
 use Rattle.lane_queue.specs.Items.{of_lane, has_last, AreNumbered}
 
 module _ {T : Type 0} where
-  -- what a pass knows is so, where these were taken, `all` were put, and the taker's pass has that number
-  pub record KnowsItems (taker made : ℕ) (got all : List (Item T)) (pass : ℕ) (v : QueueView T) : Type 0 where
-    pub taken : v.takes ≡ true → (pass ≡ taker) × (v.made ≡ made) × (v.got ≡ got)
-    pub put : v.puts ≡ true → (v.lane < made) × (v.put ≡ of_lane v.lane all)
-
-  -- no two putters have one lane
-  abbrev pub AreApart : List (QueueView T) → Type 0
-  AreApart views =
-      (p q : ℕ) (v w : QueueView T) → get_elem? views p ≡ some v → get_elem? views q ≡ some w
-      → v.puts ≡ true → w.puts ≡ true → v.lane ≡ w.lane → p ≡ q
-
-  pub record IsSound (taker made : ℕ) (got all : List (Item T)) (views : List (QueueView T)) : Type 0 where
-    pub lanes : (lane : ℕ) → AreNumbered (of_lane lane all)
-    pub few : (lane : ℕ) → length (of_lane lane all) ≤ max_lane_items
-    pub within : AllByRecursion (λ x. x.lane < made) all
-    pub passes : (pass : ℕ) (v : QueueView T) → get_elem? views pass ≡ some v → KnowsItems taker made got all pass v
-    pub apart : AreApart views
+  -- what a pass knows is so, where these were taken, `all` were put, and these are the passes of the lanes' putters;
+  -- the taker's is the first
+  pub record KnowsItems (putters : List ℕ) (got all : List (Item T)) (pass : ℕ) (v : QueueView T) : Type 0 where
+    pub taken : v.takes ≡ true → (pass ≡ 0) × (v.made ≡ length putters) × (v.got ≡ got)
+    pub put : v.puts ≡ true
+        → (v.lane < length putters) × (pass ≡ slice_index putters v.lane) × (v.put ≡ of_lane v.lane all)
 
   -- first in, first out: what was taken and what the queue holds are together what was put
   pub record KeepsOrder (held : List (Item T)) (views : List (QueueView T)) : Type 0 where
-    pub taker : ℕ
-    pub made : ℕ
+    pub putters : List ℕ
     pub got : List (Item T)
-    pub sound : IsSound taker made got (got ++ held) views
-
-  -- ---- the steps
+    pub lanes : (lane : ℕ) → AreNumbered (of_lane lane (got ++ held))
+    pub few : (lane : ℕ) → length (of_lane lane (got ++ held)) ≤ max_lane_items
+    pub unmade : (lane : ℕ) → length putters ≤ lane → of_lane lane (got ++ held) ≡ []
+    pub passes : (n : ℕ) (v : QueueView T) → get_elem? views n ≡ some v → KnowsItems putters got (got ++ held) n v
 
   abbrev pub with_put : QueueView T → Item T → QueueView T
   with_put v x = record v { put = v.put ++ x ∷ [] }
 
-  abbrev pub with_got : QueueView T → Item T → QueueView T
-  with_got v x = record v { got = v.got ++ x ∷ [] }
-
-  -- ---- what a step tells
-
   -- the item that was taken is one of the lanes, and the next of its lane
   pub record TakesItem (v : QueueView T) (x : Item T) (w : QueueView T) : Type 0 where
-    pub after : w ≡ with_got v x
+    pub after : w ≡ record v { got = v.got ++ x ∷ [] }
     pub lane : x.lane < v.made
     pub number : x.number ≡ length (of_lane x.lane v.got)
     pub small : x.number < max_lane_items

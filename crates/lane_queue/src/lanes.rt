@@ -1,12 +1,14 @@
 //! The queue itself, which putters and the taker share.
-ghost use Rattle.std.specs.Prelude.{◌≡◌, ◌≢◌, ◌<◌, ◌≤◌, List, [], ◌++◌, true, IfOk, IfErr};
+ghost use Rattle.std.specs.Prelude.{◌≡◌, ◌≢◌, ◌<◌, ◌≤◌, List, [], ◌++◌, true, IfOk, IfErr, OnOk, OnErr, MatchOption};
 ghost use Rattle.std.specs.Vec.{vec_capacity};
+ghost use Rattle.crossbeam_queue.specs.Fifo.{Held};
 ghost use Rattle.crossbeam_queue.specs.Passes.{view, IsSamePass};
 ghost use Rattle.lane_queue.specs.Items.{of_lane};
 ghost use Rattle.lane_queue.specs.Limits.{AreLanes};
 ghost use Rattle.lane_queue.specs.Opened.{fresh_taker, ArePutters, IsOpenedQueue};
+ghost use Rattle.lane_queue.specs.Rule.{with_put, TakesItem, IsSeen};
 ghost use Rattle.lane_queue.specs.declared.fault.QueueFault.TheVariants.{BadLanes, NoMemory};
-ghost use Rattle.lane_queue.specs.inside.Passes.{IsWholePass, MayPut, PutsItem, PushesItem, PopsItem, taker_at_first, with_putter};
+ghost use Rattle.lane_queue.specs.inside.Passes.{IsWholePass, MayPut, with_putter};
 
 use crate::fault::QueueFault;
 use crate::item::Item;
@@ -42,11 +44,9 @@ pub struct LaneQueue<T> {
 
 impl<T> Model for LaneQueue<T> {
     ghost use Rattle.crossbeam_queue.specs.Passes.{ruled_capacity};
-    ghost use Rattle.lane_queue.specs.Queue.{Queue, queue_coded};
+    ghost use Rattle.lane_queue.specs.Queue.{Queue};
 
     ghost Value = { Queue };
-
-    ghost coded = { queue_coded };
 
     ghost view = { λ l. record { table_id = l.queue.table.shared.table_id; room = ruled_capacity l.queue } };
 }
@@ -89,7 +89,7 @@ impl<T> LaneQueue<T> {
         putters: Vec<Putter<T>>,
     ) -> (Pass<Item<T>, QueueView<T>>, Vec<Putter<T>>)
         requires queue { IsWholePass self.now pass }
-        requires first { view pass ≡ taker_at_first }
+        requires first { view pass ≡ fresh_taker 0 }
         requires none { putters.items ≡ [] }
         requires fits { lanes ≤ vec_capacity putters }
         ensures queue { IsWholePass self.now result.0 }
@@ -168,7 +168,9 @@ impl<T> LaneQueue<T> {
         requires queue { IsWholePass self.now pass.old }
         requires may { MayPut (view pass.old) item }
         ensures pass { IsSamePass pass.old pass.new }
-        ensures answer { PushesItem self.now.room (view pass.old) item (view pass.new) result }
+        ensures ok { OnOk result (view pass.new ≡ with_put (view pass.old) item) }
+        ensures back { IfErr result (λ back. (back ≡ item) × (view pass.new ≡ view pass.old)) }
+        ensures full { OnErr result (Held self.now.room (IsSeen (view pass.old))) }
     {
         let pushed = self.queue.push_as::<Sends, R>(rt, pass, item);
         if pushed.is_ok() {
@@ -187,7 +189,8 @@ impl<T> LaneQueue<T> {
         requires queue { IsWholePass self.now pass.old }
         requires takes { (view pass.old).takes ≡ true }
         ensures pass { IsSamePass pass.old pass.new }
-        ensures answer { PopsItem (view pass.old) (view pass.new) result }
+        ensures answer { MatchOption result ((view pass.new ≡ view pass.old) × Held 0 (IsSeen (view pass.old)))
+            (λ item. TakesItem (view pass.old) item (view pass.new)) }
     {
         let popped = self.queue.pop_as::<Gets, R>(rt, pass);
         if popped.is_some() {
@@ -207,7 +210,8 @@ impl<T> LaneQueue<T> {
         requires queue { IsWholePass self.now pass.old }
         requires may { MayPut (view pass.old) item }
         ensures pass { IsSamePass pass.old pass.new }
-        ensures answer { PutsItem (view pass.old) item (view pass.new) result }
+        ensures ok { OnOk result (view pass.new ≡ with_put (view pass.old) item) }
+        ensures back { IfErr result (λ back. (back ≡ item) × (view pass.new ≡ view pass.old)) }
     {
         let mut item = item;
         let mut turns = Turns::Pauses(Backoff::new());

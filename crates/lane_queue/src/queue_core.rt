@@ -1,6 +1,6 @@
 //! The queue as a machine on one thread: its steps, and what is so after any of them.
-ghost use Rattle.std.specs.Prelude.{◌≡◌, ◌≢◌, ◌<◌, ℕ, IfOk, IfErr, OnOk, OnErr};
-ghost use Rattle.lane_queue.specs.Core.{opening, may_put, after_step, answer, after_steps, StopsAt, IsFifo, HasWhole};
+ghost use Rattle.std.specs.Prelude.{◌≡◌, ◌≢◌, ◌<◌, ℕ, length, take, fold, IfOk, IfErr, OnOk, OnErr};
+ghost use Rattle.lane_queue.specs.Core.{opening, may_put, after_step, answer, IsFifo, HasWhole};
 ghost use Rattle.lane_queue.specs.declared.queue_core.QueueStep.TheVariants as step;
 ghost use Rattle.lane_queue.specs.Limits.{AreLanes};
 ghost use Rattle.lane_queue.specs.declared.fault.QueueFault.TheVariants.{BadLanes, NoMemory};
@@ -46,11 +46,9 @@ pub struct State {
 
 impl Model for State {
     ghost use Rattle.lane_queue.specs.Core.{Machine};
-    ghost use Rattle.lane_queue.specs.inside.Core.{machine_of, machine_code, IsMachine};
+    ghost use Rattle.lane_queue.specs.inside.Core.{machine_of, IsMachine};
 
     ghost Value = { Machine };
-
-    ghost coded = { machine_code };
 
     ghost view = { λ s. machine_of s.room s.items.items s.taken s.counts.items };
 
@@ -94,8 +92,9 @@ impl State {
 
     /// One step after another, up to the first one for which memory is refused.
     pub fn run(&mut self, steps: &[QueueStep]) -> Result<(), AllocError>
-        ensures ok { OnOk result (self.new ≡ after_steps self.old steps.now) }
-        ensures err { OnErr result ((done : ℕ) × StopsAt self.old steps.now done self.new) }
+        ensures ok { OnOk result (self.new ≡ fold after_step self.old steps.now) }
+        ensures err { OnErr result
+            ((n : ℕ) × (n < length steps.now) × (self.new ≡ fold after_step self.old (take n steps.now))) }
         ensures fifo { IsFifo self.new }
         ensures whole { HasWhole self.new }
     {

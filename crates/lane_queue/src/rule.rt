@@ -7,11 +7,11 @@ pub(crate) struct InLanes;
 
 impl<T> Protocol<Item<T>, QueueView<T>> for InLanes {
     ghost use Rattle.lane_queue.specs.Rule.{KeepsOrder};
-    ghost use Rattle.lane_queue.specs.inside.Passes.{taker_at_first};
+    ghost use Rattle.lane_queue.specs.Opened.{fresh_taker};
 
     ghost holds = { KeepsOrder };
 
-    ghost first = { taker_at_first };
+    ghost first = { fresh_taker 0 };
 }
 
 /// A push by a putter, and what it sees where the queue is full.
@@ -49,26 +49,31 @@ impl<T> Lesson<Item<T>, QueueView<T>> for Gets {
 pub(crate) struct OpensLane;
 
 impl<T> Split<QueueView<T>> for OpensLane {
-    ghost use Rattle.lane_queue.specs.inside.Passes.{with_lane, of_new_lane};
+    ghost use Rattle.std.specs.Prelude.{◌+◌};
+    ghost use Rattle.lane_queue.specs.Opened.{fresh_putter};
 
-    ghost left = { with_lane };
+    ghost left = { λ v. record v { made = v.made + 1 } };
 
-    ghost right = { of_new_lane };
+    ghost right = { λ v. fresh_putter v.made };
 }
 
 /// The taker takes a putter in, and learns what became of its items.
 pub(crate) struct Reckons;
 
 impl<T> Join<QueueView<T>> for Reckons {
-    ghost use Rattle.lane_queue.specs.inside.Passes.{with_putter, spent_pass};
+    ghost use Rattle.std.specs.Prelude.{false};
+    ghost use Rattle.lane_queue.specs.Opened.{fresh_putter};
+    ghost use Rattle.lane_queue.specs.inside.Passes.{with_putter};
 
     ghost both = { with_putter };
 
-    ghost spent = { spent_pass };
+    ghost spent = { record (fresh_putter 0) { puts = false } };
 }
 
 impl<T> Lesson<Item<T>, QueueView<T>> for Reckons {
-    ghost use Rattle.lane_queue.specs.inside.Passes.{IsTold};
+    ghost use Rattle.std.specs.Prelude.{◌≡◌, ◌<◌, ◌++◌};
+    ghost use Rattle.lane_queue.specs.Items.{of_lane};
 
-    ghost fact = { IsTold };
+    // what was put in the putter's lane is what was taken of it, and what the queue held of it
+    ghost fact = { λ v held. (v.lane < v.made) × (v.put ≡ of_lane v.lane v.got ++ of_lane v.lane held) };
 }

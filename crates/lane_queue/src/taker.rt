@@ -99,7 +99,7 @@ impl<T> Taker<T> {
     }
 
     /// One try to take the next item. It waits only for another thread that is in the middle of its step.
-    #[tactic(auto, using(crate::proofs::Counts::ended, crate::proofs::Counts::unended, crate::proofs::Counts::took, crate::proofs::Counts::took_last))]
+    #[tactic(auto, using(crate::proofs::Counts::ended))]
     pub fn try_take<R: Wait>(&mut self, rt: &R, lanes: &LaneQueue<T>) -> TryTake<T>
         requires lanes { IsPassOf lanes.now self.old }
         ensures pass { IsSamePass self.old self.new }
@@ -113,9 +113,7 @@ impl<T> Taker<T> {
             return TryTake::Empty;
         };
         self.counts[item.lane as usize] += 1;
-        if item.last {
-            self.running -= 1;
-        }
+        self.running -= u32::from(item.last);
         TryTake::Item(item)
     }
 }

@@ -1,20 +1,28 @@
+ghost use Rattle.std.specs.Prelude.{IfOk};
+ghost use Rattle.lane_queue.specs.Opened.{IsNewPutterOf};
+ghost use Rattle.lane_queue.specs.Queue.{IsPassOf};
+
 use lane_queue::queue_core::{Did, QueueStep, State};
-use lane_queue::{Item, LaneQueue, Put, QueueFault, Room, Take, TryPut, TryTake, reckon};
+use lane_queue::{
+    Item, LaneQueue, Put, Putter, QueueFault, Room, Take, Taker, TryPut, TryTake, reckon,
+};
+use std::alloc::{AllocError, Global};
 use std::process::Abort;
 use std::test::Fail;
 
+// ---- limits
+
+fn has_code(rt: &impl Abort, alloc: Global, fault: QueueFault, code: &str) -> Result<(), Fail> {
+    let text = format!(in alloc; "{fault}")?;
+    assert_eq!(rt; text.as_str(), code);
+    Ok(())
+}
+
 #[test]
 fn has_codes(rt: HostRuntime) -> Result<(), Fail> {
-    let codes = [
-        (QueueFault::BadLanes, "Q1"),
-        (QueueFault::BadRoom, "Q2"),
-        (QueueFault::NoMemory, "Q3"),
-    ];
-    for (fault, code) in codes {
-        let text = format!(in rt.alloc(); "{fault}")?;
-        assert!(rt; text.as_str() == code, "for {code}");
-    }
-    Ok(())
+    has_code(&rt, rt.alloc(), QueueFault::BadLanes, "Q1")?;
+    has_code(&rt, rt.alloc(), QueueFault::BadRoom, "Q2")?;
+    has_code(&rt, rt.alloc(), QueueFault::NoMemory, "Q3")
 }
 
 #[test]
@@ -28,148 +36,245 @@ fn rooms_have_limits(rt: HostRuntime) -> Result<(), Fail> {
     Ok(())
 }
 
+// How many putters there are where so many lanes are opened.
+fn putters(alloc: Global, lanes: u32) -> Result<usize, QueueFault> {
+    let (_lanes, _taker, putters) = LaneQueue::<u64>::open(alloc, lanes, Room::new(1)?)?;
+    Ok(putters.len())
+}
+
+fn open_state(alloc: Global, lanes: u32, items: usize) -> Result<State, QueueFault> {
+    State::open(alloc, lanes, Room::new(items)?)
+}
+
+fn is_no_count(rt: &impl Abort, alloc: Global, lanes: u32) {
+    assert_eq!(rt; putters(alloc, lanes), Err(QueueFault::BadLanes));
+    assert_eq!(rt;
+        open_state(alloc, lanes, 1).err(),
+        Some(QueueFault::BadLanes)
+    );
+}
+
+fn is_count(rt: &impl Abort, alloc: Global, lanes: u32) -> Result<(), Fail> {
+    assert_eq!(rt; putters(alloc, lanes)?, lanes as usize);
+    let _state = open_state(alloc, lanes, 1)?;
+    Ok(())
+}
+
 #[test]
 fn lanes_have_limits(rt: HostRuntime) -> Result<(), Fail> {
-    let alloc = rt.alloc();
-    let room = Room::new(1)?;
     for lanes in [0, 17, u32::MAX] {
-        assert_eq!(rt;
-            LaneQueue::<u64>::open(alloc, lanes, room).err(),
-            Some(QueueFault::BadLanes)
-        );
-        assert_eq!(rt;
-            State::open(alloc, lanes, room).err(),
-            Some(QueueFault::BadLanes)
-        );
+        is_no_count(&rt, rt.alloc(), lanes);
     }
     for lanes in [1, 2, 16] {
-        let (_lanes, _taker, putters) = LaneQueue::<u64>::open(alloc, lanes, room)?;
-        assert_eq!(rt; putters.len(), lanes as usize);
-        let _state = State::open(alloc, lanes, room)?;
+        is_count(&rt, rt.alloc(), lanes)?;
     }
     Ok(())
 }
 
-// The lane, the number, whether it is the last, and the body.
-type Known = (u32, u64, bool, u64);
+// ---- lanes
 
-fn known(item: &Item<u64>) -> Known {
-    (item.lane, item.number, item.last, item.body)
+// What a call answered.
+#[derive(Clone, Copy, Debug, PartialEq, Eq)]
+pub(crate) enum Answer {
+    Done,
+    // With the body that comes back.
+    Full(u64),
+    Closed(u64),
+    Over(u64),
+    // The lane, the number, whether it is the last, and the body.
+    Item(u32, u64, bool, u64),
+    Empty,
+    AllEnded,
+    Refused,
+}
+
+pub(crate) fn is(rt: &impl Abort, answer: Answer, want: Answer) {
+    assert_eq!(rt; answer, want);
+}
+
+fn of_item(item: &Item<u64>) -> Answer {
+    Answer::Item(item.lane, item.number, item.last, item.body)
+}
+
+pub(crate) fn of_put(put: Put<u64>) -> Answer {
+    match put {
+        Put::Done => Answer::Done,
+        Put::Closed(body) => Answer::Closed(body),
+        Put::Over(body) => Answer::Over(body),
+    }
+}
+
+fn of_try_put(put: TryPut<u64>) -> Answer {
+    match put {
+        TryPut::Done => Answer::Done,
+        TryPut::Full(body) => Answer::Full(body),
+        TryPut::Closed(body) => Answer::Closed(body),
+        TryPut::Over(body) => Answer::Over(body),
+    }
+}
+
+pub(crate) fn of_take(take: Take<u64>) -> Answer {
+    match take {
+        Take::Item(item) => of_item(&item),
+        Take::AllEnded => Answer::AllEnded,
+    }
+}
+
+fn of_try_take(take: TryTake<u64>) -> Answer {
+    match take {
+        TryTake::Item(item) => of_item(&item),
+        TryTake::AllEnded => Answer::AllEnded,
+        TryTake::Empty => Answer::Empty,
+    }
+}
+
+// One lane, with room for so many items.
+pub(crate) fn one_lane(
+    alloc: Global,
+    items: usize,
+) -> Result<(LaneQueue<u64>, Taker<u64>, Putter<u64>), Fail>
+    ensures { IfOk result (λ made. IsPassOf made.0 made.1 × IsNewPutterOf made.0 made.2) }
+{
+    let (lanes, taker, mut putters) = LaneQueue::open(alloc, 1, Room::new(items)?)?;
+    match putters.pop() {
+        Some(putter) => Ok((lanes, taker, putter)),
+        None => Err(Fail::from("no putter")),
+    }
+}
+
+// Two lanes, with room for so many items together.
+pub(crate) fn two_lanes(
+    alloc: Global,
+    items: usize,
+) -> Result<(LaneQueue<u64>, Taker<u64>, Putter<u64>, Putter<u64>), Fail>
+    ensures { IfOk result (λ made. IsPassOf made.0 made.1 × IsNewPutterOf made.0 made.2 × IsNewPutterOf made.0 made.3) }
+{
+    let (lanes, taker, mut putters) = LaneQueue::open(alloc, 2, Room::new(items)?)?;
+    match (putters.pop(), putters.pop()) {
+        (Some(second), Some(first)) => Ok((lanes, taker, first, second)),
+        _ => Err(Fail::from("no putters")),
+    }
 }
 
 #[test]
 fn passes_the_items_of_a_lane(rt: HostRuntime) -> Result<(), Fail> {
-    let (lanes, mut taker, mut putters) = LaneQueue::open(rt.alloc(), 1, Room::new(1)?)?;
-    let Some(mut putter) = putters.pop() else {
-        assert!(rt; false, "no putter");
-        return Ok(());
-    };
-    assert!(rt; matches!(taker.try_take(&rt, &lanes), TryTake::Empty));
-    assert!(rt; matches!(putter.try_put(&rt, &lanes, 5), TryPut::Done));
-    assert!(rt; matches!(putter.try_put(&rt, &lanes, 6), TryPut::Full(6)));
-    match taker.take(&rt, &lanes) {
-        Take::Item(item) => assert_eq!(rt; known(&item), (0, 0, false, 5)),
-        Take::AllEnded => assert!(rt; false, "ended"),
-    }
-    assert!(rt; matches!(putter.finish(&rt, &lanes, 7), Put::Done));
-    assert!(rt; matches!(putter.put(&rt, &lanes, 8), Put::Over(8)));
-    match taker.take(&rt, &lanes) {
-        Take::Item(item) => assert_eq!(rt; known(&item), (0, 1, true, 7)),
-        Take::AllEnded => assert!(rt; false, "ended"),
-    }
-    assert!(rt; matches!(taker.take(&rt, &lanes), Take::AllEnded));
+    let (lanes, mut taker, mut putter) = one_lane(rt.alloc(), 1)?;
+    is(&rt, of_try_take(taker.try_take(&rt, &lanes)), Answer::Empty);
+    is(
+        &rt,
+        of_try_put(putter.try_put(&rt, &lanes, 5)),
+        Answer::Done,
+    );
+    let full = of_try_put(putter.try_put(&rt, &lanes, 6));
+    is(&rt, full, Answer::Full(6));
+    let taken = of_take(taker.take(&rt, &lanes));
+    is(&rt, taken, Answer::Item(0, 0, false, 5));
+    is(&rt, of_put(putter.finish(&rt, &lanes, 7)), Answer::Done);
+    is(&rt, of_put(putter.put(&rt, &lanes, 8)), Answer::Over(8));
+    let taken = of_take(taker.take(&rt, &lanes));
+    is(&rt, taken, Answer::Item(0, 1, true, 7));
+    is(&rt, of_take(taker.take(&rt, &lanes)), Answer::AllEnded);
     assert_eq!(rt; reckon(&rt, &lanes, &mut taker, putter), 0);
     Ok(())
 }
 
 #[test]
 fn puts_nothing_where_it_is_closed(rt: HostRuntime) -> Result<(), Fail> {
-    let (lanes, mut taker, mut putters) = LaneQueue::open(rt.alloc(), 1, Room::new(2)?)?;
-    let Some(mut putter) = putters.pop() else {
-        assert!(rt; false, "no putter");
-        return Ok(());
-    };
-    assert!(rt; matches!(putter.put(&rt, &lanes, 4), Put::Done));
+    let (lanes, mut taker, mut putter) = one_lane(rt.alloc(), 2)?;
+    is(&rt, of_put(putter.put(&rt, &lanes, 4)), Answer::Done);
     lanes.close(&rt);
-    assert!(rt; matches!(putter.put(&rt, &lanes, 5), Put::Closed(5)));
-    assert!(rt; matches!(putter.try_put(&rt, &lanes, 5), TryPut::Closed(5)));
-    assert!(rt; matches!(putter.finish(&rt, &lanes, 5), Put::Closed(5)));
-    assert!(rt; matches!(taker.try_take(&rt, &lanes), TryTake::Item(_)));
-    assert!(rt; matches!(taker.try_take(&rt, &lanes), TryTake::Empty));
+    is(&rt, of_put(putter.put(&rt, &lanes, 5)), Answer::Closed(5));
+    let tried = of_try_put(putter.try_put(&rt, &lanes, 5));
+    is(&rt, tried, Answer::Closed(5));
+    is(
+        &rt,
+        of_put(putter.finish(&rt, &lanes, 5)),
+        Answer::Closed(5),
+    );
+    let taken = of_try_take(taker.try_take(&rt, &lanes));
+    is(&rt, taken, Answer::Item(0, 0, false, 4));
+    is(&rt, of_try_take(taker.try_take(&rt, &lanes)), Answer::Empty);
     assert_eq!(rt; reckon(&rt, &lanes, &mut taker, putter), 0);
     Ok(())
 }
 
 #[test]
 fn reckons_what_was_left(rt: HostRuntime) -> Result<(), Fail> {
-    let (lanes, mut taker, mut putters) = LaneQueue::open(rt.alloc(), 2, Room::new(4)?)?;
-    let (Some(mut second), Some(mut first)) = (putters.pop(), putters.pop()) else {
-        assert!(rt; false, "no putters");
-        return Ok(());
-    };
+    let (lanes, mut taker, mut first, mut second) = two_lanes(rt.alloc(), 4)?;
     let _ = first.put(&rt, &lanes, 5);
     let _ = second.put(&rt, &lanes, 6);
     let _ = first.put(&rt, &lanes, 7);
     let _ = first.finish(&rt, &lanes, 8);
-    let taken = (taker.take(&rt, &lanes), taker.take(&rt, &lanes));
-    let (Take::Item(one), Take::Item(two)) = taken else {
-        assert!(rt; false, "ended");
-        return Ok(());
-    };
-    assert_eq!(rt; known(&one), (0, 0, false, 5));
-    assert_eq!(rt; known(&two), (1, 0, false, 6));
+    let taken = of_take(taker.take(&rt, &lanes));
+    is(&rt, taken, Answer::Item(0, 0, false, 5));
+    let taken = of_take(taker.take(&rt, &lanes));
+    is(&rt, taken, Answer::Item(1, 0, false, 6));
     assert_eq!(rt; reckon(&rt, &lanes, &mut taker, first), 2);
     assert_eq!(rt; reckon(&rt, &lanes, &mut taker, second), 0);
     Ok(())
 }
 
-fn put(item: u64, last: bool) -> QueueStep {
-    QueueStep::Put {
-        lane: 0,
-        item,
-        last,
+// ---- steps
+
+// What is put: its lane, the item, and whether it is the last. Or none, where the front is taken.
+type Tried = Option<(u32, u64, bool)>;
+
+fn step(tried: Tried) -> QueueStep {
+    match tried {
+        Some((lane, item, last)) => QueueStep::Put { lane, item, last },
+        None => QueueStep::Take,
     }
 }
+
+fn of_step(state: &mut State, step: QueueStep) -> Result<Answer, AllocError> {
+    match state.apply(step)? {
+        Did::Put => Ok(Answer::Done),
+        Did::Refused => Ok(Answer::Refused),
+        Did::Took(item) => Ok(of_item(&item)),
+        Did::Empty => Ok(Answer::Empty),
+    }
+}
+
+fn goes(rt: &impl Abort, state: &mut State, rows: &[(Tried, Answer)]) -> Result<(), Fail> {
+    for &(tried, want) in rows {
+        is(rt, of_step(state, step(tried))?, want);
+    }
+    Ok(())
+}
+
+const ONE_BY_ONE: &[(Tried, Answer)] = &[
+    (Some((0, 5, false)), Answer::Done),
+    (Some((0, 6, false)), Answer::Refused),
+    (None, Answer::Item(0, 0, false, 5)),
+    (None, Answer::Empty),
+];
+
+// Behind its last item a lane gets no more, and there is no other lane.
+const BEHIND_THE_LAST: &[(Tried, Answer)] = &[
+    (Some((0, 9, false)), Answer::Refused),
+    (Some((1, 9, false)), Answer::Refused),
+    (None, Answer::Empty),
+];
 
 #[test]
 fn steps_as_a_machine(rt: HostRuntime) -> Result<(), Fail> {
-    let mut state = State::open(rt.alloc(), 1, Room::new(1)?)?;
-    assert!(rt; matches!(state.apply(put(5, false))?, Did::Put));
-    assert!(rt; matches!(state.apply(put(6, false))?, Did::Refused));
-    match state.apply(QueueStep::Take)? {
-        Did::Took(item) => assert_eq!(rt; known(&item), (0, 0, false, 5)),
-        _ => assert!(rt; false, "nothing was taken"),
-    }
-    assert!(rt; matches!(state.apply(QueueStep::Take)?, Did::Empty));
-
-    // Behind its last item a lane gets no more, and there is no other lane.
-    state.run(&[put(7, true), QueueStep::Take, put(8, false)])?;
-    assert!(rt; matches!(state.apply(put(9, false))?, Did::Refused));
-    let elsewhere = QueueStep::Put {
-        lane: 1,
-        item: 9,
-        last: false,
-    };
-    assert!(rt; matches!(state.apply(elsewhere)?, Did::Refused));
-    assert!(rt; matches!(state.apply(QueueStep::Take)?, Did::Empty));
-    Ok(())
+    let mut state = open_state(rt.alloc(), 1, 1)?;
+    goes(&rt, &mut state, ONE_BY_ONE)?;
+    let (last, behind) = (step(Some((0, 7, true))), step(Some((0, 8, false))));
+    state.run(&[last, step(None), behind])?;
+    goes(&rt, &mut state, BEHIND_THE_LAST)
 }
+
+const BEHIND_THE_FIRST: &[(Tried, Answer)] = &[
+    (Some((0, 7, true)), Answer::Done),
+    (None, Answer::Item(1, 0, true, 6)),
+    (None, Answer::Item(0, 1, true, 7)),
+];
 
 #[test]
 fn steps_with_several_items(rt: HostRuntime) -> Result<(), Fail> {
-    let mut state = State::open(rt.alloc(), 2, Room::new(2)?)?;
-    let second = |item| QueueStep::Put {
-        lane: 1,
-        item,
-        last: true,
-    };
-    state.run(&[put(5, false), second(6), put(7, true), QueueStep::Take])?;
-    assert!(rt; matches!(state.apply(put(7, true))?, Did::Put));
-    for place in [(1, 0, true, 6), (0, 1, true, 7)] {
-        match state.apply(QueueStep::Take)? {
-            Did::Took(item) => assert_eq!(rt; known(&item), place),
-            _ => assert!(rt; false, "nothing was taken"),
-        }
-    }
-    Ok(())
+    let mut state = open_state(rt.alloc(), 2, 2)?;
+    let (first, second) = (step(Some((0, 5, false))), step(Some((1, 6, true))));
+    state.run(&[first, second, step(Some((0, 7, true))), step(None)])?;
+    goes(&rt, &mut state, BEHIND_THE_FIRST)
 }

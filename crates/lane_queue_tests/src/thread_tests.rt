@@ -3,7 +3,7 @@ ghost use Rattle.std.specs.Prelude.{All};
 ghost use Rattle.lane_queue.specs.Opened.{IsNewPutterOf};
 ghost use Rattle.lane_queue.specs.Queue.{IsPassOf};
 
-use lane_queue::{LaneQueue, Putter, Room, Take, Taker};
+use lane_queue::{Item, LaneQueue, Putter, Room, Take, Taker};
 use std::alloc::{AllocError, Global};
 use std::process::Abort;
 use std::sync::Wait;
@@ -22,6 +22,17 @@ fn put_all<R: Wait>(rt: &R, lanes: &LaneQueue<u64>, putter: Putter<u64>, count: 
     let _ = putter.finish(rt, lanes, u64::from(count));
 }
 
+// Counts an item. Whether it is the next of its lane.
+fn count(counts: &mut [u64], item: &Item<u64>) -> bool {
+    match counts.get_mut(item.lane as usize) {
+        Some(next) if item.number == *next && item.body == *next => {
+            *next = next.wrapping_add(1);
+            true
+        }
+        _ => false,
+    }
+}
+
 // Takes all items, and counts those that each lane got in order.
 fn take_all<R: Wait>(
     rt: &R,
@@ -35,13 +46,9 @@ fn take_all<R: Wait>(
         match taker.take(rt, lanes) {
             Take::AllEnded => return true,
             Take::Item(item) => {
-                let Some(count) = counts.get_mut(item.lane as usize) else {
-                    return false;
-                };
-                if item.number != *count || item.body != *count {
+                if !count(counts, &item) {
                     return false;
                 }
-                *count = count.wrapping_add(1);
             }
         }
     }
@@ -104,17 +111,19 @@ fn pass_all<R: Threads + Wait + Sync>(
     Ok(if whole { Some(counts) } else { None })
 }
 
+fn passes_all_in_order<R: AllocGlobal + Threads + Wait + Abort + Sync>(
+    rt: &R,
+    items: usize,
+) -> Result<(), Fail> {
+    let counts = pass_all(rt, rt.alloc(), 16, Room::new(items)?, 10_000)?;
+    let counts = counts.ok_or("all items in order")?;
+    assert_eq!(rt; counts.as_slice(), [10_001; 16].as_slice());
+    Ok(())
+}
+
 #[test]
 fn passes_the_items_of_sixteen_threads(rt: HostRuntime) -> Result<(), Fail> {
-    for items in [1, 2, 64] {
-        let Some(counts) = pass_all(&rt, rt.alloc(), 16, Room::new(items)?, 10_000)? else {
-            assert!(rt; false, "an item out of order");
-            continue;
-        };
-        assert_eq!(rt; counts.len(), 16);
-        for count in &counts {
-            assert_eq!(rt; *count, 10_001);
-        }
-    }
-    Ok(())
+    passes_all_in_order(&rt, 1)?;
+    passes_all_in_order(&rt, 2)?;
+    passes_all_in_order(&rt, 64)
 }

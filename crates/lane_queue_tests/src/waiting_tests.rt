@@ -3,20 +3,25 @@ ghost use Rattle.std.specs.Prelude.{◌≤◌, length};
 ghost use Rattle.crossbeam_queue.specs.Passes.{view};
 ghost use Rattle.lane_queue.specs.Queue.{IsPassOf};
 
-use lane_queue::{LaneQueue, Put, Putter, Room, Take, Taker};
+use crate::tests::{Answer, is, of_put, of_take, one_lane, two_lanes};
+use lane_queue::{LaneQueue, Put, Putter, Take, Taker};
 use std::alloc::AllocError;
 use std::process::Abort;
 use std::sync::Wait;
 use std::test::Fail;
-use std::thread;
 use std::thread::Threads;
 use std::time::{Clock, CpuClock, Duration};
+use std::{io, thread};
 
 // What a wait of two seconds may cost its thread.
 const MILLIS: u64 = 20;
 
 // What a call answered, and the processor time that its thread used meanwhile. None where there is no such clock.
-type Timed<A> = Option<(A, Duration)>;
+type Timed<A> = (A, Option<Duration>);
+
+fn busy(start: io::Result<Duration>, end: io::Result<Duration>) -> Option<Duration> {
+    Some(end.ok()?.saturating_sub(start.ok()?))
+}
 
 fn take_timed<R: Wait + CpuClock>(
     rt: &R,
@@ -26,10 +31,9 @@ fn take_timed<R: Wait + CpuClock>(
     requires { IsPassOf lanes.now taker }
 {
     let mut taker = taker;
-    let start = rt.thread_cpu_time().ok()?;
+    let start = rt.thread_cpu_time();
     let taken = taker.take(rt, lanes);
-    let end = rt.thread_cpu_time().ok()?;
-    Some((taken, end.saturating_sub(start)))
+    (taken, busy(start, rt.thread_cpu_time()))
 }
 
 fn put_timed<R: Wait + CpuClock>(
@@ -41,10 +45,9 @@ fn put_timed<R: Wait + CpuClock>(
     requires { IsPassOf lanes.now putter × (length (view putter).put ≤ 1) }
 {
     let mut putter = putter;
-    let start = rt.thread_cpu_time().ok()?;
+    let start = rt.thread_cpu_time();
     let put = putter.put(rt, lanes, body);
-    let end = rt.thread_cpu_time().ok()?;
-    Some((put, end.saturating_sub(start)))
+    (put, busy(start, rt.thread_cpu_time()))
 }
 
 // The taker waits for an item that is put after that time.
@@ -155,66 +158,49 @@ fn put_both_after<R: Threads + Wait + Clock + Sync>(
     )
 }
 
+fn has_slept(rt: &impl Abort, busy: Option<Duration>) -> Result<(), Fail> {
+    let busy = busy.ok_or("a clock")?;
+    assert!(rt; busy < Duration::from_millis(MILLIS), "{busy:?} of work");
+    Ok(())
+}
+
 #[test]
 fn a_taker_sleeps_at_an_empty_queue(rt: HostRuntime) -> Result<(), Fail> {
-    let (lanes, taker, mut putters) = LaneQueue::open(rt.alloc(), 1, Room::new(1)?)?;
-    let Some(putter) = putters.pop() else {
-        assert!(rt; false, "no putter");
-        return Ok(());
-    };
-    match take_after(&rt, &lanes, taker, putter, Duration::from_secs(2))? {
-        Some((Take::Item(item), busy)) => {
-            assert_eq!(rt; item.body, 7);
-            assert!(rt; busy < Duration::from_millis(MILLIS), "{busy:?} of work");
-        }
-        _ => assert!(rt; false, "no item, or no clock"),
-    }
-    Ok(())
+    let (lanes, taker, putter) = one_lane(rt.alloc(), 1)?;
+    let (take, busy) = take_after(&rt, &lanes, taker, putter, Duration::from_secs(2))?;
+    is(&rt, of_take(take), Answer::Item(0, 0, false, 7));
+    has_slept(&rt, busy)
+}
+
+// Its wait ends with that answer.
+fn putter_sleeps<R: AllocGlobal + Threads + Wait + Clock + CpuClock + Abort + Sync>(
+    rt: &R,
+    closes: bool,
+    seconds: u64,
+    want: Answer,
+) -> Result<(), Fail> {
+    let (lanes, taker, mut putter) = one_lane(rt.alloc(), 1)?;
+    let _ = putter.put(rt, &lanes, 7);
+    let time = Duration::from_secs(seconds);
+    let (put, busy) = put_after(rt, &lanes, taker, putter, time, closes)?;
+    is(rt, of_put(put), want);
+    has_slept(rt, busy)
 }
 
 #[test]
 fn a_putter_sleeps_at_a_full_queue(rt: HostRuntime) -> Result<(), Fail> {
-    for (closes, seconds) in [(false, 2), (true, 1)] {
-        let (lanes, taker, mut putters) = LaneQueue::open(rt.alloc(), 1, Room::new(1)?)?;
-        let Some(mut putter) = putters.pop() else {
-            assert!(rt; false, "no putter");
-            return Ok(());
-        };
-        let _ = putter.put(&rt, &lanes, 7);
-        let time = Duration::from_secs(seconds);
-        let timed = put_after(&rt, &lanes, taker, putter, time, closes)?;
-        let Some((put, busy)) = timed else {
-            assert!(rt; false, "no clock");
-            return Ok(());
-        };
-        match put {
-            Put::Done => assert!(rt; !closes, "put though it was closed"),
-            Put::Closed(body) => assert!(rt; closes && body == 8, "closed"),
-            Put::Over(_) => assert!(rt; false, "over"),
-        }
-        assert!(rt; busy < Duration::from_millis(MILLIS), "{busy:?} of work");
-    }
-    Ok(())
+    putter_sleeps(&rt, false, 2, Answer::Done)?;
+    putter_sleeps(&rt, true, 1, Answer::Closed(8))
 }
 
 #[test]
 fn two_putters_go_on_where_there_is_room_for_both(rt: HostRuntime) -> Result<(), Fail> {
-    let (lanes, taker, mut putters) = LaneQueue::open(rt.alloc(), 2, Room::new(2)?)?;
-    let Some(mut one) = putters.pop() else {
-        assert!(rt; false, "no putter");
-        return Ok(());
-    };
-    let Some(mut other) = putters.pop() else {
-        assert!(rt; false, "no second putter");
-        return Ok(());
-    };
+    let (lanes, taker, mut one, mut other) = two_lanes(rt.alloc(), 2)?;
     let _ = one.put(&rt, &lanes, 7);
     let _ = other.put(&rt, &lanes, 7);
     let time = Duration::from_millis(200);
-    let put = put_both_after(&rt, &lanes, taker, one, other, time)?;
-    assert!(rt;
-        matches!(put, (Put::Done, Put::Done)),
-        "an item was not put"
-    );
+    let (first, second) = put_both_after(&rt, &lanes, taker, one, other, time)?;
+    is(&rt, of_put(first), Answer::Done);
+    is(&rt, of_put(second), Answer::Done);
     Ok(())
 }

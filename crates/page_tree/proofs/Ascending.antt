@@ -1,6 +1,5 @@
 -- The names of an object's members ascend, since it is kept as an ordered map.
-use Rattle.std.proofs.Common.{◌≡◌, ℕ, List, [], ◌∷◌, map, true, Option, Some, None, option_map, option_and_then, codes, String, Global, Less, string_bytes, string_cmp, nat_cmp, refl, sym, ◌∙◌, ap, Ok}
-use Rattle.std.specs.Option.{ok_or}
+use Rattle.std.proofs.Common.{◌≡◌, ℕ, List, [], ◌∷◌, map, true, Option, Some, None, option_map, option_and_then, codes, String, Global, Less, string_bytes, string_cmp, nat_cmp, refl, sym, ◌∙◌, ap}
 use Rattle.std.specs.Cmp.Lexicographic.{slice_cmp}
 use Rattle.std.specs.List.Sorted.{IsStrictlySortedBy}
 use Rattle.std.specs.Map.{keys_of}
@@ -11,8 +10,6 @@ use Rattle.serde_json.specs.declared.value.Value.{Value}
 use Rattle.page_tree.specs.Tree.{Attribute}
 use Rattle.page_tree.specs.Limits.{names_of, is_ascending}
 use Rattle.page_tree.specs.Value.{texts_of, attributes_in}
-use Rattle.page_tree.specs.inside.Walk.{if_ascending}
-use Rattle.page_tree.specs.declared.fault.PageFault.TheVariants.{BadAttribute}
 
 abbrev pub Entry : Type 0
 Entry = String Global × Value
@@ -43,7 +40,6 @@ ascending-sorted (k ∷ l ∷ ks) sorted =
 
 -- what the code has read of an object is what the definition says
 pub attributes_read : (d given : Data) (es : List Entry) (found : List Attribute) → Some given ≡ get (codes "a") d → Some (members_view es) ≡ as_object given
-    → texts_of (members_view es) ≡ Some found → IsStrictlySortedBy string_cmp (keys_of es) → ok_or (option_and_then if_ascending (attributes_in d)) BadAttribute ≡ Ok found
+    → texts_of (members_view es) ≡ Some found → IsStrictlySortedBy string_cmp (keys_of es) → (attributes_in d ≡ Some found) × (is_ascending (names_of found) ≡ true)
 attributes_read d given es found at members texts sorted =
-    let ascend : is_ascending (names_of found) ≡ true = ap is_ascending (names-texts_of es found texts) ∙ ascending-sorted (keys_of es) sorted in
-    rw (← at, ← members, texts, ascend) refl
+    (rw (← at, ← members, texts) refl, ap is_ascending (names-texts_of es found texts) ∙ ascending-sorted (keys_of es) sorted)

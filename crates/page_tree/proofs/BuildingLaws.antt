@@ -1,16 +1,16 @@
 -- The making of a table: what one child more does to what is kept of its siblings, and to the table.
-use Rattle.std.proofs.Common.{◌≡◌, ℕ, zero, suc, ◌+◌, ◌<◌, ◌≤◌, List, [], ◌∷◌, ◌++◌, length, get_or, drop, Bool, true, false, cond, if◌then◌else◌, Some, unwrap_or, nat_cmp, bytes_eq, Bor, Vec, rules, refl, sym, ◌∙◌, ap, arith, length-append, append_assoc}
+use Rattle.std.proofs.Common.{◌≡◌, ℕ, suc, ◌+◌, ◌<◌, ◌≤◌, List, [], ◌∷◌, ◌++◌, length, get_or, drop, Bool, true, false, cond, if◌then◌else◌, Some, unwrap_or, nat_cmp, bytes_eq, Bor, Vec, rules, refl, sym, ◌∙◌, ap, arith, length-append, append_assoc}
 use Rattle.std.specs.BTreeMap.{BTreeMap, get_by}
 use Rattle.std.specs.Cmp.Lexicographic.{slice_cmp}
-use Rattle.std.proofs.lemmas.List.{at_drop_more}
+use Rattle.std.proofs.lemmas.List.{at_drop_more, get_or_at, set_at}
 use Rattle.std.proofs.lemmas.Slice.Eq.{bytes_eq-Decides}
-use Rattle.page_tree.specs.Tree.{Attribute, Tree, element, Trees, no_trees, tree}
+use Rattle.page_tree.specs.Tree.{Attribute, Tree, element, words, Trees, no_trees, tree}
 use Rattle.page_tree.specs.Limits.{nodes, nodes_of_all, max_nodes}
-use Rattle.page_tree.specs.Look.{count}
+use Rattle.page_tree.specs.Look.{count, name_of}
 use Rattle.page_tree.specs.Number.{count_of}
-use Rattle.page_tree.specs.inside.Table.{Line, lines_of, lines_from}
-use Rattle.page_tree.specs.inside.Rows.{line_on, with_line_end}
-use Rattle.page_tree.specs.inside.Building.{name_count, CountsOneMore, Passed, IsSpot}
+use Rattle.page_tree.specs.inside.Table.{Line, line_on, spot_behind, lines_of, lines_from}
+use Rattle.page_tree.specs.inside.Rows.{with_line_end}
+use Rattle.page_tree.specs.inside.Building.{name_count, CountsOneMore, Passed, PassesOne}
 use Rattle.page_tree.specs.declared.siblings.Siblings.{Siblings}
 use Rattle.page_tree.specs.declared.table.Spot.{Spot}
 use Rattle.page_tree.specs.declared.tree.Tree as code
@@ -48,37 +48,23 @@ pub seen-Element : (name : List ℕ) (attributes : List Attribute) (children : V
     → seen (code.Element name attributes children) ≡ element name attributes (all_seen children.items)
 seen-Element name attributes children = search (rules, code.the_lemmas)
 
-with_end_at : (xs ys : List Line) (l : Line) (end : ℕ) → with_line_end (length xs) end (xs ++ l ∷ ys) ≡ xs ++ record l { end = end } ∷ ys
-with_end_at [] ys l end = refl
-with_end_at (x ∷ xs) ys l end = ap (λ ls. x ∷ ls) (with_end_at xs ys l end)
-
-element_lines : (name : List ℕ) (attributes : List Attribute) (children before : Trees) (spot : Spot) (at end : ℕ) → end ≡ suc at + nodes_of_all children
-    → IsSpot spot before (element name attributes children)
-    → line_on (element name attributes no_trees) spot end (count children) ∷ lines_from at no_trees (suc at) children
-    ≡ lines_of spot.parent before at (element name attributes children)
-element_lines name attributes children before spot at end is s = rw (is, s.position, s.elements, s.same) refl
+pub seen-Words : (text : List ℕ) → seen (code.Words text) ≡ words text
+seen-Words text = search (rules, code.the_lemmas)
 
 -- the row of an element, then those under it, then its end
-pub element_built : {t : Tree} (name : List ℕ) (attributes : List Attribute) (children : Trees) (spot : Spot) (many number : ℕ) (old pushed all : List Line)
-    → t ≡ element name attributes children → many ≡ count children → number ≡ length old
-    → pushed ≡ old ++ line_on (element name attributes no_trees) spot 0 many ∷ []
+pub element_built : (name : List ℕ) (attributes : List Attribute) (children : Trees) (spot : Spot) (many number : ℕ) (old pushed all : List Line)
+    → many ≡ count children → number ≡ length old → pushed ≡ old ++ line_on (element name attributes no_trees) spot 0 many ∷ []
     → all ≡ pushed ++ lines_from number no_trees (length pushed) children
-    → (before : Trees) → IsSpot spot before t
-    → with_line_end number (length all) all ≡ old ++ lines_of spot.parent before (length old) t
-element_built {t} name attributes children spot many number old pushed all is counts at push add before s =
+    → with_line_end number (length all) all ≡ old ++ lines_of spot (length old) (element name attributes children)
+element_built name attributes children spot many number old pushed all counts at push add =
     let line = line_on (element name attributes no_trees) spot 0 (count children) in
     let under = lines_from (length old) no_trees (suc (length old)) children in
     let row : pushed ≡ old ++ line ∷ [] = rw counts at push in
     let size : length pushed ≡ suc (length old) = ap length row ∙ omega (arith, length-append old (line ∷ [])) in
     let whole : all ≡ old ++ line ∷ under = (rw (at, size) at add) ∙ ap (λ ls. ls ++ under) row ∙ append_assoc old (line ∷ []) under in
-    let end : length all ≡ suc (length old) + nodes_of_all children =
+    let end : length all ≡ length old + nodes (element name attributes children) =
     ap length whole ∙ omega (arith, length-append old (line ∷ under), lines_from-length (length old) no_trees (suc (length old)) children) in
-    let stands : IsSpot spot before (element name attributes children) = rw is at s in
-    ap (λ n. with_line_end n (length all) all) at
-    ∙ ap (with_line_end (length old) (length all)) whole
-    ∙ with_end_at old under line (length all)
-    ∙ ap (λ ls. old ++ ls) (element_lines name attributes children before spot (length old) (length all) end stands)
-    ∙ ap (λ u. old ++ lines_of spot.parent before (length old) u) (sym is)
+    rw (end, at, whole, get_or_at old line under _ (length old) refl) (set_at old line under _ (length old) refl)
 
 -- how many lines there are then
 pub element_size : (name : List ℕ) (attributes : List Attribute) (children : Trees) (spot : Spot) (many number : ℕ) (old pushed all : List Line)
@@ -95,6 +81,18 @@ element_size name attributes children spot many number old pushed all push add =
 pub seen_next : (ts : List code.Tree) (i : ℕ) (t : code.Tree) → i < length ts → t ≡ get_or ts i t → all_seen (drop i ts) ≡ tree (seen t) (all_seen (drop (i + 1) ts))
 seen_next ts i t less is = at_drop_more all_seen ts i t less ∙ ap (λ u. tree (seen u) (all_seen (drop (i + 1) ts))) (sym is)
 
+-- one node was added, and others of its parent are added behind it
+pub one_node : (table next : List Line) (parent : ℕ) (before : Trees) (t : Tree) → next ≡ table ++ lines_of (spot_behind parent before (name_of t)) (length table) t
+    → (length next ≡ length table + nodes t)
+    × ((ts : Trees) → next ++ lines_from parent (tree t before) (length next) ts ≡ table ++ lines_from parent before (length table) (tree t ts))
+one_node table next parent before t is =
+    let new = lines_of (spot_behind parent before (name_of t)) (length table) t in
+    let many : length next ≡ length table + nodes t = ap length is ∙ omega (arith, length-append table new, lines-length (spot_behind parent before (name_of t)) (length table) t) in (
+      many,
+      λ ts. rw many (ap (λ ls. ls ++ lines_from parent (tree t before) (length table + nodes t) ts) is)
+          ∙ append_assoc table new (lines_from parent (tree t before) (length table + nodes t) ts),
+    )
+
 -- some children were added to a table, and those are still to come
 pub record Adding (old table : List Line) (parent : ℕ) (siblings : Siblings) (children rest : Trees) : Type 0 where
   pub before : Trees
@@ -104,23 +102,15 @@ pub record Adding (old table : List Line) (parent : ℕ) (siblings : Siblings) (
   pub lines : table ++ lines_from parent before (length table) rest ≡ old ++ lines_from parent no_trees (length old) children
 
 pub adding_next : (old table more : List Line) (parent : ℕ) (siblings next : Siblings) (children rest : Trees) (t : Tree) (spot : Spot)
-    → spot.parent ≡ parent
-    → ((before : Trees) → Passed before siblings → IsSpot spot before t)
-    → ((before : Trees) → Passed before siblings → Passed (tree t before) next)
-    → ((before : Trees) → IsSpot spot before t → more ≡ table ++ lines_of spot.parent before (length table) t)
+    → PassesOne parent siblings (name_of t) spot next → more ≡ table ++ lines_of spot (length table) t
     → Adding old table parent siblings children (tree t rest) → Adding old more parent next children rest
-adding_next old table more parent siblings next children rest t spot up stands passes added a =
-    let here : more ≡ table ++ lines_of parent a.before (length table) t =
-    rw up at (added a.before (stands a.before a.passed)) in
-    let many : length more ≡ length table + nodes t =
-    ap length here ∙ omega (arith, length-append table (lines_of parent a.before (length table) t), lines-length parent a.before (length table) t) in
+adding_next old table more parent siblings next children rest t spot passes added a =
+    let (stands, passed) = passes a.before a.passed in
+    let (many, joined) = one_node table more parent a.before t (rw stands at added) in
     record {
       before = tree t a.before;
-      passed = passes a.before a.passed;
+      passed = passed t refl;
       behind = omega (arith, a.behind, many, nodes-positive t);
       few = omega (arith, a.few, many);
-      lines =
-          rw many (ap (λ ls. ls ++ lines_from parent (tree t a.before) (length table + nodes t) rest) here)
-          ∙ append_assoc table (lines_of parent a.before (length table) t) (lines_from parent (tree t a.before) (length table + nodes t) rest)
-          ∙ a.lines;
+      lines = joined rest ∙ a.lines;
     }

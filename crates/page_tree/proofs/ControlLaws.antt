@@ -1,20 +1,16 @@
 -- What a node is to a form, by its name and its attributes.
-use Rattle.std.proofs.Common.{◌≡◌, ℕ, zero, suc, ◌<◌, ◌≤◌, List, [], ◌∷◌, ◌++◌, true, false, ◌&&◌, Option, Some, None, option_and_then, refl, sym}
+use Rattle.std.proofs.Common.{◌≡◌, ℕ, zero, suc, ◌<◌, List, [], ◌∷◌, ◌++◌, true, false, ◌&&◌, Option, Some, None, option_and_then, refl}
 use Rattle.std.proofs.Common.{◌∙◌, ap, arith}
-use Rattle.std.specs.Prelude.{is_some, unwrap_or, codes}
+use Rattle.std.specs.Prelude.{is_some, codes}
 use Rattle.std.specs.Option.{option_map_or}
 use Rattle.page_tree.specs.Tree.{Tree, element, words, Trees, no_trees, tree}
-use Rattle.page_tree.specs.Limits.{nodes}
-use Rattle.page_tree.specs.Look.{children_of, nth_child, count, child_count_at, node_at, name_of, name_at, attributes_of, attribute_at, value_of}
-use Rattle.page_tree.specs.Number.{place_numbered}
-use Rattle.page_tree.specs.Control.{element_control, child_texts, control_of, control_at, is_text, start_text, start_text_of, start_text_at}
-use Rattle.page_tree.specs.Control.{is_switch, start_checked_of, start_checked_at}
+use Rattle.page_tree.specs.Look.{children_of, nth_child, count, child_count_at, node_at, name_of, attributes_of, value_of, words_of}
+use Rattle.page_tree.specs.Control.{element_control, child_texts, control_of, is_text, start_text, start_text_of}
+use Rattle.page_tree.specs.Control.{is_switch, start_checked_of}
 use Rattle.page_tree.specs.declared.control.Control.TheVariants.{Other}
-use Rattle.page_tree.specs.inside.Table.{Line, lines, lone, trees_behind}
-use Rattle.page_tree.specs.inside.Rows.{line_in, words_of}
-use Rattle.page_tree.specs.inside.Kept.{attributes_at, children_at, words_at}
-use Rattle.page_tree.proofs.Numbers.{has_none, has_node, node_there, parent_there, node_at_child}
-use Rattle.page_tree.proofs.LookLaws.{line_is}
+use Rattle.page_tree.specs.inside.Table.{trees_behind}
+use Rattle.page_tree.specs.inside.Kept.{children_at, words_at}
+use Rattle.page_tree.proofs.Numbers.{parent_there, node_at_child}
 
 pub attribute_is : (name : List ℕ) (o : Option Tree)
     → option_and_then (λ m. value_of name (attributes_of m)) o ≡ value_of name (option_map_or attributes_of o [])
@@ -71,18 +67,6 @@ start_unnamed None is = refl
 start_unnamed (Some (element own attributes children)) is = cc
 start_unnamed (Some (words text)) is = refl
 
--- ---- texts
-
-lone_words : (m : Tree) → words_of (lone m) ≡ words_of m
-lone_words (element name attributes children) = refl
-lone_words (words text) = refl
-
-pub words_there : (ls : List Line) (t : Tree) (n : ℕ) → ls ≡ lines t → n < nodes t → words_of (line_in n ls).node ≡ words_at (place_numbered n t) t
-words_there ls t n is there =
-    let (m, here) = node_there (node_at (place_numbered n t) t) (has_node n t there) in
-    ap (λ l. words_of l.node) (line_is ls t n is there) ∙ ap (λ o. words_of (lone (unwrap_or o (words [])))) here ∙ lone_words m
-    ∙ sym (ap (option_and_then words_of) here)
-
 -- ---- the texts among the children of a node
 
 one_behind : (i : ℕ) (ts : Trees) → i < count ts → (c : Tree) × (trees_behind i ts ≡ tree c (trees_behind (suc i) ts)) × (nth_child i ts ≡ Some c)
@@ -94,23 +78,19 @@ none_behind : (ts : Trees) → trees_behind (count ts) ts ≡ no_trees
 none_behind no_trees = refl
 none_behind (tree t ts) = none_behind ts
 
-first_text : (c : Tree) (rest : Trees) → child_texts (tree c rest) ≡ unwrap_or (words_of c) [] ++ child_texts rest
-first_text (element name attributes children) rest = refl
-first_text (words text) rest = refl
-
 count_is : (o : Option Tree) → option_map_or (λ n. count (children_of n)) o 0 ≡ count (option_map_or children_of o no_trees)
 count_is None = refl
 count_is (Some m) = refl
 
 -- the child's own text, if it is one, and those behind it
 pub text_step : (p : List ℕ) (t : Tree) (i : ℕ) → i < child_count_at p t
-    → child_texts (trees_behind i (children_at p t)) ≡ unwrap_or (words_at (p ++ i ∷ []) t) [] ++ child_texts (trees_behind (suc i) (children_at p t))
+    → child_texts (trees_behind i (children_at p t)) ≡ words_at (p ++ i ∷ []) t ++ child_texts (trees_behind (suc i) (children_at p t))
 text_step p t i less =
     let (m, here, few) = parent_there (node_at p t) i less in
     let (c, behind, child) = one_behind i (children_of m) few in
     let children : children_at p t ≡ children_of m = ap (λ o. option_map_or children_of o no_trees) here in
-    let own : words_at (p ++ i ∷ []) t ≡ words_of c = ap (option_and_then words_of) (node_at_child p t m i here ∙ child) in
-    rw (children, own) (ap child_texts behind ∙ first_text c (trees_behind (suc i) (children_of m)))
+    let own : words_at (p ++ i ∷ []) t ≡ words_of c = ap (λ o. option_map_or words_of o []) (node_at_child p t m i here ∙ child) in
+    rw (children, own) (ap child_texts behind)
 
 pub text_end : (p : List ℕ) (t : Tree) → child_texts (trees_behind (child_count_at p t) (children_at p t)) ≡ []
 text_end p t = ap (λ k. child_texts (trees_behind k (children_at p t))) (count_is (node_at p t)) ∙ ap child_texts (none_behind (children_at p t))

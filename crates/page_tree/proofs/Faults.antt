@@ -1,61 +1,106 @@
--- The first fault of several lists of nodes, and of one node.
-use Rattle.std.proofs.Common.{◌≡◌, ℕ, suc, ◌+◌, List, [], ◌∷◌, ◌++◌, length, Bool, nat_lt, Option, Some, None, Result, Ok, Err, refl, sym, ◌∙◌}
-use Rattle.std.proofs.Common.{add-zero, add_assoc, length-append, arith}
-use Rattle.std.specs.Option.{option_or}
-use Rattle.page_tree.specs.Limits.{max_nodes}
-use Rattle.page_tree.specs.FirstFault.{unless, ◌>>=◌}
-use Rattle.page_tree.specs.Fault.{first_fault}
+-- The first fault of a value's nodes, in front of those of later ones: by what the checks of its first node said.
+use Rattle.std.proofs.Common.{◌≡◌, ℕ, zero, suc, ◌-◌, ◌<◌, ◌≤◌, List, [], ◌∷◌, ◌++◌, IsSome, true, false, Option, Some, None, Result, Ok, Err, refl, ◌∙◌, arith, sub-one, append-nil}
+use Rattle.std.specs.Option.{option_map_or}
+use Rattle.std.proofs.lemmas.Bool.{lt-ltb, le-ltb}
+use Rattle.serde_json.specs.Data.{Data, string, object, Items, Members}
+use Rattle.serde_json.specs.Find.{as_str, as_object}
+use Rattle.page_tree.specs.Name.{is_name}
+use Rattle.page_tree.specs.Tree.{Attribute}
+use Rattle.page_tree.specs.Limits.{max_depth, max_nodes, have_ascending_names}
+use Rattle.page_tree.specs.Value.{name_in, attributes_in, children_in}
+use Rattle.page_tree.specs.Fault.{first_fault, own_fault, all_faults, value_faults, fault_of_value}
+use Rattle.page_tree.specs.inside.Reading.{Judges}
 use Rattle.page_tree.specs.declared.fault.PageFault.{PageFault}
-use Rattle.page_tree.specs.declared.fault.PageFault.TheVariants.{TooMany}
+use Rattle.page_tree.specs.declared.fault.PageFault.TheVariants.{BadName, BadAttribute, BadChildren, TooDeep, TooMany}
 
--- a node's fault, and then what comes after it
-abbrev pub first_at : Bool → Option PageFault → Option PageFault → Option PageFault
-first_at few own rest = option_or (unless few TooMany own) rest
+pub is_string : (d : Data) (text : List ℕ) → as_str d ≡ Some text → d ≡ string text
+is_string (string s) text is = cc
+is_string d text is = cc
 
-option_or-assoc : (a b c : Option PageFault) → option_or (option_or a b) c ≡ option_or a (option_or b c)
-option_or-assoc None b c = refl
-option_or-assoc (Some e) b c = refl
+pub is_object : (d : Data) → IsSome (as_object d) → (ms : Members) × (d ≡ object ms)
+is_object (object ms) there = (ms, refl)
+is_object d there = cc
 
-pub first_fault-append : (xs ys : List (Option PageFault)) (n : ℕ)
-    → first_fault n (xs ++ ys) ≡ option_or (first_fault n xs) (first_fault (n + length xs) ys)
-first_fault-append [] ys n = rw add-zero refl
-first_fault-append (x ∷ xs) ys n =
-    let shifted : suc n + length xs ≡ n + suc (length xs) = omega arith in
-    rw (first_fault-append xs ys (suc n), shifted) (sym
-    (option_or-assoc (unless (nat_lt n max_nodes) TooMany x) (first_fault (suc n) xs) (first_fault (n + suc (length xs)) ys)))
+-- a value's first node is the value's own
+pub cut : (levels : ℕ) (d : Data) → (rest : List (Option PageFault)) × (value_faults levels d ≡ own_fault levels d ∷ rest)
+unfolding value_faults
+cut zero d = ([], refl)
+cut (suc levels) d = (_, refl)
 
--- ---- what a walk answers that goes over nodes, of which n stand before
+text_faults : (levels : ℕ) (text : List ℕ) → value_faults levels (string text) ≡ None ∷ []
+unfolding value_faults
+text_faults zero text = refl
+text_faults (suc levels) text = refl
 
--- it counted them where none has a fault, and else it gives the first fault
-abbrev pub AgreesAs : {X : Type 0} → (X → Type 0) → (X → ℕ) → Result X PageFault → ℕ → ℕ → Option PageFault → Type 0
-AgreesAs P count (Ok x) n many first = P x × (first ≡ None) × (count x ≡ n + many)
-AgreesAs P count (Err e) n many first = first ≡ Some e
+pub many_said : (levels n : ℕ) (d : Data) (later : List (Option PageFault)) → max_nodes ≤ n → first_fault n (value_faults levels d ++ later) ≡ Some TooMany
+many_said levels n d later past =
+    let (rest, is) = cut levels d in
+    rw (is, le-ltb n max_nodes past) refl
 
-abbrev pub Agrees : {X : Type 0} → (X → Type 0) → (X → ℕ) → Result X PageFault → ℕ → List (Option PageFault) → Type 0
-Agrees P count r n faults = AgreesAs P count r n (length faults) (first_fault n faults)
+pub own_said : (levels n : ℕ) (d : Data) (fault : PageFault) (later : List (Option PageFault)) → n < max_nodes → own_fault levels d ≡ Some fault
+    → first_fault n (value_faults levels d ++ later) ≡ Some fault
+own_said levels n d fault later few own =
+    let (rest, is) = cut levels d in
+    rw (is, own, lt-ltb n max_nodes few) refl
 
-pub later_fault : (xs ys : List (Option PageFault)) (n : ℕ) (e : PageFault) → first_fault n xs ≡ Some e → first_fault n (xs ++ ys) ≡ Some e
-later_fault xs ys n e is = rw (first_fault-append xs ys n, is) refl
+pub text_passes : (levels n : ℕ) (text : List ℕ) (later : List (Option PageFault)) → n < max_nodes
+    → first_fault n (value_faults levels (string text) ++ later) ≡ first_fault (suc n) later
+text_passes levels n text later few = rw (text_faults levels text, lt-ltb n max_nodes few) refl
 
-pub first_none : (xs ys : List (Option PageFault)) (n m : ℕ) → first_fault n xs ≡ None → m ≡ n + length xs
-    → first_fault n (xs ++ ys) ≡ first_fault m ys
-first_none xs ys n m none are = rw (first_fault-append xs ys n, none, are) refl
+-- an element without a fault of its own, where a level is left for it
+pub object_passes : (levels n : ℕ) (ms : Members) (ds : Items) (later : List (Option PageFault)) → n < max_nodes → 0 < levels
+    → own_fault levels (object ms) ≡ None → children_in (object ms) ≡ Some ds
+    → first_fault n (value_faults levels (object ms) ++ later) ≡ first_fault (suc n) (all_faults (value_faults (levels - 1)) ds ++ later)
+unfolding value_faults
+object_passes zero n ms ds later few deep own are = absurd (omega (arith, deep))
+object_passes (suc levels) n ms ds later few deep own are = rw (own, are, lt-ltb n max_nodes few) (rw sub-one refl)
 
-agrees-then : {Y Z : Type 0} (Q : Y → Type 0) (more : Y → ℕ) (R : Z → Type 0) (total : Z → ℕ) (s : Result Y PageFault) (g : Y → Z) (n m : ℕ)
-    (xs ys : List (Option PageFault))
-    → first_fault n xs ≡ None → m ≡ n + length xs → Agrees Q more s m ys → ((y : Y) → Q y → R (g y)) → ((y : Y) → total (g y) ≡ more y)
-    → Agrees R total (s >>= λ y. Ok (g y)) n (xs ++ ys)
-agrees-then Q more R total (Ok y) g n m xs ys none are agrees joins counts =
-    let lengths = length-append xs ys in
-    (joins y agrees.0, first_none xs ys n m none are ∙ agrees.1, counts y ∙ agrees.2 ∙ rw (are, lengths) (add_assoc n (length xs) (length ys)))
-agrees-then Q more R total (Err e) g n m xs ys none are agrees joins counts = first_none xs ys n m none are ∙ agrees
+-- ---- the own fault of what is no node, and of an element where a level is left for it
 
--- one walk after another
-pub agrees-append : {X Y Z : Type 0} (P : X → Type 0) (count : X → ℕ) (Q : Y → Type 0) (more : Y → ℕ) (R : Z → Type 0) (total : Z → ℕ)
-    (r : Result X PageFault) (f : X → Result Y PageFault) (g : X → Y → Z) (n : ℕ) (xs ys : List (Option PageFault))
-    → Agrees P count r n xs → ((x : X) → P x → Agrees Q more (f x) (count x) ys) → ((x : X) (y : Y) → P x → Q y → R (g x y))
-    → ((x : X) (y : Y) → total (g x y) ≡ more y)
-    → Agrees R total (r >>= λ x. f x >>= λ y. Ok (g x y)) n (xs ++ ys)
-agrees-append P count Q more R total (Ok x) f g n xs ys agrees then joins counts =
-    agrees-then Q more R total (f x) (g x) n (count x) xs ys agrees.1 agrees.2 (then x agrees.0) (λ y q. joins x y agrees.0 q) (counts x)
-agrees-append P count Q more R total (Err e) f g n xs ys agrees then joins counts = later_fault xs ys n e agrees
+none_there : {X : Type 0} (o : Option X) → option_map_or (λ _. true) o false ≡ false → o ≡ None
+none_there None bad = refl
+none_there (Some x) bad = cc
+
+pub no_node : (levels : ℕ) (d : Data) → as_str d ≡ None → as_object d ≡ None → own_fault levels d ≡ Some BadChildren
+no_node levels (string text) none no_object = cc
+no_node levels (object ms) none no_object = cc
+no_node levels d none no_object = refl
+
+pub too_deep : (d : Data) → IsSome (as_object d) → own_fault 0 d ≡ Some TooDeep
+too_deep d there = let (ms, is) = is_object d there in rw is refl
+
+module _ (levels : ℕ) (deep : 0 < levels) where
+  pub bad_name : (d : Data) → IsSome (as_object d) → option_map_or is_name (name_in d) false ≡ false → own_fault levels d ≡ Some BadName
+  bad_name (object ms) there bad = rw (lt-ltb 0 levels deep, bad) refl
+  bad_name d there bad = cc
+
+  module _ (name : List ℕ) (is : is_name name ≡ true) where
+    pub bad_attribute : (d : Data) → IsSome (as_object d) → name_in d ≡ Some name → option_map_or have_ascending_names (attributes_in d) false ≡ false
+        → own_fault levels d ≡ Some BadAttribute
+    bad_attribute (object ms) there named bad = rw (lt-ltb 0 levels deep, named, is, bad) refl
+    bad_attribute d there named bad = cc
+
+    module _ (attributes : List Attribute) (ascend : have_ascending_names attributes ≡ true) where
+      pub bad_children : (d : Data) → IsSome (as_object d) → name_in d ≡ Some name → attributes_in d ≡ Some attributes
+          → option_map_or (λ _. true) (children_in d) false ≡ false → own_fault levels d ≡ Some BadChildren
+      bad_children (object ms) there named given bad = rw (lt-ltb 0 levels deep, named, is, given, ascend, none_there (children_in (object ms)) bad) refl
+      bad_children d there named given bad = cc
+
+      pub element_passes : (d : Data) → IsSome (as_object d) → name_in d ≡ Some name → attributes_in d ≡ Some attributes → (n : ℕ) (ds : Items)
+          (later : List (Option PageFault)) → n < max_nodes → children_in d ≡ Some ds
+          → first_fault n (value_faults levels d ++ later) ≡ first_fault (suc n) (all_faults (value_faults (levels - 1)) ds ++ later)
+      element_passes (object ms) there named given n ds later few are =
+          object_passes levels n ms ds later few deep (rw (lt-ltb 0 levels deep, named, is, given, ascend, are) refl) are
+      element_passes d there named given n ds later few are = cc
+
+-- a value that is no text has the fault of its first node
+pub of_root : (d : Data) → IsSome (as_object d) → fault_of_value d ≡ first_fault 0 (value_faults max_depth d ++ [])
+of_root d there =
+    let (ms, is) = is_object d there in
+    rw (is, append-nil) refl
+
+-- what was said of some nodes is said of those with the same first fault
+pub judged_as : {X : Type 0} (count : X → ℕ) (said : Result X PageFault) (n m : ℕ) (xs ys : List (Option PageFault))
+    → ((later : List (Option PageFault)) → first_fault n (xs ++ later) ≡ first_fault m (ys ++ later)) → Judges count said m ys → Judges count said n xs
+judged_as count (Ok x) n m xs ys same judged = λ later. same later ∙ judged later
+judged_as count (Err e) n m xs ys same judged = λ real later. same later ∙ judged real later

@@ -2,8 +2,7 @@
 use Rattle.std.proofs.Common.{◌≡◌, List, subst, sym, ◌∙◌, ap}
 use Rattle.page_tree.specs.Tree.{Tree}
 use Rattle.page_tree.specs.Limits.{IsPage}
-use Rattle.page_tree.specs.inside.Table.{Line, lines, tree_of_lines}
-use Rattle.page_tree.specs.inside.Kept.{IsTable}
+use Rattle.page_tree.specs.inside.Table.{Line, lines, tree_of_lines, IsTable}
 use Rattle.page_tree.proofs.TableLaws.{grown_lines}
 
 pub kept_tree : (ls : List Line) (t : Tree) → ls ≡ lines t → tree_of_lines ls ≡ t

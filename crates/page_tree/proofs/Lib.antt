@@ -2,13 +2,10 @@ pub mod Counting
 pub mod Below
 pub mod FirstFault
 pub mod Faults
-pub mod TreeLaws
 pub mod Ascending
-pub mod Levels
 pub mod Found
 pub mod ValueLaws
 pub mod RealFaults
-pub mod PageLaws
 pub mod Once
 pub mod Numbers
 pub mod TableLaws

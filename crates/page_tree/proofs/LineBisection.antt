@@ -112,74 +112,46 @@ left_alone : (xs ys : List Attribute) (name : List ℕ) → value_of name ys ≡
 left_alone [] ys name none = none
 left_alone (x ∷ xs) ys name none = either (bytes_eq x.0 name) (Some x.1) (value_of name (xs ++ ys)) (value_of name xs) (left_alone xs ys name none)
 
--- with one in the middle
-module _ (texts : List (List ℕ)) (name : List ℕ) (at half rest m n : ℕ) (is : m ≡ at + 2 * half) (many : n ≡ half + suc rest)
-    (up : is_ascending (names_of (attributes_from texts at n)) ≡ true) where
+-- ---- a step of the code's, with one in the middle
+
+module _ (texts : List (List ℕ)) (name : List ℕ) (at count : ℕ) (some : 0 < count) (up : is_ascending (names_of (attributes_from texts at count)) ≡ true) where
+  abbrev m : ℕ
+  m = at + 2 * (count / 2)
+
   abbrev left : List Attribute
-  left = attributes_from texts at half
+  left = attributes_from texts at (count / 2)
 
   abbrev middle : Attribute
-  middle = (get_or texts m [], get_or texts (suc m) [])
+  middle = (get_or texts m [], get_or texts (m + 1) [])
 
   abbrev right : List Attribute
-  right = attributes_from texts (suc (suc m)) rest
+  right = attributes_from texts (m + 2) (count - (count / 2 + 1))
 
-  cut : attributes_from texts at n ≡ left ++ middle ∷ right
-  cut = cut_at texts at half rest m n is many
+  cut : attributes_from texts at count ≡ left ++ middle ∷ right
+  cut =
+      let one : m + 1 ≡ suc m = omega arith in
+      let two : m + 2 ≡ suc (suc m) = omega arith in
+      rw (one, two) (cut_at texts at (count / 2) (count - (count / 2 + 1)) m count refl (omega (arith, some)))
 
   parts : AllByRecursion (λ x. compare x.0 middle.0 ≡ Less) left × (is_ascending (names_of left) ≡ true)
       × (is_ascending (names_of (middle ∷ right)) ≡ true)
   parts = left_of left right middle (rw cut at up)
 
-  step_equal : compare (get_or texts m []) name ≡ Equal → value_of name (attributes_from texts at n) ≡ Some (get_or texts (suc m) [])
-  step_equal same =
+  pub found : compare middle.0 name ≡ Equal → value_of name (attributes_from texts at count) ≡ Some middle.1
+  found same =
       let below = all_below left middle name (λ x less. below_equal x middle.0 name less same) parts.0 in
       rw (cut, skipped left (middle ∷ right) name below, tells middle.0 name Equal same) refl
 
-  step_less : compare (get_or texts m []) name ≡ Less
-      → (is_ascending (names_of right) ≡ true) × (value_of name right ≡ value_of name (attributes_from texts at n))
-  step_less less =
+  pub on_right : compare middle.0 name ≡ Less
+      → (is_ascending (names_of right) ≡ true) × (value_of name right ≡ value_of name (attributes_from texts at count))
+  on_right less =
       let below = all_below left middle name (λ x lower. nat_list_cmp_total.trans x middle.0 name lower less) parts.0 in
       (rest_ascends middle right parts.2, rw (cut, skipped left (middle ∷ right) name below, tells middle.0 name Less less) refl)
 
-  step_greater : compare (get_or texts m []) name ≡ Greater
-      → (is_ascending (names_of left) ≡ true) × (value_of name left ≡ value_of name (attributes_from texts at n))
-  step_greater greater =
+  pub on_left : compare middle.0 name ≡ Greater
+      → (is_ascending (names_of left) ≡ true) × (value_of name left ≡ value_of name (attributes_from texts at count))
+  on_left greater =
       let under : compare name middle.0 ≡ Less = nat_list_cmp_total.antisymm name middle.0 ∙ ap ordering_reverse greater in
       let none : value_of name (middle ∷ right) ≡ None =
       rw (tells middle.0 name Greater greater) (unseen right middle name under (above middle right parts.2)) in
       (parts.1, rw cut (sym (left_alone left (middle ∷ right) name none)))
-
--- ---- a step of the code's
-
-module _ (texts : List (List ℕ)) (name : List ℕ) (before count : ℕ) (some : 0 < count)
-    (up : is_ascending (names_of (attributes_from texts (suc before) count)) ≡ true) where
-  abbrev m : ℕ
-  m = suc (before + 2 * (count / 2))
-
-  key : before + 2 * (count / 2) + 1 ≡ m
-  key = omega arith
-
-  value : before + 2 * (count / 2) + 2 ≡ suc m
-  value = omega arith
-
-  abbrev rest : ℕ
-  rest = count - (count / 2 + 1)
-
-  many : count ≡ count / 2 + suc rest
-  many = omega (arith, some)
-
-  pub found : compare (get_or texts (before + 2 * (count / 2) + 1) []) name ≡ Equal
-      → value_of name (attributes_from texts (suc before) count) ≡ Some (get_or texts (before + 2 * (count / 2) + 2) [])
-  found same = rw value (step_equal texts name (suc before) (count / 2) rest m count (omega arith) many up (rw key at same))
-
-  pub on_right : compare (get_or texts (before + 2 * (count / 2) + 1) []) name ≡ Less
-      → (is_ascending (names_of (attributes_from texts (suc (before + 2 * (count / 2) + 2)) (count - (count / 2 + 1)))) ≡ true)
-      × (value_of name (attributes_from texts (suc (before + 2 * (count / 2) + 2)) (count - (count / 2 + 1)))
-      ≡ value_of name (attributes_from texts (suc before) count))
-  on_right less = rw value (step_less texts name (suc before) (count / 2) rest m count (omega arith) many up (rw key at less))
-
-  pub on_left : compare (get_or texts (before + 2 * (count / 2) + 1) []) name ≡ Greater
-      → (is_ascending (names_of (attributes_from texts (suc before) (count / 2))) ≡ true)
-      × (value_of name (attributes_from texts (suc before) (count / 2)) ≡ value_of name (attributes_from texts (suc before) count))
-  on_left greater = step_greater texts name (suc before) (count / 2) rest m count (omega arith) many up (rw key at greater)

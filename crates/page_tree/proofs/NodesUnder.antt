@@ -9,11 +9,11 @@ use Rattle.page_tree.specs.Limits.{nodes}
 use Rattle.page_tree.specs.Look.{node_at, child_count_at, count, children_of}
 use Rattle.page_tree.specs.Under.{places_from, places_under}
 use Rattle.page_tree.specs.Number.{place_numbered}
-use Rattle.page_tree.specs.inside.Table.{Line, lines, place_number}
+use Rattle.page_tree.specs.inside.Table.{Line, lines}
 use Rattle.page_tree.specs.inside.Rows.{line_in}
 use Rattle.page_tree.proofs.Below.{node_at-append}
 use Rattle.page_tree.proofs.Counting.{nodes-positive}
-use Rattle.page_tree.proofs.Numbers.{number_of_numbered, numbered_of_number, number_child, has_node, has_none, node_there, nth_there, nth_past}
+use Rattle.page_tree.proofs.Numbers.{place_number, number_of_numbered, numbered_of_number, number_child, has_node, has_none, node_there, nth_there, nth_past}
 use Rattle.page_tree.proofs.Numbers.{node_at_child, through, parent_there, first_numbered, next_numbered, under_numbered}
 use Rattle.page_tree.proofs.LookLaws.{line_is, end_there}
 
@@ -101,7 +101,7 @@ last_split p some =
 
 -- the line of a node below the root tells its parent's number, and where it stands there
 pub up_there : (ls : List Line) (t : Tree) (n : ℕ) → ls ≡ lines t → n < nodes t → 0 < n
-    → ((line_in n ls).parent < n) × (place_numbered n t ≡ place_numbered (line_in n ls).parent t ++ (line_in n ls).position ∷ [])
+    → ((line_in n ls).spot.parent < n) × (place_numbered n t ≡ place_numbered (line_in n ls).spot.parent t ++ (line_in n ls).spot.position ∷ [])
 up_there ls t n is there below =
     let p = place_numbered n t in
     let number = number_of_numbered n t there in
@@ -111,8 +111,8 @@ up_there ls t n is there below =
     let (parent, above, child) = through (node_at (get_or p (length p - 1) 0 ∷ [])) (node_at (take (length p - 1) p) t) m
     (sym (node_at-append (take (length p - 1) p) (get_or p (length p - 1) 0 ∷ []) t) ∙ ap (λ q. node_at q t) (sym split) ∙ here) in
     let line = line_is ls t n is there in
-    let up : (line_in n ls).parent ≡ place_number (take (length p - 1) p) t = ap (λ l. l.parent) line in
-    let at : (line_in n ls).position ≡ get_or p (length p - 1) 0 = ap (λ l. l.position) line in
+    let up : (line_in n ls).spot.parent ≡ place_number (take (length p - 1) p) t = ap (λ l. l.spot.parent) line in
+    let at : (line_in n ls).spot.position ≡ get_or p (length p - 1) 0 = ap (λ l. l.spot.position) line in
     let own = sym number ∙ ap (λ q. place_number q t) split ∙ number_child (take (length p - 1) p) t parent (get_or p (length p - 1) 0) above in (
       omega (arith, up, own),
       split ∙ rw (up, at) (ap (λ q. q ++ get_or p (length p - 1) 0 ∷ [])

@@ -1,9 +1,9 @@
 -- Numbers and places, either from the other.
-use Rattle.std.proofs.Common.{◌≡◌, ℕ, zero, suc, ◌+◌, ◌-◌, ◌<◌, ◌≤◌, List, [], ◌∷◌, ◌++◌, length, map, get_or, take, drop, Option, Some, None}
+use Rattle.std.proofs.Common.{◌≡◌, ℕ, zero, suc, ◌+◌, ◌-◌, ◌<◌, ◌≤◌, List, [], ◌∷◌, ◌++◌, length, map, get_or, Option, Some, None}
 use Rattle.std.proofs.Common.{option_and_then, IsSome, All, refl, sym, ◌∙◌, ap, arith, length-append, zero-add, add-zero}
 use Rattle.std.specs.Option.{option_map_or}
 use Rattle.std.specs.List.{range_with_len}
-use Rattle.std.proofs.lemmas.List.{map-append, get_or-map, get_or_past, drop_more}
+use Rattle.std.proofs.lemmas.List.{map-append, get_or-map, get_or_past}
 use Rattle.std.proofs.lemmas.List.FromFn.{get_or-range_with_len}
 use Rattle.std.proofs.lemmas.List.Elements.{All-get_or, All-tail, All-head, All-weaker, at_from_Contains}
 use Rattle.std.proofs.lemmas.Simd.{map-map}
@@ -12,9 +12,15 @@ use Rattle.page_tree.specs.Limits.{nodes, nodes_of_all}
 use Rattle.page_tree.specs.Look.{children_of, nth_child, node_at, count, child_count_at}
 use Rattle.page_tree.specs.Under.{places_of, places_from, places_under}
 use Rattle.page_tree.specs.Number.{place_numbered, first_trees}
-use Rattle.page_tree.specs.inside.Table.{trees_behind, place_number}
+use Rattle.page_tree.specs.inside.Table.{trees_behind}
 use Rattle.page_tree.proofs.Counting.{nodes-positive}
 use Rattle.page_tree.proofs.Below.{node_at-append, IsOf, all_of, has_of}
+
+-- the number of the node there, where one is
+abbrev pub place_number : List ℕ → Tree → ℕ
+place_number [] t = 0
+place_number (i ∷ rest) t =
+    suc (nodes_of_all (first_trees i (children_of t))) + option_map_or (place_number rest) (nth_child i (children_of t)) 0
 
 mutual
   -- a list of places has one for each node
@@ -284,16 +290,3 @@ under_numbered n t m less is =
           ∙ ap (λ k. map (λ j. place_numbered j t) (range_with_len k (nodes m))) number),
       omega (arith, number, number_end (place_numbered n t) t m is),
     )
-
--- ---- a part of the list of places
-
-cut_is : {X : Type 0} (xs : List X) (d : X) (n k : ℕ) → n + k ≤ length xs → take k (drop n xs) ≡ map (λ j. get_or xs j d) (range_with_len n k)
-cut_is xs d n zero within = refl
-cut_is xs d n (suc k) within =
-    rw (drop_more xs n d (omega (arith, within))) (ap (λ l. get_or xs n d ∷ l) (cut_is xs d (n + 1) k (omega (arith, within))))
-
--- the places at and under a node stand together, from its number on
-pub places_cut : (p : List ℕ) (t m : Tree) → node_at p t ≡ Some m → take (nodes m) (drop (place_number p t) (places_of [] t)) ≡ places_of p m
-places_cut p t m is =
-    cut_is (places_of [] t) (count (children_of t) ∷ []) (place_number p t) (nodes m) (omega (arith, number_end p t m is, places-length [] t))
-    ∙ sym (of_numbered p t m is)

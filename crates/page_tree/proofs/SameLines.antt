@@ -1,63 +1,68 @@
 -- When rows are the same lines.
-use Rattle.std.proofs.Common.{◌≡◌, ℕ, zero, suc, ◌+◌, ◌-◌, ◌<◌, List, [], ◌∷◌, length, get_or, Bool, true, false, not, refl, sym, ◌∙◌, ap, arith}
-use Rattle.std.specs.Bool.{beq}
-use Rattle.page_tree.specs.Look.{attributes_of}
-use Rattle.page_tree.specs.Tree.{Attribute, element, no_trees}
-use Rattle.page_tree.specs.inside.Rows.{attributes_from, node_of_row}
+use Rattle.std.proofs.Common.{◌≡◌, ℕ, zero, suc, ◌+◌, ◌-◌, ◌<◌, List, [], ◌∷◌, length, get_or, Bool, true, false, if◌then◌else◌, Some, None, refl, sym, ◌∙◌, ap, arith}
+use Rattle.page_tree.specs.Tree.{Attribute}
+use Rattle.page_tree.specs.inside.Rows.{attributes_from, line_of_row}
 use Rattle.page_tree.specs.declared.table.Row.{Row}
 
 -- ---- attributes
 
-first_of : (texts : List (List ℕ)) (before n : ℕ) → 0 < n
-    → attributes_from texts (suc before) n
-    ≡ (get_or texts (before + 1) [], get_or texts (before + 2) []) ∷ attributes_from texts (suc (before + 2)) (n - 1)
-first_of texts before zero some = absurd (omega (arith, some))
-first_of texts before (suc n) some =
-    let name : before + 1 ≡ suc before = omega arith in
-    let value : before + 2 ≡ suc (suc before) = omega arith in
+first_of : (texts : List (List ℕ)) (at n : ℕ) → 0 < n
+    → attributes_from texts at n ≡ (get_or texts at [], get_or texts (at + 1) []) ∷ attributes_from texts (at + 2) (n - 1)
+first_of texts at zero some = absurd (omega (arith, some))
+first_of texts at (suc n) some =
+    let value : at + 1 ≡ suc at = omega arith in
+    let next : at + 2 ≡ suc (suc at) = omega arith in
     let less : suc n - 1 ≡ n = omega arith in
-    rw (name, value, less) refl
+    rw (value, next, less) refl
 
-first_pair : (a b : Attribute) (xs ys : List Attribute) → a ∷ xs ≡ b ∷ ys → a ≡ b
-first_pair a b xs ys same = cc
+first_pair : (a b : Attribute) (xs ys : List Attribute) → a ∷ xs ≡ b ∷ ys → (a.0 ≡ b.0) × (a.1 ≡ b.1) × (xs ≡ ys)
+first_pair a b xs ys same =
+    let pair : a ≡ b = cc in
+    (ap (λ a. a.0) pair, ap (λ a. a.1) pair, cc)
 
-others_same : (a b : Attribute) (xs ys : List Attribute) → a ∷ xs ≡ b ∷ ys → xs ≡ ys
-others_same a b xs ys same = cc
+module _ (texts others : List (List ℕ)) (at other n : ℕ) (some : 0 < n) where
+  pub parts_same : attributes_from texts at n ≡ attributes_from others other n
+      → (get_or texts at [] ≡ get_or others other []) × (get_or texts (at + 1) [] ≡ get_or others (other + 1) [])
+      × (attributes_from texts (at + 2) (n - 1) ≡ attributes_from others (other + 2) (n - 1))
+  parts_same same = first_pair _ _ _ _ (sym (first_of texts at n some) ∙ same ∙ first_of others other n some)
 
-module _ (texts others : List (List ℕ)) (before other n : ℕ) (some : 0 < n) where
-  pub names_same : attributes_from texts (suc before) n ≡ attributes_from others (suc other) n
-      → get_or texts (before + 1) [] ≡ get_or others (other + 1) []
-  names_same same = ap (λ a. a.0) (first_pair _ _ _ _ (sym (first_of texts before n some) ∙ same ∙ first_of others other n some))
-
-  pub values_same : attributes_from texts (suc before) n ≡ attributes_from others (suc other) n
-      → get_or texts (before + 2) [] ≡ get_or others (other + 2) []
-  values_same same = ap (λ a. a.1) (first_pair _ _ _ _ (sym (first_of texts before n some) ∙ same ∙ first_of others other n some))
-
-  pub rest_same : attributes_from texts (suc before) n ≡ attributes_from others (suc other) n
-      → attributes_from texts (suc (before + 2)) (n - 1) ≡ attributes_from others (suc (other + 2)) (n - 1)
-  rest_same same = others_same _ _ _ _ (sym (first_of texts before n some) ∙ same ∙ first_of others other n some)
-
-  pub all_same : get_or texts (before + 1) [] ≡ get_or others (other + 1) [] → get_or texts (before + 2) [] ≡ get_or others (other + 2) []
-      → attributes_from texts (suc (before + 2)) (n - 1) ≡ attributes_from others (suc (other + 2)) (n - 1)
-      → attributes_from texts (suc before) n ≡ attributes_from others (suc other) n
-  all_same name value rest = rw (first_of texts before n some, first_of others other n some, name, value, rest) refl
+  pub all_same : get_or texts at [] ≡ get_or others other [] → get_or texts (at + 1) [] ≡ get_or others (other + 1) []
+      → attributes_from texts (at + 2) (n - 1) ≡ attributes_from others (other + 2) (n - 1)
+      → attributes_from texts at n ≡ attributes_from others other n
+  all_same name value rest = rw (first_of texts at n some, first_of others other n some, name, value, rest) refl
 
 attributes_many : (texts : List (List ℕ)) (at n : ℕ) → length (attributes_from texts at n) ≡ n
 attributes_many texts at zero = refl
 attributes_many texts at (suc n) = ap suc (attributes_many texts (suc (suc at)) n)
 
-elements : (b c : Bool) → not (beq b c) ≡ false → not b ≡ false → (b ≡ true) × (c ≡ true)
-elements true true same is = (refl, refl)
-elements true false same is = cc
-elements false c same is = cc
+module _ (texts others : List (List ℕ)) (row other : Row) where
+  -- rows of the same lines differ in the places of their texts alone
+  pub same_parts : line_of_row texts row ≡ line_of_row others other
+      → (record row { text = 0 } ≡ record other { text = 0 }) × (get_or texts row.text [] ≡ get_or others other.text [])
+      × (attributes_from texts (row.text + 1) row.attributes ≡ attributes_from others (other.text + 1) row.attributes)
+  same_parts same =
+      let (kind, text) = by row.is_element other.is_element _ _ (ap (λ l. l.name) same) (ap (λ l. l.text) same) in
+      let attributes = ap (λ l. l.attributes) same in
+      let many = sym (attributes_many texts (row.text + 1) row.attributes) ∙ ap length attributes ∙ attributes_many others (other.text + 1) other.attributes in
+      let spot = ap (λ l. l.spot) same in
+      let end = ap (λ l. l.end) same in
+      let children = ap (λ l. l.children) same in
+      (cc, text, attributes ∙ ap (attributes_from others (other.text + 1)) (sym many))
+    where
+      by : (b c : Bool) (x y : List ℕ) → (if b then Some x else None) ≡ (if c then Some y else None) → (if b then [] else x) ≡ (if c then [] else y)
+          → (b ≡ c) × (x ≡ y)
+      by true true x y name text = (refl, cc)
+      by true false x y name text = cc
+      by false true x y name text = cc
+      by false false x y name text = (refl, text)
 
--- two elements that are the same have as many attributes
-pub as_many : (texts others : List (List ℕ)) (row other : Row) → not (beq row.is_element other.is_element) ≡ false → not row.is_element ≡ false
-    → node_of_row texts row ≡ node_of_row others other → row.attributes ≡ other.attributes
-as_many texts others row other alike is same =
-    let (first, second) = elements row.is_element other.is_element alike is in
-    let nodes : element (get_or texts row.text []) (attributes_from texts (suc row.text) row.attributes) no_trees
-    ≡ element (get_or others other.text []) (attributes_from others (suc other.text) other.attributes) no_trees = rw (first, second) at same in
-    sym (attributes_many texts (suc row.text) row.attributes)
-    ∙ ap (λ t. length (attributes_of t)) nodes
-    ∙ attributes_many others (suc other.text) other.attributes
+  pub same_line : record row { text = 0 } ≡ record other { text = 0 } → get_or texts row.text [] ≡ get_or others other.text []
+      → attributes_from texts (row.text + 1) row.attributes ≡ attributes_from others (other.text + 1) row.attributes
+      → line_of_row texts row ≡ line_of_row others other
+  same_line but text attributes =
+      let kind = ap (λ r. r.is_element) but in
+      let many = ap (λ r. r.attributes) but in
+      let spot = ap (λ r. r.spot) but in
+      let end = ap (λ r. r.end) but in
+      let children = ap (λ r. r.children) but in
+      rw (kind, text, attributes, many, spot, end, children) refl

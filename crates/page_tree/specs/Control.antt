@@ -4,7 +4,7 @@ use Rattle.std.specs.Prelude.{ℕ, List, [], ◌++◌, Bool, true, false, ◌&&�
 use Rattle.std.specs.Option.{option_map_or}
 use Rattle.std.specs.Str.{bytes_eq, str_eq_ignore_ascii_case}
 use Rattle.page_tree.specs.Tree.{Attribute, Tree, element, words, Trees, no_trees, tree}
-use Rattle.page_tree.specs.Look.{node_at, value_of}
+use Rattle.page_tree.specs.Look.{node_at, value_of, words_of}
 use Rattle.page_tree.specs.declared.control.Control.{Control}
 use Rattle.page_tree.specs.declared.control.Control.TheVariants.{Text, Check, Radio, Submit, Link, Form, Other}
 
@@ -54,8 +54,7 @@ is_text _ = false
 -- the texts among the children, joined
 abbrev pub child_texts : Trees → List ℕ
 child_texts no_trees = []
-child_texts (tree (words text) ts) = text ++ child_texts ts
-child_texts (tree (element name attributes children) ts) = child_texts ts
+child_texts (tree t ts) = words_of t ++ child_texts ts
 
 -- a `textarea` starts with its child texts, an `input` and a `select` with their `value`, empty if absent
 abbrev pub start_text : List ℕ → List Attribute → Trees → List ℕ

@@ -6,7 +6,7 @@ use Rattle.page_tree.specs.Name.{is_name}
 use Rattle.page_tree.specs.Tree.{Attribute, Tree, element, words, Trees, no_trees, tree}
 
 -- Levels of elements. Each takes two of JSON's 127, for the element and for the list of its children, and a path has
--- a step for each: `max_steps` of xpath_child is this.
+-- a step for each: `IsPath` of xpath_child says it.
 abbrev pub max_depth : ℕ
 max_depth = 48
 

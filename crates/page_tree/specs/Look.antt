@@ -50,6 +50,11 @@ attribute_at place name t = option_and_then (λ n. value_of name (attributes_of 
 
 -- ---- texts
 
+-- what a text says; nothing for an element
+abbrev pub words_of : Tree → List ℕ
+words_of (element name attributes children) = []
+words_of (words text) = text
+
 abbrev mutual
   -- the texts at and under a node, joined in document order
   pub text_of : Tree → List ℕ

@@ -5,4 +5,3 @@ pub mod Reading
 pub mod Rows
 pub mod Table
 pub mod TreeCode
-pub mod Walk

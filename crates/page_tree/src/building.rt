@@ -1,11 +1,11 @@
 //! The table of a tree.
 
 ghost use Rattle.std.specs.Prelude.{◌≡◌, ◌+◌, ◌≤◌, ◌++◌, IfOk, OnOk, length};
-ghost use Rattle.page_tree.specs.Tree.{Trees, no_trees};
+ghost use Rattle.page_tree.specs.Tree.{no_trees};
 ghost use Rattle.page_tree.specs.Limits.{nodes, max_nodes};
+ghost use Rattle.page_tree.specs.inside.Building.{nodes_in};
 ghost use Rattle.page_tree.specs.Seen.{seen, all_seen};
 ghost use Rattle.page_tree.specs.inside.Table.{lines, lines_of, lines_from};
-ghost use Rattle.page_tree.specs.inside.Building.{IsSpot, nodes_in};
 
 use crate::memory::NoMemory;
 use crate::siblings::Siblings;
@@ -33,8 +33,7 @@ pub(crate) fn table_of(alloc: Global, root: &Tree) -> Result<NodeTable, NoMemory
 #[cycle(building)]
 fn add_node(table: &mut NodeTable, tree: &Tree, spot: Spot) -> Result<(), NoMemory>
     requires few { length table.old + nodes (seen tree.now) ≤ max_nodes }
-    ensures { OnOk result ((before : Trees) → IsSpot spot before (seen tree.now)
-        → table.new ≡ table.old ++ lines_of spot.parent before (length table.old) (seen tree.now)) }
+    ensures { OnOk result (table.new ≡ table.old ++ lines_of spot (length table.old) (seen tree.now)) }
 {
     match tree {
         Tree::Words(text) => table.push_words(spot, text.as_str())?,

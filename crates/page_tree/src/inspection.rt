@@ -1,6 +1,8 @@
-ghost use Rattle.std.specs.Prelude.{◌≡◌};
+ghost use Rattle.page_tree.specs.declared.fault.PageFault.TheVariants.{NoMemory};
+ghost use Rattle.std.specs.Prelude.{◌≡◌, ◌≢◌, IfOk, IfErr, Some, None};
 ghost use Rattle.page_tree.specs.Seen.{seen, all_seen};
-ghost use Rattle.page_tree.specs.inside.Walk.{inspect, inspect_all, inspect_page};
+ghost use Rattle.page_tree.specs.Fault.{fault_of_tree, all_faults, value_faults, data_of, data_of_all};
+ghost use Rattle.page_tree.specs.inside.Reading.{Judges};
 
 use crate::fault::PageFault;
 use crate::limits::{MAX_DEPTH, MAX_NODES};
@@ -9,7 +11,8 @@ use crate::tree::Tree;
 
 /// How many nodes a tree has that is a page, or its first fault in document order; P1 where it is a text.
 pub(crate) fn inspect_root(root: &Tree) -> Result<u32, PageFault>
-    ensures { result ≡ inspect_page (seen root.now) }
+    ensures free { IfOk result (λ _. fault_of_tree (seen root.now) ≡ None) }
+    ensures fault { IfErr result (λ e. e ≢ NoMemory → fault_of_tree (seen root.now) ≡ Some e) }
 {
     match root {
         Tree::Words(_) => Err(PageFault::NotAnElement),
@@ -20,34 +23,35 @@ pub(crate) fn inspect_root(root: &Tree) -> Result<u32, PageFault>
 // So many levels of elements are left for the node, and so many nodes stand before it. Its own fault is P6, P5, P2 or P3, the first in this order.
 #[cycle(inspection)]
 fn inspect_node(tree: &Tree, levels: u32, before: u32) -> Result<u32, PageFault>
-    ensures { result ≡ inspect levels before (seen tree.now) }
+    ensures { Judges (λ n. n) result before (value_faults levels (data_of (seen tree.now))) }
 {
     if before >= MAX_NODES {
         return Err(PageFault::TooMany);
     }
-    let Tree::Element {
-        name,
-        attributes,
-        children,
-    } = tree
-    else {
-        return Ok(before + 1);
-    };
-    if levels == 0 {
-        return Err(PageFault::TooDeep);
+    match tree {
+        Tree::Words(_text) => Ok(before + 1),
+        Tree::Element {
+            name,
+            attributes,
+            children,
+        } => {
+            if levels == 0 {
+                return Err(PageFault::TooDeep);
+            }
+            if !is_name(name.as_str()) {
+                return Err(PageFault::BadName);
+            }
+            if !attributes.is_ascending() {
+                return Err(PageFault::BadAttribute);
+            }
+            inspect_nodes(children.as_slice(), levels - 1, before + 1)
+        }
     }
-    if !is_name(name.as_str()) {
-        return Err(PageFault::BadName);
-    }
-    if !attributes.is_ascending() {
-        return Err(PageFault::BadAttribute);
-    }
-    inspect_nodes(children.as_slice(), levels - 1, before + 1)
 }
 
 #[cycle(inspection)]
 fn inspect_nodes(trees: &[Tree], levels: u32, before: u32) -> Result<u32, PageFault>
-    ensures { result ≡ inspect_all levels before (all_seen trees.now) }
+    ensures { Judges (λ n. n) result before (all_faults (value_faults levels) (data_of_all (all_seen trees.now))) }
 {
     let mut count = before;
     for tree in trees {

@@ -32,7 +32,7 @@ impl Page {
     }
 
     /// The name of the element with that number; none for a text.
-    #[tactic(auto, using(crate::proofs::LookLaws::name_there, crate::proofs::Numbers::has_none))]
+    #[tactic(auto, using(crate::proofs::LookLaws::line_is, crate::proofs::Numbers::has_none))]
     pub fn name_of(&self, number: u32) -> Option<&str>
         ensures { option_map (λ name. name.now) result ≡ name_at (place_numbered number self.now) self.now }
     {
@@ -40,7 +40,7 @@ impl Page {
     }
 
     /// How many children the node with that number has, texts too.
-    #[tactic(auto, using(crate::proofs::LookLaws::children_there, crate::proofs::Numbers::has_none))]
+    #[tactic(auto, using(crate::proofs::LookLaws::line_is, crate::proofs::Numbers::has_none))]
     pub fn children_of(&self, number: u32) -> u32
         ensures { result ≡ child_count_at (place_numbered number self.now) self.now }
     {
@@ -51,7 +51,7 @@ impl Page {
     }
 
     /// The value of an attribute of the element with that number. The time is logarithmic in how many it has.
-    #[tactic(auto, using(crate::proofs::LookLaws::attribute_there, crate::proofs::Numbers::has_none, crate::proofs::LookLaws::ascends_there))]
+    #[tactic(auto, using(crate::proofs::LookLaws::line_is, crate::proofs::ControlLaws::attribute_is, crate::proofs::Numbers::has_none, crate::proofs::LookLaws::ascends_there))]
     pub fn attribute_of(&self, number: u32, name: &str) -> Option<&str>
         ensures { option_map (λ value. value.now) result ≡ attribute_at (place_numbered number self.now) name.now self.now }
     {
@@ -59,7 +59,7 @@ impl Page {
     }
 
     /// All texts at or under the node with that number, joined in document order.
-    #[tactic(auto, using(crate::proofs::LoopLaws::texts_first, crate::proofs::LoopLaws::texts_step, crate::proofs::Numbers::has_none))]
+    #[tactic(auto, using(crate::proofs::LoopLaws::texts_first, crate::proofs::Numbers::has_none))]
     pub fn text_of(&self, number: u32) -> Result<Text, NoMemory>
         ensures { IfOk result (λ text. text ≡ text_at (place_numbered number self.now) self.now) }
     {
@@ -68,7 +68,7 @@ impl Page {
             return Ok(Text::from(joined));
         };
         for below in number..self.table().end_of(index) {
-            joined.push_str(self.words_of(below).unwrap_or(""))?;
+            joined.push_str(self.words_of(below))?;
         }
         Ok(Text::from(joined))
     }
@@ -157,7 +157,7 @@ impl Page {
     }
 
     /// How many elements stand before the element with that number, among its siblings; 0 for a text.
-    #[tactic(auto, using(crate::proofs::LookLaws::elements_there, crate::proofs::Numbers::has_none))]
+    #[tactic(auto, using(crate::proofs::LookLaws::line_is, crate::proofs::Numbers::has_none))]
     pub fn elements_before(&self, number: u32) -> u32
         ensures { result ≡ elements_before_at (place_numbered number self.now) self.now }
     {
@@ -168,7 +168,7 @@ impl Page {
     }
 
     /// How many elements of its name stand before the element with that number, among its siblings; 0 for a text.
-    #[tactic(auto, using(crate::proofs::LookLaws::same_there, crate::proofs::Numbers::has_none))]
+    #[tactic(auto, using(crate::proofs::LookLaws::line_is, crate::proofs::Numbers::has_none))]
     pub fn same_before(&self, number: u32) -> u32
         ensures { result ≡ same_before_at (place_numbered number self.now) self.now }
     {

@@ -39,8 +39,7 @@ impl Model for Page {
     ghost use Rattle.std.specs.Arc.{arc_value};
     ghost use Rattle.page_tree.specs.Tree.{Tree};
     ghost use Rattle.page_tree.specs.inside.TreeCode.{tree_code};
-    ghost use Rattle.page_tree.specs.inside.Table.{tree_of_lines};
-    ghost use Rattle.page_tree.specs.inside.Kept.{IsTable};
+    ghost use Rattle.page_tree.specs.inside.Table.{tree_of_lines, IsTable};
 
     ghost Value = { Tree };
 
@@ -53,8 +52,7 @@ impl Model for Page {
 
 impl Page {
     ghost use Rattle.page_tree.specs.Seen.{seen};
-    ghost use Rattle.page_tree.specs.inside.Table.{lines, tree_of_lines};
-    ghost use Rattle.page_tree.specs.inside.Kept.{IsTable};
+    ghost use Rattle.page_tree.specs.inside.Table.{lines, tree_of_lines, IsTable};
 
     /// The page that a tree is.
     ///
@@ -83,7 +81,6 @@ impl Page {
     ///
     /// The fault is the first in document order, and at one node the first of `TooMany`, `NotAnElement` (the root is no object) or `BadChildren`
     /// (a child is neither object nor string), `TooDeep`, `BadName`, `BadAttribute`, `BadChildren` (`c` is no array).
-    #[tactic(auto, using(crate::proofs::ValueLaws::page_is_walked))]
     pub fn from_value(alloc: Global, value: &Value) -> Result<Page, PageFault>
         ensures ok { IfOk result (λ page. IsPageOf (view value.now) page × (fault_of_value (view value.now) ≡ None)) }
         ensures only { IfOk result (λ page. (other : PlainTree) → IsPageOf (view value.now) other → other ≡ page) }
@@ -91,7 +88,7 @@ impl Page {
         ensures fault { IfErr result (λ e. e ≢ NoMemory → fault_of_value (view value.now) ≡ Some e) }
 
         // The same as functions.
-        ensures exact { GivesPage (λ page. page) result (page_or_fault (view value.now)) }
+        ensures exact { GivesPage result (page_or_fault (view value.now)) }
         ensures found { FindsPage (view value.now) result }
     {
         let table = read_root(alloc, value)?;

@@ -1,9 +1,14 @@
-ghost use Rattle.std.specs.Prelude.{◌≡◌, ◌<◌, ◌≤◌, length};
+ghost use Rattle.std.specs.Prelude.{◌≡◌, ◌≢◌, ◌<◌, ◌≤◌, length, true, IsSome, IfOk, IfErr, OnOk, Some, None};
+ghost use Rattle.serde_json.specs.Find.{as_str, as_object};
 ghost use Rattle.serde_json.specs.View.{view, items_view};
-ghost use Rattle.page_tree.specs.Limits.{max_nodes};
-ghost use Rattle.page_tree.specs.Fault.{GivesPage};
-ghost use Rattle.page_tree.specs.inside.Walk.{name_or_fault, attribute_or_fault, attributes_or_fault, children_or_fault, walk, walk_below, walk_object, walk_page};
-ghost use Rattle.page_tree.specs.inside.Reading.{HasPassed, ReadsNode, ReadsChildren, ReadsPage};
+ghost use Rattle.page_tree.specs.Name.{is_name};
+ghost use Rattle.page_tree.specs.Tree.{Tree};
+ghost use Rattle.page_tree.specs.Limits.{max_nodes, have_ascending_names};
+ghost use Rattle.page_tree.specs.Value.{IsPageOf, name_in, attributes_in, children_in};
+ghost use Rattle.page_tree.specs.Fault.{all_faults, value_faults, fault_of_value};
+ghost use Rattle.page_tree.specs.inside.Table.{lines};
+ghost use Rattle.page_tree.specs.inside.Reading.{Judges, ReadsPart, HasPassed, Adds, AddsAll};
+ghost use Rattle.page_tree.specs.declared.fault.PageFault.TheVariants.{BadName, BadAttribute, BadChildren, NoMemory};
 
 use crate::fault::PageFault;
 use crate::limits::{MAX_DEPTH, MAX_NODES};
@@ -16,7 +21,9 @@ use std::alloc::Global;
 
 /// The table of the tree that a value stands for, or its first fault in document order; P1 where it is no object.
 pub(crate) fn read_root(alloc: Global, value: &Value) -> Result<NodeTable, PageFault>
-    ensures { ReadsPage (λ table. table) result (walk_page (view value.now)) }
+    ensures page { IfOk result (λ table. (t : Tree) × IsPageOf (view value.now) t × (table ≡ lines t)) }
+    ensures free { IfOk result (λ _. fault_of_value (view value.now) ≡ None) }
+    ensures fault { IfErr result (λ e. e ≢ NoMemory → fault_of_value (view value.now) ≡ Some e) }
 {
     if value.as_object().is_none() {
         return Err(PageFault::NotAnElement);
@@ -39,25 +46,25 @@ fn read_node<'a>(
     table: &mut NodeTable,
 ) -> Result<(), PageFault>
     requires { HasPassed siblings.old (length table.old) }
-    ensures { ReadsNode (walk levels) (view value.now) parent siblings.old siblings.new table.old table.new result }
+    ensures judged { Judges (λ _. length table.new) result (length table.old) (value_faults levels (view value.now)) }
+    ensures added { OnOk result (Adds (view value.now) parent siblings.old siblings.new table.old table.new) }
 {
     if table.len() >= MAX_NODES as usize {
         return Err(PageFault::TooMany);
     }
-    match value {
-        Value::String(text) => {
-            let spot = siblings.pass(parent, None)?;
-            table.push_words(spot, text.as_str())?;
-            Ok(())
-        }
-        Value::Object(_) => read_object(alloc, value, levels, parent, siblings, table),
-        _ => Err(PageFault::BadChildren),
+    if let Some(text) = value.as_str() {
+        let spot = siblings.pass(parent, None)?;
+        table.push_words(spot, text)?;
+        return Ok(());
+    }
+    match value.as_object() {
+        Some(_) => read_object(alloc, value, levels, parent, siblings, table),
+        None => Err(PageFault::BadChildren),
     }
 }
 
 // P5 below the last level.
 #[cycle(reading)]
-#[tactic(auto, using(crate::proofs::Levels::walk_object_none, crate::proofs::Levels::walk_object_some))]
 fn read_object<'a>(
     alloc: Global,
     value: &'a Value,
@@ -66,30 +73,15 @@ fn read_object<'a>(
     siblings: &mut Siblings<'a>,
     table: &mut NodeTable,
 ) -> Result<(), PageFault>
+    requires object { IsSome (as_object (view value.now)) }
     requires few { length table.old < max_nodes }
     requires passed { HasPassed siblings.old (length table.old) }
-    ensures { ReadsNode (walk_object levels) (view value.now) parent siblings.old siblings.new table.old table.new result }
+    ensures judged { Judges (λ _. length table.new) result (length table.old) (value_faults levels (view value.now)) }
+    ensures added { OnOk result (Adds (view value.now) parent siblings.old siblings.new table.old table.new) }
 {
     if levels == 0 {
         return Err(PageFault::TooDeep);
     }
-    read_element(alloc, value, levels - 1, parent, siblings, table)
-}
-
-// So many levels of elements are left for the children.
-#[cycle(reading)]
-fn read_element<'a>(
-    alloc: Global,
-    value: &'a Value,
-    levels: u32,
-    parent: u16,
-    siblings: &mut Siblings<'a>,
-    table: &mut NodeTable,
-) -> Result<(), PageFault>
-    requires few { length table.old < max_nodes }
-    requires passed { HasPassed siblings.old (length table.old) }
-    ensures { ReadsNode (walk_below levels) (view value.now) parent siblings.old siblings.new table.old table.new result }
-{
     let name = read_name(value)?;
     let attributes = read_attributes(alloc, value)?;
     let children = read_children(value)?;
@@ -98,14 +90,14 @@ fn read_element<'a>(
     // More children than a page can have are a fault, which comes with one of them.
     let count = children.len().min(MAX_NODES as usize) as u16;
     table.push_element(spot, name, attributes.as_slice(), count)?;
-    read_items(alloc, children, levels, number, table)?;
+    read_items(alloc, children, levels - 1, number, table)?;
     table.end(number);
     Ok(())
 }
 
 // P2 where it is no name of an element.
 fn read_name(value: &Value) -> Result<&str, PageFault>
-    ensures { GivesPage (λ name. name.now) result (name_or_fault (view value.now)) }
+    ensures { ReadsPart (λ name. name.now) is_name BadName (name_in (view value.now)) result }
 {
     let Some(name) = value.get("n").and_then(Value::as_str) else {
         return Err(PageFault::BadName);
@@ -118,7 +110,7 @@ fn read_name(value: &Value) -> Result<&str, PageFault>
 
 // P3 where they are no object of texts, or their names don't ascend.
 fn read_attributes(alloc: Global, value: &Value) -> Result<Attributes, PageFault>
-    ensures { GivesPage (λ attributes. attributes) result (attributes_or_fault (view value.now)) }
+    ensures { ReadsPart (λ given. given) have_ascending_names BadAttribute (attributes_in (view value.now)) result }
 {
     let Some(given) = value.get("a") else {
         return Ok(Attributes::from(Vec::new(alloc)));
@@ -134,7 +126,8 @@ fn read_attributes(alloc: Global, value: &Value) -> Result<Attributes, PageFault
 }
 
 fn read_attribute(alloc: Global, name: &str, text: &Value) -> Result<(Text, Text), PageFault>
-    ensures { GivesPage (λ pair. pair) result (attribute_or_fault name.now (view text.now)) }
+    ensures value { ReadsPart (λ pair. pair.1) (λ _. true) BadAttribute (as_str (view text.now)) result }
+    ensures name { IfOk result (λ pair. pair.0 ≡ name.now) }
 {
     let Some(text) = text.as_str() else {
         return Err(PageFault::BadAttribute);
@@ -144,7 +137,7 @@ fn read_attribute(alloc: Global, name: &str, text: &Value) -> Result<(Text, Text
 
 // The values that stand for the children; P4 where they are no array.
 fn read_children(value: &Value) -> Result<&[Value], PageFault>
-    ensures { GivesPage (λ items. items_view items.now) result (children_or_fault (view value.now)) }
+    ensures { ReadsPart (λ vs. items_view vs.now) (λ _. true) BadChildren (children_in (view value.now)) result }
 {
     let Some(given) = value.get("c") else {
         return Ok(&[]);
@@ -165,7 +158,9 @@ fn read_items(
     table: &mut NodeTable,
 ) -> Result<(), PageFault>
     requires { length table.old ≤ max_nodes }
-    ensures { ReadsChildren (walk levels) (items_view items.now) parent table.old table.new result }
+    ensures judged { Judges (λ _. length table.new) result (length table.old)
+        (all_faults (value_faults levels) (items_view items.now)) }
+    ensures added { OnOk result (AddsAll (items_view items.now) parent table.old table.new) }
 {
     let mut siblings = Siblings::new(alloc);
     for item in items {

@@ -4,7 +4,7 @@ ghost use Rattle.std.specs.Prelude.{◌≡◌, ◌<◌, IfOk, OnOk, option_map, 
 ghost use Rattle.page_tree.specs.Tree.{Trees, no_trees};
 ghost use Rattle.page_tree.specs.Limits.{max_nodes};
 ghost use Rattle.page_tree.specs.Look.{count};
-ghost use Rattle.page_tree.specs.inside.Building.{Passed, StandsBehind, PassesOne, name_count, CountsOneMore};
+ghost use Rattle.page_tree.specs.inside.Building.{Passed, PassesOne, name_count, CountsOneMore};
 
 use crate::memory::NoMemory;
 use crate::table::Spot;
@@ -34,9 +34,7 @@ impl<'a> Siblings<'a> {
     /// Passes one more child of that parent, an element of that name or a text, and tells where it stands.
     pub(crate) fn pass(&mut self, parent: u16, name: Option<&'a str>) -> Result<Spot, NoMemory>
         requires { (before : Trees) × Passed before self.old × (count before < max_nodes) }
-        ensures parent { IfOk result (λ spot. spot.parent ≡ parent) }
-        ensures spot { IfOk result (λ spot. StandsBehind self.old (option_map (λ name. name.now) name.entry) spot) }
-        ensures passed { OnOk result (PassesOne self.old (option_map (λ name. name.now) name.entry) self.new) }
+        ensures { IfOk result (λ spot. PassesOne parent self.old (option_map (λ name. name.now) name.entry) spot self.new) }
     {
         let position = self.count;
         self.count += 1;

@@ -46,18 +46,21 @@ impl Page {
         let mut joined = CowStr::Borrowed("");
         let mut child = self.nodes_under(number).start;
         for _i in 0..self.children_of(number) {
-            joined = join(alloc, joined, self.words_of(child).unwrap_or(""))?;
+            joined = join(alloc, joined, self.words_of(child))?;
             child = self.nodes_under(child).end;
         }
         Ok(joined)
     }
 
-    // The text with that number; none of an element.
-    #[tactic(auto, using(crate::proofs::ControlLaws::words_there, crate::proofs::Numbers::has_none))]
-    pub(crate) fn words_of(&self, number: u32) -> Option<&str>
-        ensures { option_map (λ text. text.now) result ≡ words_at (place_numbered number self.now) self.now }
+    // The text with that number; empty for an element.
+    #[tactic(auto, using(crate::proofs::LookLaws::line_is, crate::proofs::Numbers::has_none))]
+    pub(crate) fn words_of(&self, number: u32) -> &str
+        ensures { result.now ≡ words_at (place_numbered number self.now) self.now }
     {
-        self.table().words(self.index(number)?)
+        match self.index(number) {
+            None => "",
+            Some(index) => self.table().words(index),
+        }
     }
 
     /// Whether a Check or Radio with that number starts on; false for every other node.

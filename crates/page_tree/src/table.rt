@@ -1,10 +1,10 @@
 //! The table that a page is kept as.
 ghost use Rattle.std.specs.Prelude.{◌≡◌, ◌↔◌, IsTrue, IfOk, ◌<◌, ◌≤◌, ◌+◌, ◌*◌, ◌^◌, suc, [], ◌∷◌, ◌++◌, OnOk, get_or, length, true, option_map};
 ghost use Rattle.page_tree.specs.Tree.{element, words, no_trees};
-ghost use Rattle.page_tree.specs.Look.{name_of, attributes_of, value_of};
+ghost use Rattle.page_tree.specs.Look.{value_of};
 ghost use Rattle.page_tree.specs.Limits.{max_nodes, have_ascending_names};
-ghost use Rattle.page_tree.specs.inside.Rows.{line_in, line_on, words_of, with_line_end, texts_of_attributes, attributes_behind, StartsWith};
-ghost use Rattle.page_tree.specs.inside.Rows.{node_of_row, numbers_of, IsWithin};
+ghost use Rattle.page_tree.specs.inside.Table.{line_on};
+ghost use Rattle.page_tree.specs.inside.Rows.{line_in, with_line_end, texts_of_attributes, attributes_from, line_of_row, IsWithin};
 
 use crate::memory::NoMemory;
 use crate::text::Text;
@@ -17,11 +17,8 @@ use std::marker::Model;
 #[derive(Debug, Clone, Copy)]
 pub(crate) struct Row {
     is_element: bool,
-    parent: u16,
+    spot: Spot,
     end: u16,
-    position: u16,
-    elements_before: u16,
-    same_before: u16,
     children: u16,
     // the number of its name, or of its text; those of its attributes' names and values stand behind it
     text: u32,
@@ -29,7 +26,7 @@ pub(crate) struct Row {
 }
 
 /// Where a node stands among its siblings.
-#[derive(Debug, Clone, Copy)]
+#[derive(Debug, Clone, Copy, PartialEq, Eq)]
 pub(crate) struct Spot {
     /// The number of its parent; 0 for the root.
     pub(crate) parent: u16,
@@ -47,17 +44,16 @@ pub(crate) struct NodeTable {
 }
 
 impl Model for NodeTable {
-    ghost use Rattle.std.specs.Prelude.{List, length};
+    ghost use Rattle.std.specs.Prelude.{List, length, map};
+    ghost use Rattle.std.specs.List.{AllByRecursion};
     ghost use Rattle.page_tree.specs.inside.Table.{Line};
-    ghost use Rattle.page_tree.specs.inside.Rows.{lines_of_rows, AreWithin, lines_code};
+    ghost use Rattle.page_tree.specs.inside.Rows.{line_of_row, IsWithin};
 
     ghost Value = { List Line };
 
-    ghost coded = { lines_code };
+    ghost view = { λ t. map (line_of_row t.texts) t.rows.items };
 
-    ghost view = { λ t. lines_of_rows t.texts t.rows.items };
-
-    ghost invariant = { λ t. AreWithin (length t.texts) t.rows.items };
+    ghost invariant = { λ t. AllByRecursion (IsWithin (length t.texts)) t.rows.items };
 }
 
 impl NodeTable {
@@ -85,9 +81,9 @@ impl NodeTable {
 
     pub(crate) fn parent(&self, number: usize) -> u32
         requires { number < length self.now }
-        ensures { result ≡ (line_in number self.now).parent }
+        ensures { result ≡ (line_in number self.now).spot.parent }
     {
-        self.rows[number].parent as u32
+        self.rows[number].spot.parent as u32
     }
 
     /// The number behind those of the nodes under it.
@@ -100,23 +96,23 @@ impl NodeTable {
 
     pub(crate) fn position(&self, number: usize) -> u32
         requires { number < length self.now }
-        ensures { result ≡ (line_in number self.now).position }
+        ensures { result ≡ (line_in number self.now).spot.position }
     {
-        self.rows[number].position as u32
+        self.rows[number].spot.position as u32
     }
 
     pub(crate) fn elements_before(&self, number: usize) -> u32
         requires { number < length self.now }
-        ensures { result ≡ (line_in number self.now).elements_before }
+        ensures { result ≡ (line_in number self.now).spot.elements_before }
     {
-        self.rows[number].elements_before as u32
+        self.rows[number].spot.elements_before as u32
     }
 
     pub(crate) fn same_before(&self, number: usize) -> u32
         requires { number < length self.now }
-        ensures { result ≡ (line_in number self.now).same_before }
+        ensures { result ≡ (line_in number self.now).spot.same_before }
     {
-        self.rows[number].same_before as u32
+        self.rows[number].spot.same_before as u32
     }
 
     /// How many children it has.
@@ -129,7 +125,7 @@ impl NodeTable {
 
     pub(crate) fn name(&self, number: usize) -> Option<&str>
         requires { number < length self.now }
-        ensures { option_map (λ name. name.now) result ≡ name_of (line_in number self.now).node }
+        ensures { option_map (λ name. name.now) result ≡ (line_in number self.now).name }
     {
         let row = self.rows[number];
         if row.is_element {
@@ -139,36 +135,32 @@ impl NodeTable {
         }
     }
 
-    /// What a text says; None for an element.
-    pub(crate) fn words(&self, number: usize) -> Option<&str>
+    /// What a text says; empty for an element.
+    pub(crate) fn words(&self, number: usize) -> &str
         requires { number < length self.now }
-        ensures { option_map (λ text. text.now) result ≡ words_of (line_in number self.now).node }
+        ensures { result.now ≡ (line_in number self.now).text }
     {
         let row = self.rows[number];
         if row.is_element {
-            None
+            ""
         } else {
-            Some(self.texts.get(row.text as usize))
+            self.texts.get(row.text as usize)
         }
     }
 
     /// The value of the attribute of that name, where the names ascend. The time is logarithmic in the number of attributes.
     pub(crate) fn attribute(&self, number: usize, name: &str) -> Option<&str>
         requires there { number < length self.now }
-        requires ascending { have_ascending_names (attributes_of (line_in number self.now).node) ≡ true }
-        ensures { option_map (λ value. value.now) result ≡ value_of name.now (attributes_of (line_in number self.now).node) }
+        requires ascending { have_ascending_names (line_in number self.now).attributes ≡ true }
+        ensures { option_map (λ value. value.now) result ≡ value_of name.now (line_in number self.now).attributes }
     {
         let row = self.rows[number];
-        if row.is_element {
-            value_among(
-                &self.texts,
-                row.text as usize,
-                row.attributes as usize,
-                name,
-            )
-        } else {
-            None
-        }
+        value_among(
+            &self.texts,
+            row.text as usize + 1,
+            row.attributes as usize,
+            name,
+        )
     }
 
     // ---- comparing
@@ -193,9 +185,12 @@ impl NodeTable {
         requires other_there { number < length other.now }
         ensures { IsTrue result ↔ (line_in number self.now ≡ line_in number other.now) }
     {
-        let row = self.rows[number];
-        let other_row = other.rows[number];
-        same_numbers(row, other_row) && same_node(&self.texts, row, &other.texts, other_row)
+        same_row(
+            &self.texts,
+            self.rows[number],
+            &other.texts,
+            other.rows[number],
+        )
     }
 
     // ---- building
@@ -210,11 +205,8 @@ impl NodeTable {
         self.texts.push(text)?;
         self.rows.push(Row {
             is_element: false,
-            parent: spot.parent,
+            spot,
             end: number as u16 + 1,
-            position: spot.position,
-            elements_before: spot.elements_before,
-            same_before: spot.same_before,
             children: 0,
             text: text_number,
             attributes: 0,
@@ -238,11 +230,8 @@ impl NodeTable {
         push_attributes(&mut self.texts, attributes)?;
         self.rows.push(Row {
             is_element: true,
-            parent: spot.parent,
+            spot,
             end: 0,
-            position: spot.position,
-            elements_before: spot.elements_before,
-            same_before: spot.same_before,
             children,
             text: number,
             attributes: attribute_count,
@@ -281,23 +270,23 @@ pub(crate) fn few(count: usize) -> Result<u32, NoMemory>
     }
 }
 
-// the value of that name among so many attributes, whose names and values are the texts behind that one
-fn value_among<'a>(texts: &'a Texts, before: usize, count: usize, name: &str) -> Option<&'a str>
-    requires within { before + 2 * count < length texts.now }
-    requires ascending { have_ascending_names (attributes_behind texts.now before count) ≡ true }
-    ensures { option_map (λ value. value.now) result ≡ value_of name.now (attributes_behind texts.now before count) }
+// the value of that name among so many attributes, whose names and values are the texts from that one on
+fn value_among<'a>(texts: &'a Texts, at: usize, count: usize, name: &str) -> Option<&'a str>
+    requires within { at + 2 * count ≤ length texts.now }
+    requires ascending { have_ascending_names (attributes_from texts.now at count) ≡ true }
+    ensures { option_map (λ value. value.now) result ≡ value_of name.now (attributes_from texts.now at count) }
 {
-    // the sums below are less than that, so they fit
+    // the sums below are at most that, so they fit
     let _ = texts.len();
-    let mut before = before;
+    let mut at = at;
     let mut count = count;
     while count > 0 {
         let half = count / 2;
-        let middle = before + 2 * half;
-        match texts.get(middle + 1).cmp(name) {
-            Ordering::Equal => return Some(texts.get(middle + 2)),
+        let middle = at + 2 * half;
+        match texts.get(middle).cmp(name) {
+            Ordering::Equal => return Some(texts.get(middle + 1)),
             Ordering::Less => {
-                before = middle + 2;
+                at = middle + 2;
                 count -= half + 1;
             }
             Ordering::Greater => count = half,
@@ -306,70 +295,58 @@ fn value_among<'a>(texts: &'a Texts, before: usize, count: usize, name: &str) ->
     None
 }
 
-fn same_numbers(row: Row, other: Row) -> bool
-    ensures { IsTrue result ↔ (numbers_of row ≡ numbers_of other) }
+// whether they differ in the places of their texts alone
+fn same_but_text(row: Row, other: Row) -> bool
+    ensures { IsTrue result ↔ (record row { text = 0 } ≡ record other { text = 0 }) }
 {
-    row.parent == other.parent
+    row.is_element == other.is_element
+        && row.spot == other.spot
         && row.end == other.end
-        && row.position == other.position
-        && row.elements_before == other.elements_before
-        && row.same_before == other.same_before
         && row.children == other.children
+        && row.attributes == other.attributes
 }
 
-fn same_node(texts: &Texts, row: Row, others: &Texts, other: Row) -> bool
+fn same_row(texts: &Texts, row: Row, others: &Texts, other: Row) -> bool
     requires within { IsWithin (length texts.now) row }
     requires other_within { IsWithin (length others.now) other }
-    ensures { IsTrue result ↔ (node_of_row texts.now row ≡ node_of_row others.now other) }
+    ensures { IsTrue result ↔ (line_of_row texts.now row ≡ line_of_row others.now other) }
 {
-    if row.is_element != other.is_element {
+    if !same_but_text(row, other) {
         return false;
     }
     if !same_text(texts, row.text as usize, others, other.text as usize) {
         return false;
     }
-    if !row.is_element {
-        return true;
-    }
-    if row.attributes != other.attributes {
-        return false;
-    }
     same_attributes(
         texts,
-        row.text as usize,
+        row.text as usize + 1,
         others,
-        other.text as usize,
+        other.text as usize + 1,
         row.attributes as usize,
     )
 }
 
-// whether so many attributes are the same, whose names and values are the texts behind those
-fn same_attributes(
-    texts: &Texts,
-    before: usize,
-    others: &Texts,
-    other_before: usize,
-    count: usize,
-) -> bool
-    requires within { before + 2 * count < length texts.now }
-    requires other_within { other_before + 2 * count < length others.now }
-    ensures { IsTrue result ↔ (attributes_behind texts.now before count ≡ attributes_behind others.now other_before count) }
+// whether so many attributes are the same, whose names and values are the texts from those on
+fn same_attributes(texts: &Texts, at: usize, others: &Texts, other_at: usize, count: usize) -> bool
+    requires within { at + 2 * count ≤ length texts.now }
+    requires other_within { other_at + 2 * count ≤ length others.now }
+    ensures { IsTrue result ↔ (attributes_from texts.now at count ≡ attributes_from others.now other_at count) }
 {
-    // the sums below are less than those, so they fit
+    // the sums below are at most those, so they fit
     let _ = texts.len();
     let _ = others.len();
-    let mut before = before;
-    let mut other_before = other_before;
+    let mut at = at;
+    let mut other_at = other_at;
     let mut count = count;
     while count > 0 {
-        if !same_text(texts, before + 1, others, other_before + 1) {
+        if !same_text(texts, at, others, other_at) {
             return false;
         }
-        if !same_text(texts, before + 2, others, other_before + 2) {
+        if !same_text(texts, at + 1, others, other_at + 1) {
             return false;
         }
-        before += 2;
-        other_before += 2;
+        at += 2;
+        other_at += 2;
         count -= 1;
     }
     true
@@ -385,7 +362,7 @@ fn same_text(texts: &Texts, number: usize, others: &Texts, other: usize) -> bool
 
 fn push_attributes(texts: &mut Texts, attributes: &[(Text, Text)]) -> Result<(), NoMemory>
     ensures ok { OnOk result (texts.new ≡ texts.old ++ texts_of_attributes attributes.now) }
-    ensures kept { StartsWith texts.old texts.new }
+    ensures kept { length texts.old ≤ length texts.new }
 {
     for (name, value) in attributes {
         texts.push(name.as_str())?;

@@ -1,10 +1,11 @@
 -- What a caller makes of the numbers that seats drew: that its loop of draws ends, and that the seats together have all numbers below the count.
-use Rattle.std.proofs.Common.{◌≡◌, ℕ, ◌+◌, ◌-◌, ◌<◌, ◌≤◌, ◌==◌, max, true, true≢false, ◌||◌, cond, All, List, [], ◌∷◌, ◌++◌, length, inl, inr, refl, sym, ◌∙◌, ap, arith}
+use Rattle.std.proofs.Common.{◌≡◌, ℕ, ◌+◌, ◌-◌, ◌<◌, ◌≤◌, ◌==◌, max, true, true≢false, ◌||◌, cond, All, List, [], ◌∷◌, ◌++◌, inl, inr, refl, sym, ◌∙◌, ap, arith}
 use Rattle.std.specs.List.{sum_by}
 use Rattle.std.proofs.lemmas.Bool.Decides.{leb_tells}
 use Rattle.std.proofs.lemmas.List.Elements.{All-head, All-tail}
 use Rattle.std.proofs.lemmas.List.Sums.{sum_by-cons}
-use Rattle.replay_workers.specs.Draws.{Draws, has_end, is_spent, times, AreClaimed}
+use Rattle.replay_workers.specs.Draws.{Pool, Draws, has_end, times, AreClaimed}
+use Rattle.replay_workers.specs.inside.Shares.{AreBack}
 use Rattle.replay_workers.proofs.Lists.{once_within, within_once, once_at}
 
 -- ---- a loop of draws
@@ -16,10 +17,7 @@ next_after (x ∷ drawn) = max (x + 1) (next_after drawn)
 
 next_within : (drawn : List ℕ) (x : ℕ) → All (λ y. y < x) drawn → next_after drawn ≤ x
 next_within [] x above = omega arith
-next_within (y ∷ drawn) x above =
-    let here : y < x = All-head (λ z. z < x) y drawn above in
-    let rest : next_after drawn ≤ x = next_within drawn x (All-tail (λ z. z < x) y drawn above) in
-    omega (arith, here, rest)
+next_within (y ∷ drawn) x above = omega (arith, All-head (λ z. z < x) y drawn above, next_within drawn x (All-tail (λ z. z < x) y drawn above))
 
 next_push : (drawn : List ℕ) (x : ℕ) → x + 1 ≤ next_after (drawn ++ x ∷ [])
 next_push [] x = omega arith
@@ -40,23 +38,16 @@ end_of count (y ∷ drawn) some_ = elim (leb_tells count y) [
       (rest.0, rest.1, omega (arith, sum_by-cons (λ z. cond {A = ℕ} (z == rest.0) 1 0) y drawn, rest.2))
 ]
 
--- where a seat of the claims is spent, they were drawn past the count
-pub past_count : (count word : ℕ) (seats : List Draws) → 1 ≤ length seats
-    → All (λ seat. (seat.count ≡ count) × (is_spent seat ≡ true)) seats → AreClaimed word seats → count < word
-past_count count word [] some_ spent claimed = absurd (omega (arith, some_))
-past_count count word (seat ∷ seats) some_ spent claimed =
-    let mine : (seat.count ≡ count) × (is_spent seat ≡ true) = All-head (λ (s : Draws). (s.count ≡ count) × (is_spent s ≡ true)) seat seats spent in
-    let last = end_of seat.count seat.drawn mine.1 in
-    let all : sum_by (λ (s : Draws). times last.0 s.drawn) (seat ∷ seats) ≡ times last.0 seat.drawn + sum_by (λ (s : Draws). times last.0 s.drawn) seats =
-    sum_by-cons (λ (s : Draws). times last.0 s.drawn) seat seats in
-    let below : last.0 < word = within_once word last.0 (omega (arith, claimed last.0, all, last.2)) in
-    let past : seat.count ≤ last.0 = last.1 in
-    let same : seat.count ≡ count = mine.0 in
-    omega (arith, below, past, same)
-
--- then each number below the count was drawn by just one of them, once
-pub each_drawn : (count word : ℕ) (seats : List Draws) → 1 ≤ length seats
-    → All (λ seat. (seat.count ≡ count) × (is_spent seat ≡ true)) seats → AreClaimed word seats
-    → (x : ℕ) → x < count → sum_by (λ seat. times x seat.drawn) seats ≡ 1
-each_drawn count word seats some_ spent claimed x less =
-    claimed x ∙ once_within word x (omega (arith, less, past_count count word seats some_ spent claimed))
+-- where the seats come back, all spent, each number below the count was drawn by just one of them, once
+pub each_drawn : (pool : Pool) (word count : ℕ) (seats : List Draws) → 1 ≤ count → AreBack pool count seats → AreClaimed word seats
+    → (x : ℕ) → x < pool.count → sum_by (λ seat. times x seat.drawn) seats ≡ 1
+each_drawn pool word count seats some_ back claimed x less = claimed x ∙ once_within word x (by seats back claimed)
+  where
+    by : (seats : List Draws) → AreBack pool count seats → AreClaimed word seats → x < word
+    by [] back claimed = absurd (omega (arith, some_, back.count_is))
+    by (seat ∷ seats) back claimed =
+        let (last, past, drew) = end_of seat.count seat.drawn (back.spent 0 seat (omega arith)) in
+        let all = sum_by-cons (λ (s : Draws). times last s.drawn) seat seats in
+        let below : last < word = within_once word last (omega (arith, claimed last, all, drew)) in
+        let count_is : seat.count ≡ pool.count = (back.of 0 seat (omega arith)).1 in
+        omega (arith, below, past, count_is, less)

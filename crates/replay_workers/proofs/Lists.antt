@@ -1,10 +1,11 @@
 -- Sums over lists of which one or two elements change, and lists that are longer by one at their end.
-use Rattle.std.proofs.Common.{◌≡◌, ◌≢◌, ◌⊎◌, ℕ, zero, suc, ◌+◌, ◌<◌, ◌≤◌, ◌==◌, Bool, true, false, true≢false, ◌||◌, cond, List, [], ◌∷◌, ◌++◌, map, set, inl, inr, ⊎_elim, refl, sym, ◌∙◌, ap, subst, arith}
+use Rattle.std.proofs.Common.{◌≡◌, ◌≢◌, ◌⊎◌, ℕ, zero, suc, ◌+◌, ◌<◌, ◌≤◌, ◌==◌, false, true≢false, cond, List, [], ◌∷◌, ◌++◌, map, set, inl, inr, ⊎_elim, refl, sym, ◌∙◌, ap, subst, arith}
 use Rattle.std.specs.Prelude.{nat_le}
-use Rattle.std.specs.List.{sum_by, list_any}
+use Rattle.std.specs.List.{sum_by}
 use mathlib.Core.Option.{some, some-injective, some-ne-none}
 use lib.ListN.{get_elem?}
-use Rattle.std.proofs.lemmas.Bool.Decides.{leb_tells, eqb_tells}
+use Rattle.std.proofs.lemmas.Bool.{or_parts, le-leb, lt-ltb, le-ltb, eq-eqb, ne_eqb, cases_lt, cases_order}
+use Rattle.std.proofs.lemmas.List.Folds.{list_any-append}
 use Rattle.std.proofs.lemmas.List.Sums.{sum_by-cons}
 use Rattle.atomic_table.proofs.Lists.{at_set}
 use Rattle.replay_workers.specs.Draws.{has_end, EndsOnce, once_below}
@@ -14,17 +15,13 @@ use Rattle.replay_workers.specs.Draws.{has_end, EndsOnce, once_below}
 module _ {A : Type 0} (f : A → ℕ) where
   pub sum_set : (xs : List A) (i : ℕ) (a b : A) → get_elem? xs i ≡ some a → sum_by f (set xs i b) + f a ≡ sum_by f xs + f b
   sum_set [] i a b at = absurd (some-ne-none a (sym at))
-  sum_set (x ∷ xs) zero a b at =
-      let is : f x ≡ f a = ap f (some-injective x a at) in
-      omega (arith, sum_by-cons f b xs, sum_by-cons f x xs, is)
+  sum_set (x ∷ xs) zero a b at = omega (arith, sum_by-cons f b xs, sum_by-cons f x xs, ap f (some-injective x a at))
   sum_set (x ∷ xs) (suc i) a b at =
       omega (arith, sum_by-cons f x (set xs i b), sum_by-cons f x xs, sum_set xs i a b at)
 
   pub at_most_sum : (xs : List A) (i : ℕ) (a : A) → get_elem? xs i ≡ some a → f a ≤ sum_by f xs
   at_most_sum [] i a at = absurd (some-ne-none a (sym at))
-  at_most_sum (x ∷ xs) zero a at =
-      let is : f x ≡ f a = ap f (some-injective x a at) in
-      omega (arith, sum_by-cons f x xs, is)
+  at_most_sum (x ∷ xs) zero a at = omega (arith, sum_by-cons f x xs, ap f (some-injective x a at))
   at_most_sum (x ∷ xs) (suc i) a at = omega (arith, sum_by-cons f x xs, at_most_sum xs i a at)
 
   -- one takes over what the other has
@@ -63,18 +60,14 @@ module _ {A : Type 0} (f g : A → ℕ) (empty : (a : A) → g a ≡ 0 → f a �
       let rest : sum_by f xs ≡ f a = sum_of_one xs i a at (omega (arith, few, all)) in
       omega (arith, sum_by-cons f x xs, here, rest)
 
--- ---- passes
+-- ---- passes: what is so of each, where one gets another view
 
-module _ {V : Type 0} where
-  abbrev pub EachPass : (ℕ → V → Type 0) → List V → Type 0
-  EachPass holds views = (pass : ℕ) (v : V) → get_elem? views pass ≡ some v → holds pass v
-
-  -- one pass gets another view
-  pub each_set : (holds : ℕ → V → Type 0) (views : List V) (pass : ℕ) (w : V) → holds pass w
-      → ((j : ℕ) (u : V) → j ≢ pass → get_elem? views j ≡ some u → holds j u) → EachPass holds (set views pass w)
-  each_set holds views pass w mine others j u at = ⊎_elim
-      (λ (here : (j ≡ pass) × (w ≡ u)). subst (λ (p : ℕ × V). holds p.0 p.1) (λ i. (sym here.0 i, here.1 i)) mine)
-      (λ (else : (j ≢ pass) × (get_elem? views j ≡ some u)). others j u else.0 else.1) (at_set views pass j w u at)
+pub each_set : {V : Type 0} (holds : ℕ → V → Type 0) (views : List V) (pass : ℕ) (w : V) → holds pass w
+    → ((j : ℕ) (u : V) → j ≢ pass → get_elem? views j ≡ some u → holds j u)
+    → (j : ℕ) (u : V) → get_elem? (set views pass w) j ≡ some u → holds j u
+each_set {V = V} holds views pass w mine others j u at = ⊎_elim
+    (λ (here : (j ≡ pass) × (w ≡ u)). subst (λ (p : ℕ × V). holds p.0 p.1) (λ i. (sym here.0 i, here.1 i)) mine)
+    (λ (else : (j ≢ pass) × (get_elem? views j ≡ some u)). others j u else.0 else.1) (at_set views pass j w u at)
 
 -- ---- what was drawn
 
@@ -94,26 +87,15 @@ module _ {A : Type 0} where
         | inr last ↦ inr last
       ]
 
-  any_at : (test : A → Bool) (before after : List A) (x : A) → test x ≡ true → list_any test (before ++ x ∷ after) ≡ true
-  any_at test [] after x is = ap (λ b. b || list_any test after) is
-  any_at test (b ∷ before) after x is = or_true (test b) (list_any test (before ++ x ∷ after)) (any_at test before after x is)
-    where
-      or_true : (p q : Bool) → q ≡ true → (p || q) ≡ true
-      or_true true q is = refl
-      or_true false q is = is
-
 -- one number more, where none was at or past the count
 pub one_drawn : (count : ℕ) (drawn : List ℕ) (x : ℕ) → has_end count drawn ≡ false → EndsOnce count (drawn ++ x ∷ [])
-one_drawn count drawn x unspent before after y is past = ⊎_elim
-    (λ (e : (rest : List ℕ) × (drawn ≡ before ++ y ∷ rest)). absurd (true≢false
-    (sym (any_at (λ z. nat_le count z) before e.0 y (le_tells past)) ∙ ap (has_end count) (sym e.1) ∙ unspent)))
-    (λ last. last) (cut_at_end drawn before after x y is)
-  where
-    le_tells : count ≤ y → nat_le count y ≡ true
-    le_tells past = elim (leb_tells count y) [
-      | inl here ↦ here.0
-      | inr less ↦ absurd (omega (arith, less.1, past))
-    ]
+one_drawn count drawn x unspent before after y is past = elim (cut_at_end drawn before after x y is) [
+  | inl e ↦
+      let none = sym (list_any-append (nat_le count) before (y ∷ e.0)) ∙ ap (has_end count) (sym e.1) ∙ unspent in
+      let rest = or_parts (has_end count before) (has_end count (y ∷ e.0)) none in
+      absurd (true≢false (sym (le-leb count y past) ∙ (or_parts (nat_le count y) (has_end count e.0) rest.1).0))
+  | inr last ↦ last
+]
 
 pub none_drawn : (count : ℕ) → EndsOnce count []
 none_drawn count [] after y is past = cc
@@ -122,44 +104,32 @@ none_drawn count (b ∷ before) after y is past = cc
 -- ---- numbers below an end
 
 pub once_within : (end x : ℕ) → x < end → once_below end x ≡ 1
-once_within end x less = elim (leb_tells (suc x) end) [
-  | inl here ↦ ap (λ b. cond b 1 0) here.0
-  | inr past ↦ absurd (omega (arith, past.1, less))
-]
+once_within end x less = ap (λ b. cond b 1 0) (lt-ltb x end less)
 
 pub once_past : (end x : ℕ) → end ≤ x → once_below end x ≡ 0
-once_past end x past = elim (leb_tells (suc x) end) [
-  | inl here ↦ absurd (omega (arith, past, here.1))
-  | inr else ↦ ap (λ b. cond b 1 0) else.0
-]
+once_past end x past = ap (λ b. cond b 1 0) (le-ltb x end past)
 
 pub within_once : (end x : ℕ) → 1 ≤ once_below end x → x < end
-within_once end x there = elim (leb_tells (suc x) end) [
-  | inl here ↦ here.1
-  | inr else ↦ absurd (omega (arith, there, once_past end x (omega (arith, else.1))))
+within_once end x there = elim (cases_lt x end) [
+  | inl less ↦ less
+  | inr past ↦ absurd (omega (arith, there, once_past end x past))
 ]
 
 pub once_at : (x y : ℕ) → x ≡ y → cond {A = ℕ} (x == y) 1 0 ≡ 1
-once_at x y is = elim (eqb_tells x y) [
-  | inl same ↦ ap (λ b. cond b 1 0) same.0
-  | inr other ↦ absurd (other.1 is)
-]
+once_at x y is = ap (λ b. cond b 1 0) (eq-eqb x y is)
 
 pub once_else : (x y : ℕ) → x ≢ y → cond {A = ℕ} (x == y) 1 0 ≡ 0
-once_else x y is = elim (eqb_tells x y) [
-  | inl same ↦ absurd (is same.1)
-  | inr other ↦ ap (λ b. cond b 1 0) other.0
-]
+once_else x y is = ap (λ b. cond b 1 0) (ne_eqb x y is)
 
 -- one number more is below the end
 pub one_more : (end x : ℕ) → once_below (end + 1) x ≡ once_below end x + cond {A = ℕ} (end == x) 1 0
-one_more end x = elim (eqb_tells end x) [
-  | inl same ↦ omega (arith, once_within (end + 1) x (omega (arith, same.1)), once_past end x (omega (arith, same.1)), once_at end x same.1)
-  | inr other ↦ elim (leb_tells (suc x) end) [
-    | inl less ↦ omega (arith, once_within (end + 1) x (omega (arith, less.1)), once_within end x less.1, once_else end x other.1)
-    | inr past ↦ omega (arith, once_past (end + 1) x (further past.1 other.1), once_past end x (omega (arith, past.1)), once_else end x other.1)
-  ]
+one_more end x = elim (cases_order end x) [
+  | inl same ↦ omega (arith, once_within (end + 1) x (omega (arith, same)), once_past end x (omega (arith, same)), once_at end x same)
+  | inr (inl past) ↦ omega (
+    arith,
+    once_past (end + 1) x (omega (arith, past)),
+    once_past end x (omega (arith, past)),
+    once_else end x (λ e. omega (arith, e, past)),
+  )
+  | inr (inr less) ↦ omega (arith, once_within (end + 1) x (omega (arith, less)), once_within end x less, once_else end x (λ e. omega (arith, e, less)))
 ]
-  where
-    further : end < suc x → end ≢ x → end + 1 ≤ x
-    further less other = omega (arith, less, other)

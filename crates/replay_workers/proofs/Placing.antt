@@ -1,25 +1,24 @@
 -- Outcomes that come to their places, share by share.
-use Rattle.std.proofs.Common.{◌≡◌, ◌≢◌, ℕ, zero, suc, ◌+◌, ◌<◌, ◌≤◌, ◌==◌, ◌⊎◌, List, [], ◌∷◌, ◌++◌, length, map, zip, set, cond, true, All, IfOk, Result, Ok, Err, Some, slice_get, inl, inr, refl, sym, ap, subst, ◌∙◌, arith}
+use Rattle.std.proofs.Common.{◌≡◌, ◌≢◌, ℕ, zero, suc, ◌+◌, ◌<◌, ◌≤◌, ◌==◌, List, [], ◌∷◌, ◌++◌, length, map, zip, set, cond, All, IfOk, Result, Ok, Err, Some, slice_get, inl, inr, refl, sym, ap, subst, ◌∙◌, arith}
 use Rattle.std.proofs.lemmas.Bool.Decides.{eqb_tells, leb_tells}
-use Rattle.std.proofs.lemmas.List.{map-append, length-set}
+use Rattle.std.proofs.lemmas.List.{map-append, length-set, get_or-set_same}
 use Rattle.std.proofs.lemmas.List.Elements.{All-pop, All-weaker}
 use Rattle.std.proofs.lemmas.List.Sums.{sum_by_push}
-use Rattle.std.proofs.lemmas.Option.{slice_get_within}
+use Rattle.std.proofs.lemmas.Option.{slice_get_within, slice_get-get_or}
 use Rattle.std.specs.List.{sum_by}
 use Rattle.visit_replay.proofs.Places.{same_places}
 use Rattle.visit_replay.specs.declared.outcome.Outcome.{Outcome}
 use Rattle.replay_workers.proofs.Divided.{each_drawn}
 use Rattle.replay_workers.proofs.Lists.{once_else}
-use Rattle.replay_workers.specs.Draws.{Pool, Draws, IsSeatOf, is_spent, times, AreClaimed}
-use Rattle.replay_workers.specs.Work.{done_numbers, AreOf}
-use Rattle.replay_workers.specs.inside.Shares.{HasAll, AreBack, IsPlaced}
+use Rattle.replay_workers.specs.Draws.{Pool, Draws, times, fresh_seat, AreClaimed}
+use Rattle.replay_workers.specs.Work.{done_numbers, AreOf, HasDrawn}
+use Rattle.replay_workers.specs.inside.Shares.{AreBack, IsPlaced, StandsOrComes}
 use Rattle.replay_workers.specs.declared.share.Done.{Done}
 
 -- what stands in a list after a change
 set_here : {A : Type 0} (xs : List A) (k : ℕ) (x : A) → k < length xs → slice_get (set xs k x) k ≡ Some x
-set_here [] k x below = absurd (omega (arith, below))
-set_here (y ∷ xs) zero x below = refl
-set_here (y ∷ xs) (suc k) x below = set_here xs k x (omega (arith, below))
+set_here xs k x below =
+    slice_get-get_or (set xs k x) k x (omega (arith, below, length-set xs k x)) ∙ ap (λ y. Some y) (get_or-set_same xs k x x below)
 
 set_there : {A : Type 0} (xs : List A) (k : ℕ) (x : A) (j : ℕ) → j ≢ k → slice_get (set xs k x) j ≡ slice_get xs j
 set_there [] k x j other = refl
@@ -32,10 +31,11 @@ times_push : (x : ℕ) (drawn : List ℕ) (n : ℕ) → times x (drawn ++ n ∷ 
 times_push x drawn n = sum_by_push (λ y. cond {A = ℕ} (y == x) 1 0) drawn n
 
 -- one outcome comes to its place
-pub one_placed : (own all : List Outcome) (x : ℕ) (rest : List Done) (one : Done) → one.number < length all → slice_get own one.number ≡ Some one.outcome
-    → (slice_get all x ≡ slice_get own x) ⊎ (1 ≤ times x (done_numbers (rest ++ one ∷ []))) → (slice_get (set all one.number one.outcome) x ≡ slice_get own x) ⊎ (1 ≤ times x (done_numbers rest))
+pub one_placed : (own all : List Outcome) (x : ℕ) (rest : List Done) (one : Done) → one.number < length all
+    → slice_get own one.number ≡ Some one.outcome → StandsOrComes own all (rest ++ one ∷ []) x → StandsOrComes own (set all one.number one.outcome) rest x
 one_placed own all x rest one below right stood = elim (eqb_tells one.number x) [
-  | inl same ↦ inl (ap (slice_get (set all one.number one.outcome)) (sym same.1) ∙ set_here all one.number one.outcome below ∙ sym right ∙ ap (slice_get own) same.1)
+  | inl same ↦ inl (ap (slice_get (set all one.number one.outcome)) (sym same.1)
+      ∙ set_here all one.number one.outcome below ∙ sym right ∙ ap (slice_get own) same.1)
   | inr other ↦ elim stood [
     | inl stands ↦ inl (set_there all one.number one.outcome x (λ is. other.1 (sym is)) ∙ stands)
     | inr comes ↦
@@ -47,9 +47,9 @@ one_placed own all x rest one below right stood = elim (eqb_tells one.number x) 
 
 -- ---- the seats that came back
 
-module _ (own : List Outcome) (pool : Pool) (count : pool.count ≡ length own) (all new : List Outcome) (seats : List Draws) (seat : Draws) (done : List Done) (worked : HasAll own pool seat done)
-    (placed : IsPlaced own seats all)
-    (put : (x : ℕ) → (slice_get all x ≡ slice_get own x) ⊎ (1 ≤ times x (done_numbers done)) → slice_get new x ≡ slice_get own x) where
+module _ (own : List Outcome) (pool : Pool) (count : pool.count ≡ length own) (all new : List Outcome) (seats : List Draws)
+    (seat : Draws) (done : List Done) (worked : HasDrawn own (fresh_seat pool) seat done)
+    (placed : IsPlaced own seats all) (put : (x : ℕ) → StandsOrComes own all done x → slice_get new x ≡ slice_get own x) where
   mine : (x : ℕ) → x < length own → 1 ≤ times x seat.drawn → 1 ≤ times x (done_numbers done)
   mine x below some =
       let split = ap (times x) worked.drawn ∙ times_push x (done_numbers done) worked.last in
@@ -74,36 +74,22 @@ worked_within own done n are size =
 pub front_all : {A : Type 0} (P : A → Type 0) (rest : List A) (one : A) → All P (rest ++ one ∷ []) → All P rest × P one
 front_all P rest one all = All-pop P (rest ++ one ∷ []) rest (Some one) refl all
 
-module _ (all : List Outcome) (done rest : List Done) (one : Done) (new : Outcome) (split : done ≡ rest ++ one ∷ []) (new_is : new ≡ one.outcome) (within : All (λ (d : Done). d.number < length all) done) where
+module _ (all : List Outcome) (done rest : List Done) (one : Done) (new : Outcome) (split : done ≡ rest ++ one ∷ [])
+    (new_is : new ≡ one.outcome) (within : All (λ (d : Done). d.number < length all) done) where
   both : All (λ (d : Done). d.number < length all) rest × (one.number < length all)
   both = front_all (λ (d : Done). d.number < length all) rest one (subst (All (λ (d : Done). d.number < length all)) split within)
 
   pub next_within : All (λ (d : Done). d.number < length (set all one.number new)) rest
   next_within = subst (λ n. All (λ (d : Done). d.number < n) rest) (sym (length-set all one.number new)) both.0
 
-  pub next_stands : (own : List Outcome) (x : ℕ) → AreOf own done → (slice_get all x ≡ slice_get own x) ⊎ (1 ≤ times x (done_numbers done))
-      → AreOf own rest × ((slice_get (set all one.number new) x ≡ slice_get own x) ⊎ (1 ≤ times x (done_numbers rest)))
+  pub next_stands : (own : List Outcome) (x : ℕ) → AreOf own done → StandsOrComes own all done x
+      → AreOf own rest × StandsOrComes own (set all one.number new) rest x
   next_stands own x are stood =
       let parts = front_all (λ (d : Done). slice_get own d.number ≡ Some d.outcome) rest one (subst (AreOf own) split are) in (
         parts.0,
-        subst (λ o. (slice_get (set all one.number o) x ≡ slice_get own x) ⊎ (1 ≤ times x (done_numbers rest))) (sym new_is)
-            (one_placed own all x rest one both.1 parts.1 (subst (λ them. (slice_get all x ≡ slice_get own x) ⊎ (1 ≤ times x (done_numbers them))) split stood)),
+        subst (λ o. StandsOrComes own (set all one.number o) rest x) (sym new_is)
+            (one_placed own all x rest one both.1 parts.1 (subst (λ them. StandsOrComes own all them x) split stood)),
       )
-
-pub none_placed : (own all : List Outcome) (x : ℕ) (done : List Done) → done ≡ [] → (slice_get all x ≡ slice_get own x) ⊎ (1 ≤ times x (done_numbers done)) → slice_get all x ≡ slice_get own x
-none_placed own all x done none (inl stands) = stands
-none_placed own all x done none (inr some) = absurd (omega (arith, some, ap (λ them. times x (done_numbers them)) none))
-
--- ---- a share more
-
-module _ {V E : Type 0} (items : V → List Done) where
-  -- what is known of a share's list, where it has one
-  pub of_ok : (P : V → Type 0) (done : Result V E) (some : V) → done ≡ Ok some → IfOk done P → P some
-  of_ok P done some is holds = subst (λ (d : Result V E). IfOk d P) is holds
-
-pub all_back : (own all : List Outcome) (pool : Pool) (left seats count : ℕ) (back : List Draws) → left ≡ 0 → left + seats ≡ count → seats ≡ length back
-    → All (IsSeatOf pool) back → All (λ (seat : Draws). is_spent seat ≡ true) back → IsPlaced own back all → AreBack pool count back × IsPlaced own back all
-all_back own all pool left seats count back none sum many of spent placed = (record { count_is = omega (arith, none, sum, many); of = of; spent = spent }, placed)
 
 pub all_front : {A : Type 0} (P : A → Type 0) (all rest : List A) (one : A) → all ≡ rest ++ one ∷ [] → All P all → All P rest
 all_front P all rest one split holds = (front_all P rest one (subst (All P) split holds)).0
@@ -111,22 +97,18 @@ all_front P all rest one split holds = (front_all P rest one (subst (All P) spli
 -- ---- all shares
 
 -- every visit was drawn by one of the seats, so every outcome came to its place
-pub all_placed : (own all : List Outcome) (pool : Pool) (word count : ℕ) (seats : List Draws) → 1 ≤ count → pool.count ≡ length own → length all ≡ length own → AreBack pool count seats → AreClaimed word seats
-    → IsPlaced own seats all → all ≡ own
+pub all_placed : (own all : List Outcome) (pool : Pool) (word count : ℕ) (seats : List Draws) → 1 ≤ count → pool.count ≡ length own
+    → length all ≡ length own → AreBack pool count seats → AreClaimed word seats → IsPlaced own seats all → all ≡ own
 all_placed own all pool word count seats some size many back claimed placed = same_places all own many (λ x below.
     let within : x < length own = omega (arith, below, many) in
-    let once = each_drawn pool.count word seats (omega (arith, some, back.count_is)) (both_all seats back.of back.spent) claimed x (omega (arith, within, size)) in
-    placed x within (omega (arith, once)))
-  where
-    both_all : (them : List Draws) → All (IsSeatOf pool) them → All (λ (seat : Draws). is_spent seat ≡ true) them → All (λ (seat : Draws). (seat.count ≡ pool.count) × (is_spent seat ≡ true)) them
-    both_all them of spent = λ k d below. ((of k d below).1, spent k d below)
+    placed x within (omega (arith, each_drawn pool word count seats some back claimed x (omega (arith, within, size)))))
 
 -- the visits beside what each gives by itself
 pub zip_own : {A B : Type 0} (f : A → B) (xs : List A) → zip xs (map f xs) ≡ map (λ x. (x, f x)) xs
 zip_own f [] = refl
 zip_own f (x ∷ xs) = ap (λ rest. (x, f x) ∷ rest) (zip_own f xs)
 
-pub shares_within : {V E : Type 0} (items : V → List Done) (own : List Outcome) (pool : Pool) (seat : Draws) (done : Result V E) (n : ℕ) → length own ≡ n
-    → IfOk done (λ d. HasAll own pool seat (items d)) → IfOk done (λ d. All (λ (one : Done). one.number < n) (items d))
-shares_within items own pool seat (Err e) n size worked = tt
-shares_within items own pool seat (Ok d) n size worked = worked_within own (items d) n worked.outcomes size
+pub shares_within : {V E : Type 0} (items : V → List Done) (own : List Outcome) (old seat : Draws) (done : Result V E) (n : ℕ) → length own ≡ n
+    → IfOk done (λ d. HasDrawn own old seat (items d)) → IfOk done (λ d. All (λ (one : Done). one.number < n) (items d))
+shares_within items own old seat (Err e) n size worked = tt
+shares_within items own old seat (Ok d) n size worked = worked_within own (items d) n worked.outcomes size

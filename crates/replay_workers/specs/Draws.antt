@@ -1,9 +1,7 @@
 -- What contracts see of claims and of their seats: which numbers were drawn.
 use Rattle.std.specs.Prelude.{◌≡◌, ℕ, ◌≤◌, ◌==◌, Bool, nat_le, nat_lt, if◌then◌else◌, List, [], ◌∷◌, ◌++◌, replicate, All}
 use Rattle.std.specs.List.{list_any, count_by, sum_by}
-use Rattle.std.specs.Coded.{Coded, coded×, coded_ℕ, coded_list, code_by}
-use Rattle.std.proofs.Common.{refl}
-use Rattle.atomic_table.specs.Seated.{TableId, table_id_coded}
+use Rattle.atomic_table.specs.Seated.{TableId}
 
 -- which claims they are, how many numbers there are to claim, and how many seats
 pub record Pool : Type 0 where
@@ -54,26 +52,8 @@ AreClaimed end seats = (x : ℕ) → sum_by (λ seat. times x seat.drawn) seats 
 abbrev pub fresh_seat : Pool → Draws
 fresh_seat pool = record { table_id = pool.table_id; count = pool.count; drawn = [] }
 
--- a seat of these claims which has drawn nothing
-abbrev pub IsNewSeatOf : Pool → Draws → Type 0
-IsNewSeatOf pool seat = IsSeatOf pool seat × (seat.drawn ≡ [])
-
 pub record AreOpenedClaims (count workers : ℕ) (pool : Pool) (seats : List Draws) : Type 0 where
   pub count_is : pool.count ≡ count
   pub workers_is : pool.workers ≡ workers
   pub seats_are : seats ≡ replicate workers (fresh_seat pool)
-  pub fresh : All (IsNewSeatOf pool) seats
-
--- ---- codes
-
-abbrev pub pool_coded : Coded Pool
-pool_coded =
-    code_by (TableId × (ℕ × ℕ)) (coded× table_id_coded (coded× coded_ℕ coded_ℕ))
-    (λ p. (p.table_id, (p.count, p.workers)))
-    (λ t. record { table_id = t.0; count = t.1.0; workers = t.1.1 }) (λ _. refl)
-
-abbrev pub draws_coded : Coded Draws
-draws_coded =
-    code_by (TableId × (ℕ × List ℕ)) (coded× table_id_coded (coded× coded_ℕ (coded_list coded_ℕ)))
-    (λ s. (s.table_id, (s.count, s.drawn)))
-    (λ t. record { table_id = t.0; count = t.1.0; drawn = t.1.1 }) (λ _. refl)
+  pub fresh : All (λ seat. IsSeatOf pool seat × (seat.drawn ≡ [])) seats

@@ -23,12 +23,10 @@ pub struct Claims {
 }
 
 impl Model for Claims {
-    ghost use Rattle.replay_workers.specs.Draws.{Pool, pool_coded};
+    ghost use Rattle.replay_workers.specs.Draws.{Pool};
     ghost use Rattle.replay_workers.specs.inside.Seats.{pool_of, IsClaims};
 
     ghost Value = { Pool };
-
-    ghost coded = { pool_coded };
 
     ghost view = { λ c. pool_of c.table.shared.table_id c.table.shared.key };
 

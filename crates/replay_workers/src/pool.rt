@@ -5,10 +5,10 @@ ghost use Rattle.std.specs.Vec.{vec_capacity};
 ghost use Rattle.visit_replay.specs.Following.{outcomes};
 ghost use Rattle.visit_replay.specs.RepairedSite.{site_by};
 ghost use Rattle.visit_replay.specs.declared.outcome.Outcome.TheVariants.{Untouched};
-ghost use Rattle.replay_workers.specs.Draws.{IsNewSeatOf};
+ghost use Rattle.replay_workers.specs.Draws.{fresh_seat};
 ghost use Rattle.replay_workers.specs.Limits.{AreWorkers};
 ghost use Rattle.replay_workers.specs.Work.{own_outcomes, IsShare};
-ghost use Rattle.replay_workers.specs.inside.Shares.{IsWorked, IsOfFew, PlacesAll, PlacesThese};
+ghost use Rattle.replay_workers.specs.inside.Shares.{PlacesAll, PlacesThese};
 ghost use Rattle.replay_workers.specs.declared.fault.PoolFault.TheVariants.{BadWorkers, NoMemory};
 
 use crate::claims::Claims;
@@ -52,8 +52,8 @@ fn replay_each<H: SiteHooks, R: Threads + Sync>(
     claims: Claims,
     seats: Vec<Seat>,
 ) -> Result<Vec<Outcome>, AllocError>
-    requires fresh { All (IsNewSeatOf claims) seats.items }
-    requires all { (1 ≤ vec_len seats) × (vec_len seats ≡ claims.workers) }
+    requires fresh { seats.items ≡ replicate claims.workers (fresh_seat claims) }
+    requires some { 1 ≤ claims.workers }
     requires count { claims.count ≡ length visits.now }
     ensures { IfOk result (λ own. own.items ≡ own_outcomes (site_by H.page_of H.signals hooks.now patch.now) visits.now) }
 {
@@ -64,10 +64,10 @@ fn replay_each<H: SiteHooks, R: Threads + Sync>(
         rt,
         seats,
         &|seat| -> Share
-            requires { IsNewSeatOf lent.now seat × (lent.now.count ≡ length visits.now) }
-            ensures { IsWorked
+            requires { (seat ≡ fresh_seat lent.now) × (lent.now.count ≡ length visits.now) }
+            ensures { IsShare
                 (own_outcomes (site_by H.page_of H.signals hooks.entry.now patch.entry.now) visits.entry.now)
-                lent.entry.now result }
+                lent.entry.now (fresh_seat lent.entry.now) result }
         { work(alloc, hooks, patch, visits, lent, seat) },
     )?;
     let seats = place_all(shares, own.as_mut_slice(), room)?;
@@ -92,7 +92,8 @@ fn place_all(
     room: Vec<Seat>,
 ) -> Result<Vec<Seat>, AllocError>
     requires room { (room.items ≡ []) × (length shares.items ≤ vec_capacity room) }
-    requires within { All (IsOfFew (length all.old)) shares.items }
+    requires within { All (λ share. IfOk share.done (λ done. All (λ one. one.number < length all.old) done.items))
+        shares.items }
     ensures { IfOk result (λ seats. PlacesAll shares.items all.old all.new seats.items) }
 {
     let mut shares = shares;

@@ -5,22 +5,23 @@ use atomic_table::{Join, Play, Split, TableRule};
 pub(crate) struct InTurn;
 
 impl TableRule<(), SeatView, Terms> for InTurn {
-    ghost use Rattle.replay_workers.specs.inside.Rule.{IsInTurn, leader_at_first};
+    ghost use Rattle.replay_workers.specs.inside.Rule.{IsInTurn, first_of};
 
     ghost holds = { IsInTurn };
 
-    ghost first = { leader_at_first };
+    ghost first = { λ _. first_of 1 };
 }
 
 /// A seat more.
 pub(crate) struct OpensSeat;
 
 impl Split<SeatView> for OpensSeat {
-    ghost use Rattle.replay_workers.specs.inside.Rule.{with_seat, of_new_seat};
+    ghost use Rattle.std.specs.Prelude.{◌+◌, [], ◌∷◌};
+    ghost use Rattle.replay_workers.specs.inside.Rule.{seat_with};
 
-    ghost left = { with_seat };
+    ghost left = { λ v. record v { made = v.made + 1 } };
 
-    ghost right = { of_new_seat };
+    ghost right = { λ _. seat_with ([] ∷ []) };
 }
 
 /// A seat draws the next number.
@@ -37,9 +38,10 @@ impl Play<(), SeatView> for Draw {
 pub(crate) struct GathersSeats;
 
 impl Join<SeatView> for GathersSeats {
-    ghost use Rattle.replay_workers.specs.inside.Rule.{with_lists, emptied};
+    ghost use Rattle.std.specs.Prelude.{[], ◌++◌};
+    ghost use Rattle.replay_workers.specs.inside.Rule.{seat_with};
 
-    ghost both = { with_lists };
+    ghost both = { λ v w. record v { rows = v.rows ++ w.rows } };
 
-    ghost spent = { emptied };
+    ghost spent = { seat_with [] };
 }

@@ -1,8 +1,7 @@
 //! What one worker draws numbers with.
 ghost use Rattle.std.specs.Prelude.{◌≡◌, [], ◌∷◌};
 ghost use Rattle.replay_workers.specs.Draws.{is_spent};
-ghost use Rattle.replay_workers.specs.inside.Rule.{fresh_row, row_of};
-ghost use Rattle.replay_workers.specs.inside.Seats.{rows, drawn_of, draws_of_pass};
+ghost use Rattle.replay_workers.specs.inside.Rule.{own_list};
 
 use crate::view::SeatView;
 use atomic_table::Seat as Pass;
@@ -17,14 +16,13 @@ pub struct Seat {
 }
 
 impl Model for Seat {
-    ghost use Rattle.replay_workers.specs.Draws.{Draws, draws_coded};
-    ghost use Rattle.replay_workers.specs.inside.Seats.{draws_of_pass, IsSeat};
+    ghost use Rattle.replay_workers.specs.Draws.{Draws};
+    ghost use Rattle.replay_workers.specs.inside.Rule.{own_list};
+    ghost use Rattle.replay_workers.specs.inside.Seats.{IsSeat};
 
     ghost Value = { Draws };
 
-    ghost coded = { draws_coded };
-
-    ghost view = { λ s. draws_of_pass s.pass s.count };
+    ghost view = { λ s. record { table_id = s.pass.table_id; count = s.count; drawn = own_list s.pass.me.0 } };
 
     ghost invariant = { λ s. IsSeat s.pass s.count s.spent };
 }
@@ -33,8 +31,8 @@ impl Seat {
     /// A seat that has drawn nothing.
     pub(crate) fn of_pass(pass: Pass<(), SeatView>, count: u32) -> Seat
         requires whole { pass.me.1 ≡ [] }
-        requires fresh { (number : _) × (rows pass ≡ fresh_row number ∷ []) }
-        ensures { result ≡ draws_of_pass pass count }
+        requires fresh { pass.me.0.rows ≡ [] ∷ [] }
+        ensures { result ≡ record { table_id = pass.table_id; count = count; drawn = [] } }
     {
         Seat {
             pass,
@@ -54,8 +52,7 @@ impl Seat {
     pub(crate) fn into_pass(self) -> Pass<(), SeatView>
         ensures of { result.table_id ≡ self.table_id }
         ensures whole { result.me.1 ≡ [] }
-        ensures one { rows result ≡ row_of (rows result) ∷ [] }
-        ensures list { drawn_of result ≡ self.drawn }
+        ensures list { result.me.0.rows ≡ self.drawn ∷ [] }
     {
         let Self {
             pass,

@@ -8,17 +8,11 @@ pub struct Terms {
     pub workers: u32,
 }
 
-/// What one seat drew, in order, and which of the seats it is.
-pub struct SeatRow {
-    pub number: u32,
-    pub drawn: LinkedList<u64>,
-}
-
 /// What a seat knows.
 pub struct SeatView {
     /// It is the first seat: it knows how many seats were made.
     pub leads: bool,
     pub made: u32,
-    /// What it drew. When the claims are closed, it takes over what the other seats drew, each list as a row of its own.
-    pub rows: LinkedList<SeatRow>,
+    /// What it drew, in order. When the claims are closed, it takes over what the other seats drew, each list as a row of its own.
+    pub rows: LinkedList<LinkedList<u64>>,
 }

@@ -1,11 +1,12 @@
 -- Whose turn it is as items go round, and what each hand then has.
-use Rattle.std.proofs.Common.{◌≡◌, ◌≢◌, ℕ, zero, suc, ◌+◌, ◌-◌, ◌<◌, ◌≤◌, ◌⊎◌, inl, inr, Bool, true, false, ◌==◌, if◌then◌else◌, true≢false}
+use Rattle.std.proofs.Common.{◌≡◌, ◌≢◌, ℕ, zero, suc, ◌+◌, ◌-◌, ◌<◌, ◌≤◌, ◌⊎◌, inl, inr, Bool, true, false, ◌==◌, true≢false}
 use Rattle.std.proofs.Common.{List, [], ◌∷◌, ◌++◌, length, take, drop, set, get_or, reverse, replicate, slice_get, Some, Vec}
 use Rattle.std.proofs.Common.{refl, sym, ap, subst, ◌∙◌, arith, append_assoc, append-nil}
 use Rattle.std.proofs.Math.Seq.{take-append_seam}
 use Rattle.std.proofs.lemmas.Bool.Decides.{nat_tests}
-use Rattle.std.proofs.lemmas.List.{length-append, length-set, length-reverse, get_or-set_same, get_or-set_other, reverse-append, reverse-reverse}
-use Rattle.std.proofs.lemmas.Option.{none-some, same_Some, slice_get_within, slice_get-get_or, get_or_from_slice_get}
+use Rattle.std.proofs.lemmas.Grind.{common_steps}
+use Rattle.std.proofs.lemmas.List.{length-append, length-reverse, reverse-append, reverse-reverse}
+use Rattle.std.proofs.lemmas.Option.{gets, same_Some, slice_get_within, slice_get-get_or}
 use Rattle.std.specs.Global.{Global}
 use Rattle.round_robin.specs.Dealt.{every, given}
 
@@ -43,29 +44,17 @@ module _ (hands at next hand n : ℕ) (within : at < hands) (following : IsNext 
   turn_last same = grind (arith, same, within, following.within, following.round, turn.few, turn.round)
 
   turn_sooner : hand ≢ at → IsTurn hands at hand (suc n)
-  turn_sooner other = by following.round turn.round
-    where
-      by : (next ≡ at + 1) ⊎ (next + hands ≡ at + 1) → (hand ≡ next + n) ⊎ (hand + hands ≡ next + n) → IsTurn hands at hand (suc n)
-      by (inl one) (inl on) = record { within = turn.within; few = omega arith; round = inl (omega arith) }
-      by (inl one) (inr on) = record { within = turn.within; few = omega arith; round = inr (omega arith) }
-      by (inr one) (inl on) = record { within = turn.within; few = omega arith; round = inr (omega arith) }
-      by (inr one) (inr on) = absurd (omega arith)
+  turn_sooner other = record {
+    within = turn.within;
+    few = grind (arith, within, following.within, following.round, turn.few, turn.round, other);
+    round = grind (arith, within, following.within, following.round, turn.few, turn.round, other);
+  }
 
 -- ---- one hand of the list is written
 
 in_set : {X : Type 0} (xs : List X) (k j : ℕ) (y x : X) → k < length xs → slice_get (set xs k y) j ≡ Some x
     → ((j ≡ k) × (x ≡ y)) ⊎ ((j ≢ k) × (slice_get xs j ≡ Some x))
-in_set xs k j y x within at = by (j == k) refl
-  where
-    by : (b : Bool) → (j == k) ≡ b → ((j ≡ k) × (x ≡ y)) ⊎ ((j ≢ k) × (slice_get xs j ≡ Some x))
-    by true is =
-        let same : j ≡ k = grind (arith, nat_tests, is) in
-        inl (same, sym (get_or_from_slice_get (set xs k y) j x x at) ∙ ap (λ i. get_or (set xs k y) i x) same ∙ get_or-set_same xs k y x within)
-    by false is =
-        let other : j ≢ k = λ same. true≢false (sym (grind (arith, nat_tests, same)) ∙ is) in
-        let here : j < length xs = subst (λ n. j < n) (length-set xs k y) (slice_get_within (set xs k y) j x at) in
-        let old : get_or xs j x ≡ x = sym (get_or-set_other xs k j y x other) ∙ get_or_from_slice_get (set xs k y) j x x at in
-        inr (other, slice_get-get_or xs j x here ∙ ap Some old)
+in_set xs k j y x within at = grind (arith, common_steps, gets)
 
 -- each comes from the one in that place before
 abbrev pub EachFrom : {X : Type 0} → (ℕ → X → X → Type 0) → List X → List X → Type 0
@@ -82,10 +71,7 @@ each_set {X = X} P xs k b y within here new others j x at = by (in_set xs k j y 
 -- what holds of each, and of one behind
 pub each_push : {X : Type 0} (P : X → Type 0) (xs : List X) (y : X) → ((k : ℕ) (x : X) → slice_get xs k ≡ Some x → P x) → P y
     → (k : ℕ) (x : X) → slice_get (xs ++ y ∷ []) k ≡ Some x → P x
-each_push P [] y each last zero x at = subst P (same_Some y x at) last
-each_push P [] y each last (suc k) x at = absurd (none-some x at)
-each_push P (z ∷ zs) y each last zero x at = each zero x at
-each_push P (z ∷ zs) y each last (suc k) x at = each_push P zs y (λ j. each (suc j)) last k x at
+each_push P xs y each last k x at = grind (arith, common_steps, gets, each k x)
 
 -- what was lent as a slice of all items is what they are
 pub written : {X : Type 0} (xs new : List X) (n : ℕ) → n ≡ length new → take n (new ++ drop (length new) xs) ≡ new
@@ -100,24 +86,15 @@ share hands n left = length (every {A = ℕ} hands n (replicate left 0))
 
 module _ {A : Type 0} where
   no_items : (xs : List A) → length xs ≡ 0 → xs ≡ []
-  no_items [] none = refl
-  no_items (x ∷ xs) none = absurd (omega (arith, none))
+  no_items xs none = grind (arith, common_steps)
 
   -- ---- where an item goes
 
   given_same : (at hand : ℕ) (item : A) → hand ≡ at → given at hand item ≡ item ∷ []
-  given_same at hand item same = by (hand == at) (grind (arith, nat_tests, same))
-    where
-      by : (b : Bool) → b ≡ true → (if b then item ∷ [] else []) ≡ item ∷ []
-      by true is = refl
-      by false is = absurd (true≢false (sym is))
+  given_same at hand item same = grind (arith, nat_tests, same)
 
   given_other : (at hand : ℕ) (item : A) → hand ≢ at → given at hand item ≡ []
-  given_other at hand item other = by (hand == at) (grind (arith, nat_tests, other))
-    where
-      by : (b : Bool) → b ≡ false → (if b then item ∷ [] else []) ≡ []
-      by true is = absurd (true≢false is)
-      by false is = refl
+  given_other at hand item other = grind (arith, nat_tests, other)
 
   -- it is that hand's, whose turn then comes last, or another's
   abbrev Went : (hands at hand n : ℕ) → A → Type 0
@@ -163,13 +140,6 @@ module _ {A : Type 0} where
   pub record IsDealing (hands at : ℕ) (dealt : List (Hand A)) (rest all : List A) : Type 0 where
     pub each : (hand n : ℕ) (held : Hand A) → slice_get dealt hand ≡ Some held → IsTurn hands at hand n
         → held.items ++ every hands n rest ≡ every hands hand all
-
-  pub dealt_none : (hands : ℕ) (dealt : List (Hand A)) (all : List A)
-      → ((hand : ℕ) (held : Hand A) → slice_get dealt hand ≡ Some held → held.items ≡ []) → IsDealing hands 0 dealt all all
-  dealt_none hands dealt all none = record {
-    each = λ hand n held there turn.
-        ap (λ items. items ++ every hands n all) (none hand held there) ∙ ap (λ k. every hands k all) (turn_first hands hand n turn);
-  }
 
   pub dealt_more : (hands at next : ℕ) (before after : List (Hand A)) (item : A) (rest all : List A) → at < hands → IsNext hands at next
       → HasGiven at item before after → IsDealing hands at before (item ∷ rest) all → IsDealing hands next after rest all

@@ -71,26 +71,6 @@ const FAMILY_STEPS: &[Step] = &[
     (4, Choice::Keep, Err(DeskFault::NotFront(Some(3)))),
 ];
 
-const FAMILY_STANDS: &[(u64, Standing)] = &[
-    (1, Standing::Kept),
-    (2, Standing::Cancelled),
-    (3, Standing::Waiting),
-    (4, Standing::Cancelled),
-    (5, Standing::Cancelled),
-];
-
-#[test]
-fn decides_on_the_front_alone(rt: HostRuntime) -> Result<(), Fail> {
-    let mut desk = desk(rt.alloc(), &[ended("c1", FAMILY)])?;
-    assert_front(&rt, &desk, "c1", Some(1))?;
-    decides(&rt, &mut desk, "c1", FAMILY_STEPS)?;
-    assert_front(&rt, &desk, "c1", Some(3))?;
-    assert_standings(&rt, &desk, "c1", FAMILY_STANDS)?;
-    assert_requests(&rt, &desk, 1, 1)?;
-    assert_requests(&rt, &desk, 2, 0)?;
-    assert_requests(&rt, &desk, 5, 0)
-}
-
 fn assert_cases(rt: &impl Abort, cases: &[Case], rows: &[Row<'_>]) {
     assert_eq!(rt; cases.len(), rows.len());
     for (case, &(visit, parent, _)) in cases.iter().zip(rows) {

@@ -11,16 +11,12 @@ AtAddresses can_make = (address : List ℕ) → IsUtf8 address → can_make addr
 
 -- each page that it may answer, or none, is the law's
 abbrev pub MakesBy : (List ℕ → Option Tree) → (List ℕ → Result (Option Tree) AllocError → Type 0) → Type 0
-MakesBy page_of may_make =
-    (address : List ℕ) (page : Option Tree) → IsUtf8 address → may_make address (Ok page) → page ≡ page_of address
+MakesBy page_of may_make = AtAddresses (λ address. (page : _) → may_make address (Ok page) → page ≡ page_of address)
 
 -- it may be called at every address and every two pages
 abbrev pub AtPages : (List ℕ → Tree → Tree → Type 0) → Type 0
-AtPages can_tell =
-    (address : List ℕ) (old new : Tree) → IsUtf8 address → IsPage old → IsPage new → can_tell address old new
+AtPages can_tell = (at : List ℕ) (old new : Tree) → IsUtf8 at → IsPage old → IsPage new → can_tell at old new
 
 -- each truth value that it may answer is the law's
 abbrev pub TellsBy : (List ℕ → Tree → Tree → Bool) → (List ℕ → Tree → Tree → Result Bool AllocError → Type 0) → Type 0
-TellsBy signals may_tell =
-    (address : List ℕ) (old new : Tree) (told : Bool) → IsUtf8 address → IsPage old → IsPage new
-    → may_tell address old new (Ok told) → told ≡ signals address old new
+TellsBy signals may_tell = AtPages (λ at old new. (yes : _) → may_tell at old new (Ok yes) → yes ≡ signals at old new)

@@ -1,5 +1,5 @@
 -- What clauses see of a Fork, and which of its two sites an address goes to.
-use Rattle.std.specs.Prelude.{ℕ, List, Bool, if◌then◌else◌, nat_eq}
+use Rattle.std.specs.Prelude.{ℕ, List, if◌then◌else◌, nat_eq}
 use Rattle.std.specs.List.{starts_with}
 use Rattle.site_hooks.specs.declared.fork.Fork.{Fork}
 
@@ -15,10 +15,6 @@ fork_inside fork = fork.inside
 abbrev pub fork_outside : {A B : Type 0} → Fork A B → B
 fork_outside fork = fork.outside
 
--- whether an address begins with a prefix
-abbrev pub begins_with : List ℕ → List ℕ → Bool
-begins_with prefix address = starts_with nat_eq address prefix
-
 -- one answer where the address begins with the prefix, the other where it doesn't
 abbrev pub fork_answer : {X : Type 0} → List ℕ → List ℕ → X → X → X
-fork_answer prefix address inside outside = if begins_with prefix address then inside else outside
+fork_answer prefix address inside outside = if starts_with nat_eq address prefix then inside else outside

@@ -1,6 +1,7 @@
 //! Two sites, parted by a prefix of the address.
-ghost use Rattle.std.specs.Prelude.{◌≡◌};
-ghost use Rattle.site_hooks.specs.Fork.{fork_prefix, fork_inside, fork_outside, begins_with, fork_answer};
+ghost use Rattle.std.specs.Prelude.{◌≡◌, nat_eq};
+ghost use Rattle.std.specs.List.{starts_with};
+ghost use Rattle.site_hooks.specs.Fork.{fork_prefix, fork_inside, fork_outside, fork_answer};
 
 use crate::hooks::SiteHooks;
 use crate::law::SiteLaw;
@@ -29,7 +30,7 @@ impl<A, B> Fork<A, B> {
     }
 
     fn is_inside(&self, address: &str) -> bool
-        ensures { result ≡ begins_with (fork_prefix self.now) address.now }
+        ensures { result ≡ starts_with nat_eq address.now (fork_prefix self.now) }
     {
         address.starts_with(self.prefix.as_str())
     }

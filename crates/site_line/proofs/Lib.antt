@@ -1,4 +1,2 @@
-pub mod Options
-pub mod SiteSteps
+pub mod PagesAdded
 pub mod SiteLaws
-pub mod DecisionLaws

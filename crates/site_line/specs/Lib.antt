@@ -1,5 +1,6 @@
-pub mod Site
+pub mod Members
 pub mod Decision
+pub mod Site
 pub mod Reading
 pub mod Fault
 pub mod inside

@@ -1,12 +1,13 @@
 //! A decision, as an entry of a site line says it.
-ghost use Rattle.std.specs.Prelude.{◌≡◌, option_and_then};
+ghost use Rattle.std.specs.Prelude.{option_and_then};
 ghost use Rattle.serde_json.specs.View.{view};
 ghost use Rattle.serde_json.specs.Find.{as_str};
 ghost use Rattle.upload_reader.specs.Member.{number_in};
-ghost use Rattle.site_line.specs.inside.SiteMembers.{GivesSite};
-ghost use Rattle.site_line.specs.inside.Entries.{client_named, choice_said, decision_in};
+ghost use Rattle.site_line.specs.Decision.{client_named, choice_said, decision_in};
+ghost use Rattle.site_line.specs.inside.{GivesSite};
 
 use crate::fault::SiteFault;
+use crate::reading::{read_items, read_text, read_whole_number};
 use conflict_desk::{Choice, Decision};
 use serde_json::Value;
 use std::alloc::Global;
@@ -17,9 +18,7 @@ use upload_reader::{Client, HelloFault, MAX_NUMBER};
 pub(crate) fn read_decision(alloc: Global, value: &Value) -> Result<Decision, SiteFault>
     ensures { GivesSite (λ decision. decision) result (decision_in (view value.now)) }
 {
-    let Some(items) = value.as_array() else {
-        return Err(SiteFault::BadMember);
-    };
+    let items = read_items(value)?;
     if items.len() != 3 {
         return Err(SiteFault::BadMember);
     }
@@ -31,12 +30,9 @@ pub(crate) fn read_decision(alloc: Global, value: &Value) -> Result<Decision, Si
 }
 
 fn read_client(alloc: Global, value: &Value) -> Result<Client, SiteFault>
-    ensures { GivesSite (λ client. client) result (option_and_then client_named (as_str (view value.now))) }
+    ensures { GivesSite (λ client. client) result (client_named (view value.now)) }
 {
-    let Some(text) = value.as_str() else {
-        return Err(SiteFault::BadMember);
-    };
-    match Client::read(alloc, text) {
+    match Client::read(alloc, read_text(value)?) {
         Ok(client) => Ok(client),
         Err(HelloFault::NoMemory) => Err(SiteFault::NoMemory),
         Err(_) => Err(SiteFault::BadMember),
@@ -47,18 +43,19 @@ fn read_client(alloc: Global, value: &Value) -> Result<Client, SiteFault>
 fn read_visit(value: &Value) -> Result<u64, SiteFault>
     ensures { GivesSite (λ visit. visit) result (number_in 1 (view value.now)) }
 {
-    match value.as_u64() {
-        Some(visit) if 1 <= visit && visit <= MAX_NUMBER => Ok(visit),
-        _ => Err(SiteFault::BadMember),
+    let visit = read_whole_number(value)?;
+    if visit < 1 || visit > MAX_NUMBER {
+        return Err(SiteFault::BadMember);
     }
+    Ok(visit)
 }
 
 fn read_choice(value: &Value) -> Result<Choice, SiteFault>
     ensures { GivesSite (λ choice. choice) result (option_and_then choice_said (as_str (view value.now))) }
 {
-    match value.as_str() {
-        Some("cancel") => Ok(Choice::Cancel),
-        Some("keep") => Ok(Choice::Keep),
+    match read_text(value)? {
+        "cancel" => Ok(Choice::Cancel),
+        "keep" => Ok(Choice::Keep),
         _ => Err(SiteFault::BadMember),
     }
 }

@@ -1,14 +1,17 @@
 //! The members of a site line.
-ghost use Rattle.std.specs.Prelude.{◌≡◌, IfOk, IfErr, map, option_map, option_and_then};
-ghost use Rattle.serde_json.specs.View.{view};
-ghost use Rattle.serde_json.specs.Find.{as_str};
-ghost use Rattle.xpath_child.specs.Fault.{path_in};
+ghost use Rattle.std.specs.Prelude.{◌≡◌, [], List, ℕ, Some, IfOk, IfErr, IsErrOf, option_map, codes};
+ghost use Rattle.serde_json.specs.Data.{Data};
+ghost use Rattle.serde_json.specs.View.{view, items_view, members_view};
+ghost use Rattle.serde_json.specs.Find.{as_str, as_array, as_object};
 ghost use Rattle.page_tree.specs.Fault.{page_in};
-ghost use Rattle.site_line.specs.Site as plain;
-ghost use Rattle.site_line.specs.Site.{IsJsonOf, patched_in, pages_in, watch_in, quota_in, workers_in, decide_in};
+ghost use Rattle.client_log.specs.Quota.{IsQuota};
+ghost use Rattle.site_hooks.specs.Table.{table_page, watched_in};
 ghost use Rattle.replay_workers.specs.Limits.{AreWorkers};
-ghost use Rattle.site_line.specs.inside.Entries.{decisions_among};
-ghost use Rattle.site_line.specs.inside.SiteMembers.{entries_in, paths_in, ok_of, quota_of, workers_of, IsLineFault, GivesSite, GivesPages, GivesWatched};
+ghost use Rattle.site_line.specs.Members.{whole_number, number_or, array_or_none, list_by};
+ghost use Rattle.site_line.specs.Decision.{decision_in};
+ghost use Rattle.site_line.specs.Site.{IsJsonOf, path_by_text, pages_in, page_among, quota_in, workers_in};
+ghost use Rattle.site_line.specs.inside.{FailsWhere, GivesSite};
+ghost use Rattle.site_line.specs.declared.fault.SiteFault.TheVariants.{NotJson, BadMember};
 
 use crate::decision::read_decision;
 use crate::fault::SiteFault;
@@ -16,7 +19,7 @@ use client_log::Quota;
 use conflict_desk::Decision;
 use page_tree::{Page, Text};
 use replay_workers::MAX_WORKERS;
-use serde_json::{Category, Value};
+use serde_json::{Category, Map, Value};
 use site_hooks::Table;
 use std::alloc::Global;
 use xpath_child::{Path, PathFaultKind};
@@ -30,7 +33,8 @@ const DEFAULT_WORKERS: u64 = 1;
 /// The JSON value of a line; Z1 where it has none.
 pub(crate) fn read_line(alloc: Global, line: &[u8]) -> Result<Value, SiteFault>
     ensures ok { IfOk result (λ value. IsJsonOf line.now (view value)) }
-    ensures fault { IfErr result (IsLineFault line.now) }
+    ensures not_json { IsErrOf result NotJson → (d : Data) → ¬ IsJsonOf line.now d }
+    ensures json { ¬ IsErrOf result BadMember }
 {
     match Value::from_slice(alloc, line) {
         Ok(value) => Ok(value),
@@ -41,50 +45,79 @@ pub(crate) fn read_line(alloc: Global, line: &[u8]) -> Result<Value, SiteFault>
     }
 }
 
-pub(crate) fn read_patched(alloc: Global, value: &Value) -> Result<Vec<Text>, SiteFault>
-    ensures { GivesSite (λ texts. texts.items) result (patched_in (view value.now)) }
+// ---- values
+
+pub(crate) fn read_text(value: &Value) -> Result<&str, SiteFault>
+    ensures { GivesSite (λ text. text.now) result (as_str (view value.now)) }
 {
-    read_texts(alloc, value.get("patched"))
+    value.as_str().ok_or(SiteFault::BadMember)
 }
 
-// The texts of an array; none where it is absent.
-fn read_texts(alloc: Global, given: Option<&Value>) -> Result<Vec<Text>, SiteFault>
-    ensures { GivesSite (λ texts. texts.items) result (plain.texts_or_none (option_map (λ v. view v.now) given.entry)) }
+pub(crate) fn read_items(value: &Value) -> Result<&[Value], SiteFault>
+    ensures { GivesSite (λ items. items_view items.now) result (as_array (view value.now)) }
 {
-    let mut texts = Vec::new(alloc);
-    let Some(given) = given else {
-        return Ok(texts);
-    };
-    let Some(items) = given.as_array() else {
+    let Some(items) = value.as_array() else {
         return Err(SiteFault::BadMember);
     };
-    for item in items {
-        texts.push(read_text(alloc, item)?)?;
+    Ok(items.as_slice())
+}
+
+// The items of the member of that name; none where it is absent.
+fn items_at<'a>(value: &'a Value, name: &str) -> Result<&'a [Value], SiteFault>
+    ensures { GivesSite (λ items. items_view items.now) result (array_or_none name.now (view value.now)) }
+{
+    let Some(given) = value.get(name) else {
+        return Ok(&[]);
+    };
+    read_items(given)
+}
+
+pub(crate) fn read_whole_number(value: &Value) -> Result<u64, SiteFault>
+    ensures { GivesSite (λ number. number) result (whole_number (view value.now)) }
+{
+    value.as_u64().ok_or(SiteFault::BadMember)
+}
+
+pub(crate) fn read_members(value: &Value) -> Result<&Map<String, Value>, SiteFault>
+    ensures { GivesSite (λ members. members_view members.now.entries) result (as_object (view value.now)) }
+{
+    value.as_object().ok_or(SiteFault::BadMember)
+}
+
+// A whole number, or the other where it is absent.
+fn read_number(absent: u64, name: &str, value: &Value) -> Result<u64, SiteFault>
+    ensures { GivesSite (λ number. number) result (number_or absent name.now (view value.now)) }
+{
+    let Some(given) = value.get(name) else {
+        return Ok(absent);
+    };
+    read_whole_number(given)
+}
+
+// ---- members
+
+pub(crate) fn read_patched(alloc: Global, value: &Value) -> Result<Vec<Text>, SiteFault>
+    ensures { GivesSite (λ texts. texts.items) result (list_by as_str (codes "patched") (view value.now)) }
+{
+    let mut texts = Vec::new(alloc);
+    for item in items_at(value, "patched")? {
+        texts.push(Text::from_str(alloc, read_text(item)?)?)?;
     }
     Ok(texts)
 }
 
-fn read_text(alloc: Global, value: &Value) -> Result<Text, SiteFault>
-    ensures { GivesSite (λ text. text) result (as_str (view value.now)) }
-{
-    match value.as_str() {
-        Some(text) => Ok(Text::from_str(alloc, text)?),
-        None => Err(SiteFault::BadMember),
-    }
-}
-
-/// A table of the site's pages.
+/// A table of the site's pages, which watches nothing.
 pub(crate) fn read_pages(alloc: Global, value: &Value) -> Result<Table, SiteFault>
-    ensures { GivesPages result (option_and_then entries_in (pages_in (view value.now))) }
+    ensures pages { IfOk result (λ table. (address : List ℕ)
+        → option_map (λ pages. page_among pages address) (pages_in (view value.now)) ≡ Some (table_page table address)) }
+    ensures watched { IfOk result (λ table. watched_in table ≡ []) }
+    ensures fails { IfErr result (FailsWhere (pages_in (view value.now) ≡ None)) }
 {
     let mut table = Table::new(alloc);
     let Some(given) = value.get("pages") else {
         return Ok(table);
     };
-    let Some(members) = given.as_object() else {
-        return Err(SiteFault::BadMember);
-    };
-    for (address, page) in members.iter() {
+    for (address, page) in read_members(given)?.iter() {
         let page = read_page(alloc, page)?;
         table.add_page(Text::from_str(alloc, address.as_str())?, page)?;
     }
@@ -97,21 +130,22 @@ fn read_page(alloc: Global, value: &Value) -> Result<Page, SiteFault>
     Ok(Page::from_value(alloc, value)?)
 }
 
-/// Adds the paths that are watched.
+/// Adds the paths that are watched, of a table that watches nothing.
 pub(crate) fn read_watched(alloc: Global, value: &Value, table: &mut Table) -> Result<(), SiteFault>
-    ensures { GivesWatched table.old table.new result (option_and_then paths_in (watch_in (view value.now))) }
+    requires { watched_in table.old ≡ [] }
+    ensures watched { GivesSite (λ _. watched_in table.new) result (list_by path_by_text (codes "watch") (view value.now)) }
+    ensures pages { (address : List ℕ) → table_page table.new address ≡ table_page table.old address }
 {
-    let texts = read_texts(alloc, value.get("watch"))?;
-    for text in &texts {
-        table.watch(read_path(alloc, text.as_str())?)?;
+    for item in items_at(value, "watch")? {
+        table.watch(read_path(alloc, item)?)?;
     }
     Ok(())
 }
 
-fn read_path(alloc: Global, text: &str) -> Result<Path, SiteFault>
-    ensures { GivesSite (λ path. path) result (ok_of (path_in text.now)) }
+fn read_path(alloc: Global, value: &Value) -> Result<Path, SiteFault>
+    ensures { GivesSite (λ path. path) result (path_by_text (view value.now)) }
 {
-    match Path::read(alloc, text) {
+    match Path::read(alloc, read_text(value)?) {
         Ok(path) => Ok(path),
         Err(fault) => match fault.kind {
             PathFaultKind::NoMemory => Err(SiteFault::NoMemory),
@@ -121,29 +155,20 @@ fn read_path(alloc: Global, text: &str) -> Result<Path, SiteFault>
 }
 
 pub(crate) fn read_quota(value: &Value) -> Result<Quota, SiteFault>
-    ensures { GivesSite (λ quota. quota) result (option_and_then quota_of (quota_in (view value.now))) }
+    ensures ok { IfOk result (λ quota. (quota_in (view value.now) ≡ Some quota) × IsQuota quota) }
+    ensures fails { IfErr result (FailsWhere ((bytes : ℕ) → quota_in (view value.now) ≡ Some bytes → ¬ IsQuota bytes)) }
 {
-    match Quota::new(read_number(value.get("quota"), DEFAULT_QUOTA)?) {
+    match Quota::new(read_number(DEFAULT_QUOTA, "quota", value)?) {
         Ok(quota) => Ok(quota),
         Err(_) => Err(SiteFault::BadMember),
     }
 }
 
-// A whole number, or the other where it is absent.
-fn read_number(given: Option<&Value>, absent: u64) -> Result<u64, SiteFault>
-    ensures { GivesSite (λ number. number) result (plain.number_or (option_map (λ v. view v.now) given.entry) absent) }
-{
-    let Some(given) = given else {
-        return Ok(absent);
-    };
-    given.as_u64().ok_or(SiteFault::BadMember)
-}
-
 pub(crate) fn read_workers(value: &Value) -> Result<u32, SiteFault>
-    ensures workers { GivesSite (λ workers. workers) result (option_and_then workers_of (workers_in (view value.now))) }
-    ensures few { IfOk result AreWorkers }
+    ensures ok { IfOk result (λ workers. (workers_in (view value.now) ≡ Some workers) × AreWorkers workers) }
+    ensures fails { IfErr result (FailsWhere ((n : ℕ) → workers_in (view value.now) ≡ Some n → ¬ AreWorkers n)) }
 {
-    let workers = read_number(value.get("workers"), DEFAULT_WORKERS)?;
+    let workers = read_number(DEFAULT_WORKERS, "workers", value)?;
     if workers == 0 || workers > u64::from(MAX_WORKERS) {
         return Err(SiteFault::BadMember);
     }
@@ -152,16 +177,10 @@ pub(crate) fn read_workers(value: &Value) -> Result<u32, SiteFault>
 
 /// The decisions, each at its entry's place.
 pub(crate) fn read_decisions(alloc: Global, value: &Value) -> Result<Vec<Decision>, SiteFault>
-    ensures { GivesSite (λ all. all.items) result (option_and_then decisions_among (decide_in (view value.now))) }
+    ensures { GivesSite (λ all. all.items) result (list_by decision_in (codes "decide") (view value.now)) }
 {
     let mut decisions = Vec::new(alloc);
-    let Some(given) = value.get("decide") else {
-        return Ok(decisions);
-    };
-    let Some(entries) = given.as_array() else {
-        return Err(SiteFault::BadMember);
-    };
-    for entry in entries {
+    for entry in items_at(value, "decide")? {
         decisions.push(read_decision(alloc, entry)?)?;
     }
     Ok(decisions)

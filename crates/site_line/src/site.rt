@@ -1,14 +1,15 @@
 //! The repaired site.
-ghost use Rattle.std.specs.Prelude.{◌≡◌, IfOk, IsErrOf};
+ghost use Rattle.std.specs.Prelude.{◌≡◌, IfOk, IfErr, IsErrOf};
 ghost use Rattle.serde_json.specs.Data.{Data};
 ghost use Rattle.serde_json.specs.View.{view};
 ghost use Rattle.replay_workers.specs.Limits.{AreWorkers};
-ghost use Rattle.site_line.specs.Site.{Site as PlainSite, IsSiteLine, IsNoSite, IsJsonOf};
+ghost use Rattle.site_line.specs.Site.{Site as PlainSite, IsSiteOf, IsSiteLine, IsNoSite, IsJsonOf};
 ghost use Rattle.site_line.specs.declared.fault.SiteFault.TheVariants.{NotJson, BadMember};
 
 use crate::fault::SiteFault;
 use crate::reading::{
-    read_decisions, read_line, read_pages, read_patched, read_quota, read_watched, read_workers,
+    read_decisions, read_line, read_members, read_pages, read_patched, read_quota, read_watched,
+    read_workers,
 };
 use client_log::Quota;
 use conflict_desk::Decision;
@@ -31,7 +32,7 @@ pub struct Site {
 
 impl Site {
     ghost use Rattle.site_line.specs.Reading.{site_patch, site_table, site_quota, site_workers, site_decisions, AnswersAs};
-    ghost use Rattle.site_line.specs.inside.SiteMembers.{StandsBy};
+    ghost use Rattle.site_line.specs.inside.{FailsWhere};
 
     /// The site that a line says: a JSON object with `patched` (an array of address texts), `pages` (an object, from address to page), `watch` (an
     /// array of path texts), `quota` (1 to 4,294,967,295 bytes, else 1,048,576), `workers` (1 to 32, else 1) and `decide` (an array of decisions, each an
@@ -48,11 +49,10 @@ impl Site {
 
     // Z2 where the value is no object, or a member is wrong.
     fn from_value(alloc: Global, value: &Value) -> Result<Site, SiteFault>
-        ensures { StandsBy result (view value.now) }
+        ensures ok { IfOk result (λ site. (plain : PlainSite) × IsSiteOf (view value.now) plain × AnswersAs site plain) }
+        ensures fails { IfErr result (FailsWhere (IsNoSite (view value.now))) }
     {
-        if value.as_object().is_none() {
-            return Err(SiteFault::BadMember);
-        }
+        read_members(value)?;
         let patch = Patch::new(read_patched(alloc, value)?);
         let mut table = read_pages(alloc, value)?;
         read_watched(alloc, value, &mut table)?;

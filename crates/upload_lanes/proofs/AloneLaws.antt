@@ -1,5 +1,5 @@
 -- A lane alone, from item to item.
-use Rattle.std.proofs.Common.{◌≡◌, ℕ, zero, suc, ◌+◌, ◌≤◌, ◌<◌, ◌^◌, List, [], ◌∷◌, length, map, Bool, true, false, ◌&&◌, if◌then◌else◌, is_some, slice_get, slice_index_or, Option, Some, None, refl, sym, ap, subst, ◌∙◌, arith}
+use Rattle.std.proofs.Common.{◌≡◌, ℕ, zero, suc, ◌+◌, ◌≤◌, ◌<◌, ◌^◌, List, [], ◌∷◌, length, Bool, true, false, ◌&&◌, if◌then◌else◌, is_some, slice_get, slice_index_or, Option, Some, None, refl, sym, ap, subst, ◌∙◌, arith}
 use Rattle.std.proofs.lemmas.List.Sums.{sum_by-cons}
 use Rattle.upload_reader.specs.Upload.{UploadState, IsUntouched}
 use Rattle.upload_reader.specs.declared.ending.Ending.{Ending}
@@ -7,10 +7,9 @@ use Rattle.upload_lanes.proofs.RecorderLaws.{one_lesser}
 use Rattle.upload_lanes.proofs.RoundLaws.{lane_begun}
 use Rattle.upload_lanes.specs.Lane.{IsTaken}
 use Rattle.round_robin.specs.Dealt.{every}
-use Rattle.upload_lanes.specs.Round.{IsTakenInTurn, resumed}
-use Rattle.upload_lanes.specs.Threads.{items_in, items_of, items_taken, refused_by, stop_of, AreTaken, Stops}
-use Rattle.upload_lanes.specs.inside.AllGroups.{IsFreshLane}
-use Rattle.upload_lanes.specs.inside.Lanes.{HasFewTaken, begun_lane}
+use Rattle.upload_lanes.specs.Round.{IsTakenInTurn}
+use Rattle.upload_lanes.specs.Threads.{items_in, items_of, items_taken, refused_by, stop_of, Stops}
+use Rattle.upload_lanes.specs.inside.Lanes.{HasFewTaken, IsFreshLane, TakesLane, TakeLanes}
 use Rattle.upload_lanes.specs.declared.gathered.LaneResult.{LaneResult}
 use Rattle.upload_lanes.specs.declared.gathered.Stop.{Stop}
 use Rattle.upload_lanes.specs.declared.gathered.Stop.TheVariants as stops
@@ -28,12 +27,6 @@ pub one_of : {A : Type 0} (xs : List A) (x : A) → length xs ≡ 1 → x ≡ sl
 one_of [] x one at = absurd (omega (arith, one))
 one_of (y ∷ []) x one at = ap (λ z. z ∷ []) (sym at)
 one_of (y ∷ z ∷ xs) x one at = absurd (omega (arith, one))
-
-first_same : {A : Type 0} (x y : A) (xs : List A) → x ∷ [] ≡ y ∷ xs → x ≡ y
-first_same x y xs is = cc
-
-others_none : {A : Type 0} (x y z : A) (xs : List A) (P : Type 0) → x ∷ [] ≡ y ∷ z ∷ xs → P
-others_none x y z xs P is = let size = ap length is in absurd (omega (arith, size))
 
 module _ {R : Type 0} where
   -- what a lane is after so many items, none of which was refused
@@ -81,8 +74,11 @@ module _ {R : Type 0} where
         let same = some_only way.in_turn.is_taken.now now (sym way.in_turn.is_taken.upload_is ∙ is) in
         subst (λ upload. lane.1.taken ≤ length upload.given) same way.in_turn.is_taken.some
 
-    pub taken_so : (new : LaneResult R) → IsTaken first.1.log way.begun new → (begun : UploadState R) → first.1.upload ≡ Some begun → IsTaken first.1.log begun new
-    taken_so new taken begun is = subst (λ upload. IsTaken first.1.log upload new) (some_only way.begun begun (sym way.begun_is ∙ is)) taken
+    pub takes_so : (new : LaneResult R) → IsTaken first.1.log way.begun new → TakesLane first (lane.0, new)
+    takes_so new taken = record {
+      client = way.client;
+      is_taken = λ begun is. subst (λ upload. IsTaken first.1.log upload new) (some_only way.begun begun (sym way.begun_is ∙ is)) taken;
+    }
 
     size : (stop : Stop) → items_taken (lane ∷ []) stop ≡ items + refused_by stop
     size stop = let all = sum_by-cons items_of lane [] in omega (arith, all, way.count)
@@ -129,28 +125,11 @@ module _ {R : Type 0} where
 
   -- ---- the only lane of a round
 
-  pub taken_alone : (allows : ℕ → Bool → Type 0) (known : List ℕ → Option (LaneResult R)) (quota : ℕ) (uploads : List (UploadState R)) (first new : List ℕ × LaneResult R) (stop : Stop)
-      → first ∷ [] ≡ map (begun_lane known quota) uploads → new.0 ≡ first.0 → ((begun : UploadState R) → first.1.upload ≡ Some begun → IsTaken first.1.log begun new.1) → Stops allows (new ∷ []) stop
-      → AreTaken allows known quota uploads (new ∷ []) stop
-  taken_alone allows known quota [] first new stop is client taken so = let size = ap length is in absurd (omega (arith, size))
-  taken_alone allows known quota (upload ∷ []) first new stop is client taken so =
-      let same = first_same first (begun_lane known quota upload) [] is in
-      record {
-        lanes_are = (
-          record {
-            client = client ∙ ap (λ lane. lane.0) same;
-            is_taken = subst (λ log. IsTaken log (resumed upload (known upload.client)) new.1) (ap (λ lane. lane.1.log) same) (taken (resumed upload (known upload.client)) (ap (λ lane. lane.1.upload) same));
-          },
-          tt,
-        );
-        stops = stop ∷ [];
-        count = refl;
-        each = λ recorder one at. only_recorder recorder one at;
-        stop_is = only_stop stop;
-      }
+  pub takes_alone : (allows : ℕ → Bool → Type 0) (first new : List ℕ × LaneResult R) (stop : Stop) → TakesLane first new → Stops allows (new ∷ []) stop
+      → TakeLanes allows (first ∷ []) (new ∷ []) stop
+  takes_alone allows first new stop takes so =
+      record { lanes_are = (takes, tt); stops = stop ∷ []; count = refl; each = only_recorder; stop_is = only_stop stop }
     where
       only_recorder : (recorder : ℕ) (one : Stop) → slice_get (stop ∷ []) recorder ≡ Some one → Stops allows (every 1 recorder (new ∷ [])) one
       only_recorder zero one at = subst (Stops allows (new ∷ [])) (some_only stop one at) so
       only_recorder (suc n) one at = cc
-  taken_alone allows known quota (upload ∷ more ∷ uploads) first new stop is client taken so =
-      others_none first (begun_lane known quota upload) (begun_lane known quota more) (map (begun_lane known quota) uploads) _ is

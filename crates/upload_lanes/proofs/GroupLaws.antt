@@ -10,8 +10,8 @@ use Rattle.upload_reader.specs.Stream.{Costed}
 use Rattle.upload_reader.specs.Upload.{UploadState, EndsBy}
 use Rattle.upload_reader.specs.declared.ending.Ending.{Ending}
 use Rattle.upload_lanes.specs.Lane.{Continues, EndsWith, IsTaken}
-use Rattle.upload_lanes.specs.inside.Sent.{sent, bodies, sent_messages, ending_behind, is_last, IsMarked, IsReadOn, IsPut}
-use Rattle.upload_lanes.specs.inside.Groups.{TellsUpload}
+use Rattle.upload_lanes.specs.inside.Sent.{sent, bodies, sent_messages, ending_behind, is_last, IsMarked, IsPut}
+use Rattle.upload_lanes.specs.inside.Party.{TellsUpload}
 use Rattle.upload_lanes.specs.inside.Recording.{IsLaneRecorded}
 use Rattle.upload_lanes.specs.declared.gathered.LaneResult.{LaneResult}
 use Rattle.upload_lanes.specs.declared.sent.Sent.{Sent}
@@ -84,42 +84,34 @@ sent_more (Last end ∷ items) body one = sent_more items body one
 -- ---- a lane
 
 module _ {R : Type 0} where
-  pub tells : (begun upload : UploadState R) (put items rest : List (Item Sent)) → IsReadOn begun upload → IsPut put upload → put ≡ items ++ rest → TellsUpload begun upload items
-  tells begun upload put items rest read is_put split = record {
-    read = read;
-    more = bodies rest ++ is_put.rest;
-    front_is = is_put.front ∙ ap (λ all. bodies all ++ is_put.rest) split ∙ ap (λ all. all ++ is_put.rest) (map-append (λ item. item.body) items rest) ∙ append_assoc (bodies items) (bodies rest) is_put.rest;
+  -- the first of what was put is put too
+  pub put_first : (upload : UploadState R) (put items rest : List (Item Sent)) → put ≡ items ++ rest → IsPut put upload → IsPut items upload
+  put_first upload put items rest split is_put = record {
+    rest = bodies rest ++ is_put.rest;
+    front = is_put.front ∙ ap (λ all. bodies all ++ is_put.rest) split ∙ ap (λ all. all ++ is_put.rest) (map-append (λ item. item.body) items rest)
+        ∙ append_assoc (bodies items) (bodies rest) is_put.rest;
     marked = marked_front items rest (subst (AllByRecursion IsMarked) split is_put.marked);
-  }
-
-  -- the same of the first of those items
-  pub tells_first : (begun upload : UploadState R) (items first rest : List (Item Sent)) → items ≡ first ++ rest → TellsUpload begun upload items → TellsUpload begun upload first
-  tells_first begun upload items first rest split told = record {
-    read = told.read;
-    more = bodies rest ++ told.more;
-    front_is = told.front_is ∙ ap (λ all. bodies all ++ told.more) split ∙ ap (λ all. all ++ told.more) (map-append (λ item. item.body) first rest) ∙ append_assoc (bodies first) (bodies rest) told.more;
-    marked = marked_front first rest (subst (AllByRecursion IsMarked) split told.marked);
   }
 
   module _ (first lane : LaneResult R) (begun upload : UploadState R) (items : List (Item Sent)) (recorded : IsLaneRecorded first lane (bodies items)) (told : TellsUpload begun upload items) where
     is_front : IsFront upload.given upload.ending (bodies items)
-    is_front = front upload.given upload.ending (bodies items) told.more told.front_is
+    is_front = front upload.given upload.ending (bodies items) told.1.rest told.1.front
 
     ended_with : (found : Option Ending) → IfSome found (λ end. (upload.ending ≡ Some end) × (length (sent_messages (bodies items)) ≡ length upload.given)) → IfSome found (EndsWith upload lane.taken)
     ended_with None ended = tt
     ended_with (Some end) ended = record {
       ending = ended.0;
       all = recorded.taken ∙ ended.1;
-      over = subst (λ e. IfSome e (λ last. IfOver (next_of last) (EndsBy upload))) ended.0 told.read.over;
+      over = subst (λ e. IfSome e (λ last. IfOver (next_of last) (EndsBy upload))) ended.0 told.0.over;
     }
 
     pub lane_taken : IsTaken first.log begun (record lane { upload = Some upload })
     lane_taken = record {
       now = upload;
       upload_is = refl;
-      own = told.read.own;
-      first = told.read.first;
-      few = told.read.few;
+      own = told.0.own;
+      first = told.0.first;
+      few = told.0.few;
       some = subst (λ n. n ≤ length upload.given) (sym recorded.taken) is_front.some;
       goes_on =
           subst (λ messages. Continues first.log lane.log messages) (is_front.messages ∙ ap (λ n. take n upload.given) (sym recorded.taken)) recorded.goes_on;
@@ -134,10 +126,10 @@ module _ {R : Type 0} where
     -- a message behind those that were recorded was given
     pub gave_more : (all : UploadState R) (item : Item Sent) → is_last item.body ≡ false → TellsUpload begun all (items ++ item ∷ []) → lane.taken < length all.given
     gave_more all item one more_told =
-        let many = front all.given all.ending (bodies (items ++ item ∷ [])) more_told.more more_told.front_is in
+        let many = front all.given all.ending (bodies (items ++ item ∷ [])) more_told.1.rest more_told.1.front in
         let size = ap (λ is. length (sent_messages is)) (map-append (λ one. one.body) items (item ∷ [])) ∙ sent_more (bodies items) item.body one in
         omega (arith, recorded.taken, size, many.some)
 
     -- it has ended, where the last item is among them
     pub lane_ended : has_last items ≡ true → is_some lane.end ≡ true
-    lane_ended some = ap is_some recorded.end ∙ ended_by_last items told.marked some
+    lane_ended some = ap is_some recorded.end ∙ ended_by_last items told.1.marked some

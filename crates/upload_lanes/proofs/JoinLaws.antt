@@ -6,7 +6,7 @@ use Rattle.lane_queue.specs.Items.{of_lane}
 use Rattle.lane_queue.specs.declared.item.Item.{Item}
 use Rattle.upload_reader.specs.Upload.{UploadState}
 use Rattle.upload_lanes.proofs.RoundLaws.{in_set}
-use Rattle.upload_lanes.specs.inside.Groups.{TellsUpload, IsJoined, AreJoined, with_upload}
+use Rattle.upload_lanes.specs.inside.Party.{TellsUpload, IsJoined, AreJoined, with_upload}
 use Rattle.upload_lanes.specs.declared.gathered.LaneResult.{LaneResult}
 use Rattle.upload_lanes.specs.declared.sent.Sent.{Sent}
 use Rattle.upload_lanes.specs.declared.uploader.Uploads.{Uploads}

@@ -3,15 +3,12 @@ pub mod RoundLaws
 pub mod UploaderLaws
 pub mod Crossing
 pub mod RecorderLaws
+pub mod Zips
 pub mod GroupLaws
 pub mod JoinLaws
 pub mod StopLaws
-pub mod StartLaws
-pub mod PlaceLaws
-pub mod GroupsLaws
-pub mod PartsLaws
+pub mod SendingLaws
 pub mod PartyLaws
-pub mod DealtLaws
 pub mod TakenLaws
 pub mod CollectedLaws
 pub mod OneLane

@@ -10,13 +10,12 @@ use Rattle.lane_queue.specs.Opened.{ArePutters, IsOpenedQueue, IsNewPutterOf, fr
 use Rattle.lane_queue.specs.Queue.{Queue}
 use Rattle.lane_queue.specs.declared.item.Item.{Item}
 use Rattle.lane_queue.specs.declared.view.QueueView.{QueueView}
-use Rattle.upload_reader.specs.Upload.{IsUntouched}
 use Rattle.upload_lanes.proofs.RoundLaws.{all_at, in_map}
-use Rattle.upload_lanes.specs.inside.AllGroups.{IsFreshLane, without_upload}
-use Rattle.upload_lanes.specs.inside.Groups.{AreEnds, IsParty}
-use Rattle.upload_lanes.specs.inside.Recording.{AreBegun, IsBegun}
+use Rattle.upload_lanes.specs.inside.Lanes.{IsBegun, IsFreshLane}
+use Rattle.upload_lanes.specs.inside.Party.{AreEnds, without_upload}
+use Rattle.upload_lanes.specs.inside.Recording.{AreBegun, IsDuty}
 use Rattle.upload_lanes.specs.declared.gathered.LaneResult.{LaneResult}
-use Rattle.upload_lanes.specs.declared.group.Party.{Party}
+use Rattle.upload_lanes.specs.declared.recorder.Duty.{Duty}
 use Rattle.upload_lanes.specs.declared.sent.Sent.{Sent}
 
 range_at : (first n k : ℕ) → k < n → slice_get (range_with_len first n) k ≡ Some (first + k)
@@ -48,21 +47,13 @@ module _ {R : Type 0} (hand : List (List ℕ × LaneResult R)) (all : AllByRecur
       let fresh = all_at IsFreshLane hand k whole all whole_at in
       subst (λ l. IsBegun l.1) is (record { taken = fresh.begun.taken; end = fresh.begun.end })
 
-  pub party_is : (queue : Queue) (room : ℕ) (party : Party R) → AreLanes (length hand) → IsOpenedQueue (length hand) room queue party.duty.taker party.putters.items → party.duty.lanes.items ≡ map without_upload hand
-      → map Some party.uploads.items ≡ map (λ lane. lane.1.upload) hand → AllByRecursion IsUntouched party.uploads.items → IsParty queue party
-  party_is queue room party few opened lanes uploads untouched =
-      let size : length party.duty.lanes.items ≡ length hand = ap length lanes ∙ length-map hand without_upload in
-      let sent : length party.uploads.items ≡ length hand = sym (length-map party.uploads.items (λ upload. Some upload)) ∙ ap length uploads ∙ length-map hand (λ lane. lane.1.upload) in
-      let put = putters_count queue (length hand) party.putters.items opened.putters_are in
+  pub duty_is : (queue : Queue) (room : ℕ) (duty : Duty R) (putters : List (Pass (Item Sent) (QueueView Sent))) → AreLanes (length hand)
+      → IsOpenedQueue (length hand) room queue duty.taker putters → duty.lanes.items ≡ map without_upload hand → IsDuty queue duty
+  duty_is queue room duty putters few opened lanes =
+      let size : length duty.lanes.items ≡ length hand = ap length lanes ∙ length-map hand without_upload in
       record {
-        duty = record {
-          of = opened.taker_of;
-          fresh = opened.taker_is ∙ ap (λ n. fresh_taker {T = Sent} n) (sym size);
-          few = omega (arith, size, few.few);
-          begun = subst AreBegun (sym lanes) begun_parted;
-        };
-        ends = ends_are queue (length hand) party.putters.items opened.putters_are;
-        putters = put ∙ sym sent;
-        uploads = sent ∙ sym size;
-        untouched = untouched;
+        of = opened.taker_of;
+        fresh = opened.taker_is ∙ ap (λ n. fresh_taker {T = Sent} n) (sym size);
+        few = omega (arith, size, few.few);
+        begun = subst AreBegun (sym lanes) begun_parted;
       }

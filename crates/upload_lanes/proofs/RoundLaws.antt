@@ -1,10 +1,10 @@
 -- What following a schedule keeps, lane by lane.
-use Rattle.std.proofs.Common.{◌≡◌, ◌≢◌, ℕ, zero, suc, ◌+◌, ◌≤◌, ◌<◌, List, [], ◌∷◌, ◌++◌, length, map, take, drop, set, get_or, replicate, is_some, Bool, true, false, ◌||◌, ◌&&◌, ◌==◌, if◌then◌else◌, bytes_eq, slice_get, Option, Some, None, inl, inr, ◌⊎◌, refl, sym, ap, subst, ◌∙◌, arith, true≢false}
+use Rattle.std.proofs.Common.{◌≡◌, ◌≢◌, ℕ, zero, suc, ◌+◌, ◌≤◌, ◌<◌, List, [], ◌∷◌, ◌++◌, length, map, take, drop, set, get_or, is_some, Bool, true, false, ◌||◌, ◌&&◌, ◌==◌, if◌then◌else◌, bytes_eq, slice_get, Option, Some, None, inl, inr, ◌⊎◌, refl, sym, ap, subst, ◌∙◌, arith, true≢false}
 use Rattle.std.proofs.lemmas.Bool.Decides.{nat_tests}
-use Rattle.std.proofs.lemmas.List.{length-map, length-set, length-replicate, get_or-replicate, get_or-set_same, get_or-set_other}
-use Rattle.std.proofs.lemmas.List.Sums.{count_by_more_yes, count_by_more_no, sum_by-take-le}
+use Rattle.std.proofs.lemmas.List.{length-map, length-set, get_or-set_same, get_or-set_other}
+use Rattle.std.proofs.lemmas.List.Sums.{count_by_more_yes, count_by_more_no}
 use Rattle.std.proofs.lemmas.Option.{slice_get_within, slice_get-get_or, get_or_from_slice_get, slice_get-map}
-use Rattle.std.proofs.Math.Seq.{take-append_seam, take-length}
+use Rattle.std.proofs.Math.Seq.{take-append_seam}
 use Rattle.std.specs.List.{AllByRecursion, list_any}
 use Rattle.std.specs.Option.{option_map, option_map_or}
 use Rattle.indexmap.specs.IndexMap.{set_value_at}
@@ -21,8 +21,8 @@ use Rattle.upload_reader.proofs.LaneLaws.{is_stream}
 use Rattle.client_log.specs.Client.{OfClient}
 use Rattle.upload_lanes.proofs.LaneSteps.{continues_none}
 use Rattle.upload_lanes.specs.Lane.{NotOver}
-use Rattle.upload_lanes.specs.Round.{has_twice, clients_of, log_before, resumed, rested, entries_of, ahead_of, have_ended, IsAsked, IsTakenInTurn, IsLaneInTurn, AreTakenInTurn}
-use Rattle.upload_lanes.specs.inside.Lanes.{begun_lane, rested_at, HasFewTaken, HaveFewTaken, one_more, only, none}
+use Rattle.upload_lanes.specs.Round.{has_twice, clients_of, log_before, resumed, rested, entries_of, ahead_of, IsAsked, IsTakenInTurn, IsLaneInTurn, AreTakenInTurn, all_rested}
+use Rattle.upload_lanes.specs.inside.Lanes.{begun_lane, HasFewTaken, HaveFewTaken, one_more, only, none}
 use Rattle.upload_lanes.specs.declared.gathered.Stop.TheVariants as stop
 use Rattle.upload_lanes.specs.declared.gathered.LaneResult.{LaneResult}
 
@@ -33,10 +33,6 @@ pick_true false x y is = absurd (true≢false (sym is))
 pub pick_false : {A : Type 0} (b : Bool) (x y : A) → b ≡ false → (if b then x else y) ≡ y
 pick_false true x y is = absurd (true≢false is)
 pick_false false x y is = refl
-
-and_first : (a b : Bool) → (a && b) ≡ true → a ≡ true
-and_first true b is = refl
-and_first false b is = is
 
 and_then : (a b : Bool) → (a && b) ≡ true → b ≡ true
 and_then true b is = is
@@ -118,26 +114,6 @@ entries_more schedule n within j = by (get_or schedule n 0 == j) refl
 pub only_there : (schedule : List ℕ) (n : ℕ) → n < length schedule → (j : ℕ) → only (get_or schedule n 0) j ≡ ahead_of schedule n stop.Memory j
 only_there schedule n within j = ap (λ entry. if option_map_or (λ e. e == j) entry false then 1 else 0) (sym (slice_get-get_or schedule n 0 within))
 
--- the same of entries that all ask lane 0
-abbrev zeros : ℕ → List ℕ
-zeros n = replicate n 0
-
-module _ (asked n : ℕ) (within : n < asked) where
-  zero_there : get_or (zeros asked) n 0 ≡ 0
-  zero_there = get_or-replicate asked n 0 0 within
-
-  within_zeros : n < length (zeros asked)
-  within_zeros = omega (arith, within, length-replicate {A = ℕ} asked 0)
-
-  pub zeros_more : (j : ℕ) → one_more 0 (entries_of (take n (zeros asked))) j ≡ entries_of (take (n + 1) (zeros asked)) j
-  zeros_more j = ap (λ k. one_more k (entries_of (take n (zeros asked))) j) (sym zero_there) ∙ entries_more (zeros asked) n within_zeros j
-
-  pub zeros_there : (j : ℕ) → only 0 j ≡ ahead_of (zeros asked) n stop.Memory j
-  zeros_there j = ap (λ k. only k j) (sym zero_there) ∙ only_there (zeros asked) n within_zeros j
-
-pub entries_few : (schedule : List ℕ) (n j : ℕ) → entries_of (take n schedule) j ≤ entries_of (take (length schedule) schedule) j
-entries_few schedule n j = subst (λ all. entries_of (take n schedule) j ≤ entries_of all j) (sym (take-length schedule)) (sum_by-take-le _ schedule n)
-
 -- ---- a lane of which nothing was given
 
 pub nothing_first : {R : Type 0} (upload : UploadState R) → upload.given ≡ [] → GivesFirst upload
@@ -215,30 +191,6 @@ module _ {R : Type 0} (known : List ℕ → Option (LaneResult R)) (quota : ℕ)
   ended_more None asked asked' taken ended more is = absurd (true≢false (sym ended))
   ended_more (Some end) asked asked' taken ended more is = omega (arith, more, is)
 
-  end_at : (lanes : List (List ℕ × LaneResult R)) (j : ℕ) (lane : List ℕ × LaneResult R) → slice_get lanes j ≡ Some lane → have_ended lanes ≡ true → is_some lane.1.end ≡ true
-  end_at [] j lane at ended = absurd (omega (arith, slice_get_within {A = List ℕ × LaneResult R} [] j lane at))
-  end_at (first ∷ lanes) zero lane at ended = let same : first ≡ lane = cc in ap (λ l. is_some l.1.end) (sym same) ∙ and_first (is_some first.1.end) (have_ended lanes) ended
-  end_at (first ∷ lanes) (suc j) lane at ended = end_at lanes j lane at (and_then (is_some first.1.end) (have_ended lanes) ended)
-
-  -- lanes that have ended may be asked more often
-  pub lanes_ended : (asked asked' : ℕ → ℕ) (lanes : List (List ℕ × LaneResult R)) → have_ended lanes ≡ true → ((j : ℕ) → asked j ≤ asked' j)
-      → AreTakenInTurn known quota uploads asked none lanes → AreTakenInTurn known quota uploads asked' none lanes
-  lanes_ended asked asked' lanes ended more are = record {
-    count = are.count;
-    each = λ j lane at.
-        let is = are.each j lane at in
-        record {
-          upload = is.upload;
-          upload_at = is.upload_at;
-          client = is.client;
-          in_turn = record {
-            is_taken = is.in_turn.is_taken;
-            asked_is = ended_more lane.1.end (asked j) (asked' j) lane.1.taken (end_at lanes j lane at ended) (more j) is.in_turn.asked_is;
-            ahead_is = is.in_turn.ahead_is;
-          };
-        };
-  }
-
   -- no lane has that number
   pub lanes_past : (asked : ℕ → ℕ) (k : ℕ) (lanes : List (List ℕ × LaneResult R)) → length lanes ≤ k → AreTakenInTurn known quota uploads asked none lanes → AreTakenInTurn known quota uploads (one_more k asked) none lanes
   lanes_past asked k lanes past are = record {
@@ -309,26 +261,24 @@ module _ {R : Type 0} (known : List ℕ → Option (LaneResult R)) (quota : ℕ)
 -- ---- the clients of the rounds before
 
 module _ {R : Type 0} where
-  abbrev all_rested : List (List ℕ × LaneResult R) → List (List ℕ × LaneResult R)
-  all_rested entries = map (λ entry. (entry.0, rested entry.1)) entries
+  -- once the first clients rest, the next one is as it was, and may rest
+  record IsNextToRest (k : ℕ) (entries : List (List ℕ × LaneResult R)) (n : ℕ) : Type 0 where
+    lane : LaneResult R
+    at : slice_get (map (λ entry. entry.1) (all_rested (take k entries) ++ drop k entries)) k ≡ Some lane
+    step : set_value_at (all_rested (take k entries) ++ drop k entries) k (rested lane) ≡ all_rested (take n entries) ++ drop n entries
 
-  rested_next : (k : ℕ) (entries : List (List ℕ × LaneResult R)) → k < length entries → rested_at k (all_rested (take k entries) ++ drop k entries) ≡ all_rested (take (suc k) entries) ++ drop (suc k) entries
-  rested_next k [] within = absurd (omega (arith, within))
-  rested_next zero (entry ∷ entries) within = refl
-  rested_next (suc k) (entry ∷ entries) within = ap (λ rest. (entry.0, rested entry.1) ∷ rest) (rested_next k entries (omega (arith, within)))
+  next_to_rest : (k : ℕ) (entries : List (List ℕ × LaneResult R)) → k < length entries → IsNextToRest k entries (suc k)
+  next_to_rest k [] within = absurd (omega (arith, within))
+  next_to_rest zero (entry ∷ entries) within = record { lane = entry.1; at = refl; step = refl }
+  next_to_rest (suc k) (entry ∷ entries) within =
+      let rest = next_to_rest k entries (omega (arith, within)) in
+      record { lane = rest.lane; at = rest.at; step = ap (λ others. (entry.0, rested entry.1) ∷ others) rest.step }
 
-  pub rested_step : (k : ℕ) (entries : List (List ℕ × LaneResult R)) → k < length entries
-      → rested_at k (map (λ entry. (entry.0, rested entry.1)) (take k entries) ++ drop k entries) ≡ map (λ entry. (entry.0, rested entry.1)) (take (k + 1) entries) ++ drop (k + 1) entries
-  rested_step k entries within =
+  pub rested_step : (k : ℕ) (entries new : List (List ℕ × LaneResult R)) → k < length entries
+      → ((lane : LaneResult R) → slice_get (map (λ entry. entry.1) (all_rested (take k entries) ++ drop k entries)) k ≡ Some lane
+      → new ≡ set_value_at (all_rested (take k entries) ++ drop k entries) k (rested lane))
+      → new ≡ all_rested (take (k + 1) entries) ++ drop (k + 1) entries
+  rested_step k entries new within rests =
       let next : suc k ≡ k + 1 = omega arith in
-      rested_next k entries within ∙ ap (λ n. all_rested (take n entries) ++ drop n entries) next
-
-  pub rested_set : (entries : List (List ℕ × LaneResult R)) (k : ℕ) (lane : LaneResult R) → slice_get (map (λ entry. entry.1) entries) k ≡ Some lane → set_value_at entries k (rested lane) ≡ rested_at k entries
-  rested_set [] k lane at = cc
-  rested_set (entry ∷ entries) zero lane at = let same : entry.1 ≡ lane = cc in ap (λ l. (entry.0, rested l) ∷ entries) (sym same)
-  rested_set (entry ∷ entries) (suc k) lane at = ap (λ rest. entry ∷ rest) (rested_set entries k lane at)
-
-  pub rested_past : (entries : List (List ℕ × LaneResult R)) (k : ℕ) → slice_get (map (λ entry. entry.1) entries) k ≡ None → entries ≡ rested_at k entries
-  rested_past [] k none = refl
-  rested_past (entry ∷ entries) zero none = cc
-  rested_past (entry ∷ entries) (suc k) none = ap (λ rest. entry ∷ rest) (rested_past entries k none)
+      let step = subst (IsNextToRest k entries) next (next_to_rest k entries within) in
+      rests step.lane step.at ∙ step.step

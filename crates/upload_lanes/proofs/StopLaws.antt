@@ -1,19 +1,21 @@
 -- What a recorder made of its lanes, once their uploaders have ended.
-use Rattle.std.proofs.Common.{◌≡◌, ℕ, suc, ◌+◌, ◌<◌, List, [], ◌∷◌, ◌++◌, length, Bool, true, false, ◌&&◌, is_some, slice_get, Some, inl, inr, refl, sym, ap, subst, ◌∙◌, arith, append-nil}
-use Rattle.std.proofs.lemmas.List.{length-append}
+use Rattle.std.proofs.Common.{◌≡◌, ℕ, suc, ◌+◌, ◌<◌, List, [], ◌∷◌, ◌++◌, length, map, Bool, true, false, ◌&&◌, is_some, slice_get, Some, inl, inr, refl, sym, ap, subst, ◌∙◌, arith, append-nil}
+use Rattle.std.proofs.lemmas.List.{length-append, length-map}
 use Rattle.std.proofs.lemmas.List.Sums.{sum_by-cons}
 use Rattle.std.proofs.lemmas.Option.{slice_get_within}
 use Rattle.std.specs.List.{AllByRecursion, sum_by}
 use Rattle.lane_queue.proofs.Lists.{of_append, of_more}
 use Rattle.lane_queue.specs.Items.{of_lane, has_last}
 use Rattle.lane_queue.specs.declared.item.Item.{Item}
-use Rattle.upload_lanes.proofs.GroupLaws.{ends_in, gave_more, lane_count, lane_ended, lane_taken, tells_first}
+use Rattle.upload_lanes.proofs.GroupLaws.{ends_in, gave_more, lane_count, lane_ended, lane_taken, put_first}
 use Rattle.upload_lanes.proofs.JoinLaws.{some_at}
 use Rattle.upload_lanes.proofs.RecorderLaws.{total, lanes_total}
+use Rattle.upload_lanes.proofs.Zips.{mapped_at, zip_at}
 use Rattle.upload_lanes.specs.Lane.{IsTaken}
 use Rattle.upload_lanes.specs.Round.{have_ended}
-use Rattle.upload_lanes.specs.Threads.{is_ended, items_of, items_taken, refused_by, GaveMore}
-use Rattle.upload_lanes.specs.inside.Groups.{TellsUpload, IsJoined, AreJoined, IsGroup}
+use Rattle.upload_lanes.specs.Threads.{is_ended, items_of, items_taken, refused_by, GaveMore, Stops}
+use Rattle.upload_lanes.specs.inside.Lanes.{TakesLane}
+use Rattle.upload_lanes.specs.inside.Party.{TellsUpload, IsJoined, AreJoined, TakesByOne, own_upload, without_upload}
 use Rattle.upload_lanes.specs.inside.Sent.{is_last}
 use Rattle.upload_lanes.specs.inside.Recording as Recorder
 use Rattle.upload_lanes.specs.inside.Recording.{IsHalted, IsRecording, IsUnrecorded}
@@ -79,7 +81,7 @@ module _ {R : Type 0} where
 
     module _ (k : ℕ) (lane : List ℕ × LaneResult R) (here : At k lane) where
       told : TellsUpload here.is_joined.promise.upload.value here.is_joined.upload (of_lane k recording.done)
-      told = tells_first here.is_joined.promise.upload.value here.is_joined.upload (of_lane k got) (of_lane k recording.done) (of_lane k recording.rest) (split k) here.is_joined.told
+      told = (here.is_joined.told.0, put_first here.is_joined.upload (of_lane k got) (of_lane k recording.done) (of_lane k recording.rest) (split k) here.is_joined.told.1)
 
       same_end : lane.1.end ≡ here.recorded.1.end
       same_end = ap (λ l. l.1.end) here.is_joined.lane_is
@@ -156,19 +158,32 @@ module _ {R : Type 0} where
     ended_so stops.Asked is open_ = same_ends ∙ open_
     ended_so stops.Memory is open_ = same_ends ∙ open_
 
-    pub group_is : IsHalted allows stop items → IsGroup allows firsts promises joined_lanes stop
-    group_is halted = record {
-      count = joined.count ∙ recording.lanes_are.count;
-      each = λ k first lane first_at lane_at.
-          let here = at k lane lane_at in
-          let both : Some here.first ≡ Some first = sym here.first_at ∙ first_at in
-          let same : here.first ≡ first = cc in
-          subst (λ f. (promise : Uploads R) × (slice_get promises k ≡ Some promise) × (lane.0 ≡ f.0) × IsTaken f.1.log promise.upload.value lane.1) same
-          (here.is_joined.promise, here.is_joined.promise_at, client k lane here, taken k lane here);
-      stops = record {
-        lesser = subst (λ n. (m : ℕ) → m < n → allows m false) all_items halted.lesser;
-        asked = λ is. subst (λ n. allows n true) all_items (halted.asked is);
-        ended = ended_so stop refl recording.stops;
-        refused = λ is. let (item, rest, one) = subst (λ s. IsUnrecorded s recording.rest) is recording.refused in unrecorded item rest one;
-      };
+    stops_so : IsHalted allows stop items → Stops allows joined_lanes stop
+    stops_so halted = record {
+      lesser = subst (λ n. (m : ℕ) → m < n → allows m false) all_items halted.lesser;
+      asked = λ is. subst (λ n. allows n true) all_items (halted.asked is);
+      ended = ended_so stop refl recording.stops;
+      refused = λ is. let (item, rest, one) = subst (λ s. IsUnrecorded s recording.rest) is recording.refused in unrecorded item rest one;
     }
+
+    module _ (fresh : List (List ℕ × LaneResult R)) (firsts_are : firsts ≡ map without_upload fresh)
+        (given : map (λ promise. Some promise.upload.value) promises ≡ map own_upload fresh) where
+      takes_lane : (k : ℕ) (whole lane : List ℕ × LaneResult R) → slice_get fresh k ≡ Some whole → slice_get joined_lanes k ≡ Some lane → TakesLane whole lane
+      takes_lane k whole lane whole_at lane_at =
+          let here = at k lane lane_at in
+          let both : Some here.first ≡ Some (without_upload whole) = sym here.first_at ∙ mapped_at without_upload fresh firsts k whole firsts_are whole_at in
+          let same : here.first ≡ without_upload whole = cc in
+          let promise = here.is_joined.promise in
+          let there : Some (Some promise.upload.value) ≡ Some whole.1.upload =
+          sym (mapped_at (λ p. Some p.upload.value) promises (map own_upload fresh) k promise (sym given) here.is_joined.promise_at) ∙ mapped_at own_upload fresh (map own_upload fresh) k whole refl whole_at in
+          record {
+            client = client k lane here ∙ ap (λ f. f.0) same;
+            is_taken = λ begun is.
+                let of : promise.upload.value ≡ begun = cc in
+                subst (λ f. IsTaken f.1.log begun lane.1) same (subst (λ b. IsTaken here.first.1.log b lane.1) of (taken k lane here));
+          }
+
+      pub takes_by_one : IsHalted allows stop items → TakesByOne allows fresh joined_lanes stop
+      takes_by_one halted =
+          let size : length fresh ≡ length joined_lanes = sym (joined.count ∙ recording.lanes_are.count ∙ ap length firsts_are ∙ length-map fresh without_upload) in
+          record { each = zip_at TakesLane fresh joined_lanes size takes_lane; stops = stops_so halted }

@@ -1,28 +1,13 @@
--- From the lanes of a round to the parties that take them.
-use Rattle.std.proofs.Common.{◌≡◌, ℕ, suc, List, [], ◌∷◌, length, map, Option, Some, None, refl, sym, ap, ◌∙◌}
+-- From the lanes of a round to what was taken of its uploads.
+use Rattle.std.proofs.Common.{ℕ, List, [], ◌∷◌, map, Bool, Option, Some, None, refl, ap, ◌∙◌}
+use Rattle.std.proofs.lemmas.List.{length-map}
 use Rattle.std.specs.List.{AllByRecursion, AllZip}
-use Rattle.round_robin.proofs.Dealing.{every_map}
-use Rattle.round_robin.specs.Dealt.{every}
 use Rattle.upload_reader.specs.Upload.{UploadState, IsUntouched}
 use Rattle.upload_lanes.specs.Round.{resumed}
-use Rattle.upload_lanes.specs.inside.AllGroups.{IsDealt, IsFreshLane, IsPartyOf, without_upload}
-use Rattle.upload_lanes.specs.inside.Lanes.{begun_lane}
+use Rattle.upload_lanes.specs.Threads.{recorders_of, AreTaken, IsLaneOf}
+use Rattle.upload_lanes.specs.inside.Lanes.{begun_lane, IsFreshLane, TakesLane, TakeLanes}
 use Rattle.upload_lanes.specs.declared.gathered.LaneResult.{LaneResult}
-use Rattle.upload_lanes.specs.declared.group.Party.{Party}
-
-map_both : {A B C : Type 0} (f : A → B) (h : B → C) (xs : List A) → map h (map f xs) ≡ map (λ x. h (f x)) xs
-map_both f h [] = refl
-map_both f h (x ∷ xs) = ap (λ rest. h (f x) ∷ rest) (map_both f h xs)
-
-some_same : {A : Type 0} (xs ys : List A) → map Some xs ≡ map Some ys → xs ≡ ys
-some_same [] [] is = refl
-some_same [] (y ∷ ys) is = cc
-some_same (x ∷ xs) [] is = cc
-some_same (x ∷ xs) (y ∷ ys) is =
-    let first : x ≡ y = cc in
-    let rest : map Some xs ≡ map Some ys = cc in
-    let more = some_same xs ys rest in
-    cc
+use Rattle.upload_lanes.specs.declared.gathered.Stop.{Stop}
 
 module _ {R : Type 0} (known : List ℕ → Option (LaneResult R)) (quota : ℕ) where
   fresh_behind : (upload : UploadState R) (found : Option (LaneResult R)) → IsUntouched upload → IsUntouched (resumed upload found)
@@ -36,20 +21,22 @@ module _ {R : Type 0} (known : List ℕ → Option (LaneResult R)) (quota : ℕ)
     fresh_begun uploads all.1,
   )
 
-  pub party_of : (lanes : List (List ℕ × LaneResult R)) (uploads : List (UploadState R)) (recorders g : ℕ) (party : Party R) → lanes ≡ map (begun_lane known quota) uploads → IsDealt (every recorders g lanes) party
-      → IsPartyOf known quota (every recorders g uploads) party
-  party_of lanes uploads recorders g party is dealt =
-      let mine : every recorders g lanes ≡ map (begun_lane known quota) (every recorders g uploads) = ap (every recorders g) is ∙ every_map (begun_lane known quota) recorders g uploads in
-      record {
-        lanes = dealt.lanes_are ∙ ap (map without_upload) mine ∙ map_both (begun_lane known quota) without_upload (every recorders g uploads);
-        begun =
-            some_same party.uploads.items (map (λ upload. resumed upload (known upload.client)) (every recorders g uploads))
-            (dealt.uploads_are ∙ ap (map (λ lane. lane.1.upload)) mine ∙ map_both (begun_lane known quota) (λ lane. lane.1.upload) (every recorders g uploads)
-            ∙ sym (map_both (λ upload. resumed upload (known upload.client)) Some (every recorders g uploads)));
-      }
+  lanes_of : (uploads : List (UploadState R)) (lanes : List (List ℕ × LaneResult R)) → AllZip TakesLane (map (begun_lane known quota) uploads) lanes
+      → AllZip (IsLaneOf known quota) uploads lanes
+  lanes_of [] [] all = tt
+  lanes_of [] (lane ∷ lanes) all = absurd all
+  lanes_of (upload ∷ uploads) [] all = absurd all
+  lanes_of (upload ∷ uploads) (lane ∷ lanes) all = (
+    record { client = all.0.client; is_taken = all.0.is_taken (resumed upload (known upload.client)) refl },
+    lanes_of uploads lanes all.1,
+  )
 
-pub zip_length : {A B : Type 0} (P : A → B → Type 0) (xs : List A) (ys : List B) → AllZip P xs ys → length xs ≡ length ys
-zip_length P [] [] all = refl
-zip_length P [] (y ∷ ys) all = absurd all
-zip_length P (x ∷ xs) [] all = absurd all
-zip_length P (x ∷ xs) (y ∷ ys) all = ap suc (zip_length P xs ys all.1)
+  pub are_taken : (allows : ℕ → Bool → Type 0) (uploads : List (UploadState R)) (lanes : List (List ℕ × LaneResult R)) (stop : Stop)
+      → TakeLanes allows (map (begun_lane known quota) uploads) lanes stop → AreTaken allows known quota uploads lanes stop
+  are_taken allows uploads lanes stop takes = record {
+    lanes_are = lanes_of uploads lanes takes.lanes_are;
+    stops = takes.stops;
+    count = takes.count ∙ ap recorders_of (length-map uploads (begun_lane known quota));
+    each = takes.each;
+    stop_is = takes.stop_is;
+  }

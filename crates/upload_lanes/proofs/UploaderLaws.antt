@@ -1,6 +1,7 @@
 -- What an uploader's steps keep.
-use Rattle.std.proofs.Common.{◌≡◌, ℕ, ◌≤◌, List, [], ◌∷◌, ◌++◌, length, map, Bool, true, false, Some, None, refl, sym, ap, subst, ◌∙◌, arith, append-nil}
-use Rattle.std.proofs.lemmas.List.{map-append, length-map}
+use Rattle.std.proofs.Common.{◌≡◌, ℕ, ◌+◌, ◌≤◌, ◌<◌, ◌^◌, List, [], ◌∷◌, ◌++◌, length, map, Bool, true, false, Option, Some, None, refl, sym, ap, subst, ◌∙◌, arith, append-nil}
+use Rattle.std.proofs.lemmas.List.{length-append, map-append, length-map}
+use Rattle.std.specs.Option.{option_to_list}
 use Rattle.std.specs.Prelude.{IfSome, MatchBool}
 use Rattle.std.specs.List.{AllByRecursion}
 use Rattle.byte_streams.specs.Reading.{ReadsWhile}
@@ -73,10 +74,20 @@ module _ {R : Type 0} where
     marked = putting.marked;
   }
 
-  pub few_put : (put : List (Item Sent)) (u : UploadState R) → IsPutting put u → length u.given ≤ max_messages → length put ≤ max_messages
-  few_put put u putting few =
-      let same : length put ≡ length u.given = sym (length-map put (λ item. item.body)) ∙ ap length putting.all ∙ length-map u.given One in
-      subst (λ n. n ≤ max_messages) (sym same) few
+  -- an uploader puts its messages, and an end
+  pub few_uploaded : (put : List (Item Sent)) (begun u : UploadState R) → IsReadOn begun u → IsPut put u → length put < 2 ^ 57
+  few_uploaded put begun u read is_put =
+      let ends : length (option_to_list u.ending) ≤ 1 = one_at_most u.ending in
+      let size : length (sent u.given u.ending) ≡ length u.given + length (option_to_list u.ending) =
+      length-append (map One u.given) (map Last (option_to_list u.ending))
+      ∙ ap (λ n. n + length (map Last (option_to_list u.ending))) (length-map u.given One) ∙ ap (λ n. length u.given + n) (length-map (option_to_list u.ending) Last) in
+      let whole : length (sent u.given u.ending) ≡ length (bodies put) + length is_put.rest = ap length is_put.front ∙ length-append (bodies put) is_put.rest in
+      let same : length (bodies put) ≡ length put = length-map put (λ item. item.body) in
+      omega (arith, ends, size, whole, same, read.few)
+    where
+      one_at_most : (ending : Option Ending) → length (option_to_list ending) ≤ 1
+      one_at_most None = omega arith
+      one_at_most (Some end) = omega arith
 
   module _ (u : UploadState R) (a b : QueueView Sent) (putting : IsPutting a.put u) (v : UploadState R) where
     pub put_one : (one : Costed) (done : Bool) → v.given ≡ u.given ++ one ∷ [] → v.ending ≡ None → Sends a b false (One one) done → MatchBool done (IsPutting b.put v) (IsPut b.put v)

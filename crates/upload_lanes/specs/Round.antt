@@ -30,7 +30,7 @@ pub record IsRound {R : Type 0} (uploads : List (UploadState R)) : Type 0 where
   pub lanes : limits.AreLanes (length uploads)
   pub clients : has_twice (clients_of uploads) ≡ false
 
--- why there is no round, the first in this order
+-- why there is no round, the first in this order: G1, G2, G3
 abbrev pub IsNoRound : {R : Type 0} → List (UploadState R) → GatherFault → Type 0
 IsNoRound uploads fault.BadLanes = limits.AreLanes (length uploads) → ⊥
 IsNoRound uploads fault.DuplicateClient = limits.AreLanes (length uploads) × (has_twice (clients_of uploads) ≡ true)
@@ -48,9 +48,12 @@ module _ {R : Type 0} where
   log_before quota upload (Some known) = known.log
 
   -- its upload, behind the session of that log
+  abbrev pub behind_log : OfClient → UploadState R → UploadState R
+  behind_log log upload = record upload { lane = record upload.lane { earlier = log.session } }
+
   abbrev pub resumed : UploadState R → Option (LaneResult R) → UploadState R
   resumed upload None = upload
-  resumed upload (Some known) = record upload { lane = record upload.lane { earlier = known.log.session } }
+  resumed upload (Some known) = behind_log known.log upload
 
   -- a client that has no lane in this round
   abbrev pub rested : LaneResult R → LaneResult R
@@ -105,28 +108,34 @@ IsStop schedule followed lanes stop.Memory = followed < length schedule
 
 -- ---- a round
 
-pub record IsFollowed {R : Type 0} (known : List ℕ → Option (LaneResult R)) (quota : ℕ)
-    (uploads : List (UploadState R)) (schedule : List ℕ) (lanes : List (List ℕ × LaneResult R))
-    (stop : Stop) : Type 0 where
-  pub followed : ℕ
-  pub lanes_are : AreTakenInTurn known quota uploads (entries_of (take followed schedule))
-      (ahead_of schedule followed stop) lanes
-  pub stop_is : IsStop schedule followed lanes stop
+module _ {R : Type 0} where
+  pub record IsFollowed (known : List ℕ → Option (LaneResult R)) (quota : ℕ) (uploads : List (UploadState R))
+      (schedule : List ℕ) (lanes : List (List ℕ × LaneResult R)) (stop : Stop) : Type 0 where
+    pub followed : ℕ
+    pub lanes_are : AreTakenInTurn known quota uploads (entries_of (take followed schedule))
+        (ahead_of schedule followed stop) lanes
+    pub stop_is : IsStop schedule followed lanes stop
 
--- The clients of the rounds before stand first, in their order, and then the new ones in that of their lanes. Each
--- that has a lane has what was taken of it.
-pub record GathersInTurn {R : Type 0} (earlier : Gathered R) (uploads : List (UploadState R)) (quota : ℕ)
-    (schedule : List ℕ) (gathered : Gathered R) : Type 0 where
-  pub is_round : IsRound uploads
-  pub lanes : List (List ℕ × LaneResult R)
-  pub followed : IsFollowed (get bytes_eq earlier.clients) quota uploads schedule lanes gathered.stop
-  pub clients_are : gathered.clients.entries ≡ insert_all bytes_eq
-      (map (λ entry. (entry.0, rested entry.1)) earlier.clients.entries) lanes
+  abbrev pub all_rested : List (List ℕ × LaneResult R) → List (List ℕ × LaneResult R)
+  all_rested entries = map (λ entry. (entry.0, rested entry.1)) entries
 
--- the first round
-abbrev pub GathersFirstInTurn : {R : Type 0} → List (UploadState R) → ℕ → List ℕ → Gathered R → Type 0
-GathersFirstInTurn uploads quota schedule gathered =
-    (earlier : Gathered _) × (earlier.clients.entries ≡ []) × GathersInTurn earlier uploads quota schedule gathered
+  -- The clients of the rounds before stand first, in their order, and then the new ones in that of their lanes. Each
+  -- that has a lane has what was taken of it, as that says of lanes behind what is known and of why it stopped.
+  pub record IsGatheredBy (Takes : (List ℕ → Option (LaneResult R)) → List (List ℕ × LaneResult R) → Stop → Type 0)
+      (earlier : Gathered R) (uploads : List (UploadState R)) (gathered : Gathered R) : Type 0 where
+    pub is_round : IsRound uploads
+    pub lanes : List (List ℕ × LaneResult R)
+    pub taken : Takes (get bytes_eq earlier.clients) lanes gathered.stop
+    pub clients_are : gathered.clients.entries ≡ insert_all bytes_eq (all_rested earlier.clients.entries) lanes
+
+  -- in turn, as the schedule says
+  abbrev pub GathersInTurn : Gathered R → List (UploadState R) → ℕ → List ℕ → Gathered R → Type 0
+  GathersInTurn earlier uploads quota schedule gathered =
+      IsGatheredBy (λ known. IsFollowed known quota uploads schedule) earlier uploads gathered
+
+  -- the first round: no client came before
+  abbrev pub IsFirst : (Gathered R → Type 0) → Type 0
+  IsFirst Gathering = (earlier : Gathered R) × (earlier.clients.entries ≡ []) × Gathering earlier
 
 -- The round is refused for that, and what was gathered before comes back.
 pub record RefusesRound {R : Type 0} (earlier : Gathered R) (uploads : List (UploadState R)) (fault : GatherFault)

@@ -1,11 +1,10 @@
 -- What is gathered of lanes by several recorders, however their threads run: this project's own rule.
-use Rattle.std.specs.Prelude.{◌≡◌, ℕ, ◌+◌, ◌<◌, List, [], length, map, fold, Bool, true, false, nat_lt, if◌then◌else◌, is_some, bytes_eq, slice_get, Option, Some}
+use Rattle.std.specs.Prelude.{◌≡◌, ℕ, ◌+◌, ◌<◌, List, length, fold, Bool, true, false, nat_lt, if◌then◌else◌, is_some, slice_get, Option, Some}
 use Rattle.std.specs.List.{AllZip, sum_by}
-use Rattle.indexmap.specs.IndexMap.{get, insert_all}
 use Rattle.round_robin.specs.Dealt.{every}
 use Rattle.upload_reader.specs.Upload.{UploadState}
 use Rattle.upload_lanes.specs.Lane.{IsTaken}
-use Rattle.upload_lanes.specs.Round.{IsRound, log_before, resumed, rested, have_ended}
+use Rattle.upload_lanes.specs.Round.{log_before, resumed, have_ended, IsGatheredBy, IsFirst}
 use Rattle.upload_lanes.specs.declared.gathered.Gathered.{Gathered}
 use Rattle.upload_lanes.specs.declared.gathered.LaneResult.{LaneResult}
 use Rattle.upload_lanes.specs.declared.gathered.Stop.{Stop}
@@ -84,17 +83,10 @@ module _ {R : Type 0} where
 
   -- ---- a round
 
-  -- The clients of the rounds before stand first, in their order, and then the new ones in that of their lanes. Each
-  -- that has a lane has what was taken of it.
-  pub record Gathers (allows : ℕ → Bool → Type 0) (earlier : Gathered R) (uploads : List (UploadState R)) (quota : ℕ)
-      (gathered : Gathered R) : Type 0 where
-    pub is_round : IsRound uploads
-    pub lanes : List (List ℕ × LaneResult R)
-    pub taken : AreTaken allows (get bytes_eq earlier.clients) quota uploads lanes gathered.stop
-    pub clients_are : gathered.clients.entries ≡ insert_all bytes_eq
-        (map (λ entry. (entry.0, rested entry.1)) earlier.clients.entries) lanes
+  -- by recorders that ask so
+  abbrev pub Gathers : (ℕ → Bool → Type 0) → Gathered R → List (UploadState R) → ℕ → Gathered R → Type 0
+  Gathers allows earlier uploads quota gathered =
+      IsGatheredBy (λ known. AreTaken allows known quota uploads) earlier uploads gathered
 
-  -- the first round
   abbrev pub GathersFirst : (ℕ → Bool → Type 0) → List (UploadState R) → ℕ → Gathered R → Type 0
-  GathersFirst allows uploads quota gathered =
-      (earlier : Gathered R) × (earlier.clients.entries ≡ []) × Gathers allows earlier uploads quota gathered
+  GathersFirst allows uploads quota gathered = IsFirst (λ earlier. Gathers allows earlier uploads quota gathered)

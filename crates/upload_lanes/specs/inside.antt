@@ -1,5 +1,4 @@
 pub mod Lanes
 pub mod Sent
 pub mod Recording
-pub mod Groups
-pub mod AllGroups
+pub mod Party

@@ -1,11 +1,9 @@
 //! A round of one lane.
-ghost use Rattle.std.specs.Prelude.{ℕ, ◌≡◌, ◌≤◌, ◌^◌, [], ◌∷◌, length, Some};
+ghost use Rattle.std.specs.Prelude.{ℕ, ◌≡◌, ◌≤◌, [], ◌∷◌, length};
 ghost use Rattle.std.specs.List.{AllByRecursion};
-ghost use Rattle.upload_reader.specs.Upload.{UploadState};
-ghost use Rattle.upload_lanes.specs.Lane.{IsTaken};
+ghost use Rattle.lane_queue.specs.Limits.{max_items};
 ghost use Rattle.upload_lanes.specs.Threads.{Stops};
-ghost use Rattle.upload_lanes.specs.inside.AllGroups.{IsFreshLane};
-ghost use Rattle.upload_lanes.specs.inside.Lanes.{TakeBegun};
+ghost use Rattle.upload_lanes.specs.inside.Lanes.{IsFreshLane, TakesLane, TakeLanes};
 
 use crate::gathered::{LaneResult, Stop};
 use crate::halt::Halt;
@@ -22,8 +20,8 @@ pub(crate) fn take_only<H: Halt, R: Source + Drop, W: Wait>(
 ) -> (Vec<(Client, LaneResult<R>)>, Stop)
     requires fresh { AllByRecursion IsFreshLane lanes.items }
     requires one { length lanes.items ≡ 1 }
-    requires halt { (n : ℕ) → n ≤ 2 ^ 61 → H.may halt.now n }
-    ensures { TakeBegun (H.allows halt.now) lanes.items result.0.items result.1 }
+    requires halt { (n : ℕ) → n ≤ max_items → H.may halt.now n }
+    ensures { TakeLanes (H.allows halt.now) lanes.items result.0.items result.1 }
 {
     let mut lanes = lanes;
     let stop = take_alone(rt, &mut lanes[0], halt);
@@ -37,9 +35,8 @@ fn take_alone<H: Halt, R: Source + Drop, W: Wait>(
     halt: &H,
 ) -> Stop
     requires fresh { IsFreshLane lane.old }
-    requires halt { (n : ℕ) → n ≤ 2 ^ 61 → H.may halt.now n }
-    ensures client { lane.new.0 ≡ lane.old.0 }
-    ensures taken { (begun : UploadState R) → lane.old.1.upload ≡ Some begun → IsTaken lane.old.1.log begun lane.new.1 }
+    requires halt { (n : ℕ) → n ≤ max_items → H.may halt.now n }
+    ensures taken { TakesLane lane.old lane.new }
     ensures stops { Stops (H.allows halt.now) (lane.new ∷ []) result }
 {
     let mut items = 0;

@@ -9,6 +9,7 @@ use byte_streams::Source;
 use lane_queue::MAX_LANES;
 use upload_reader::{Client, Upload};
 
+/// `G1` and `G2`, in this order.
 pub(crate) fn check_round<R: Source>(uploads: &[Upload<R>]) -> Result<(), GatherFault>
     ensures ok { OnOk result (IsRound uploads.now) }
     ensures refused { IfErr result (λ fault. (fault ≢ NoMemory) × IsNoRound uploads.now fault) }

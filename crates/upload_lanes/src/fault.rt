@@ -15,7 +15,7 @@ pub enum GatherFault {
     BadLanes,
     /// G2: two lanes of one client.
     DuplicateClient,
-    /// G3: memory was refused before the first message was taken.
+    /// G3: memory, or the start of a thread, was refused before the first message was taken.
     NoMemory,
 }
 

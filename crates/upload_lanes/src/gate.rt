@@ -1,7 +1,7 @@
-//! What the threads of a round wait for before they begin.
+//! What the uploaders of a round wait for before they read.
 use std::sync::{OnceLock, Wait};
 
-/// Opened once all threads of a round were started, or shut where one could not be. No upload is read before, and nothing is recorded.
+/// Opened once all threads of a round were started, or shut where one could not be: no upload is read before.
 #[derive(Drop)]
 pub(crate) struct Gate {
     open: OnceLock<bool>,
@@ -22,7 +22,7 @@ impl Gate {
         let _told = self.open.set(rt, false);
     }
 
-    /// Waits until it was opened or shut. Whether the round begins.
+    /// Waits until it was opened or shut. Whether uploads may be read.
     pub(crate) fn may_pass<W: Wait>(&self, rt: &W) -> bool {
         *self.open.wait(rt)
     }

@@ -2,8 +2,8 @@
 ghost use Rattle.std.specs.Prelude.{IfOk, IfErr, OnOk, OnErr};
 ghost use Rattle.std.specs.List.{AllByRecursion};
 ghost use Rattle.upload_reader.specs.Upload.{IsUntouched};
-ghost use Rattle.upload_lanes.specs.Round.{GathersInTurn, GathersFirstInTurn, IsNoRound, RefusesRound};
-ghost use Rattle.upload_lanes.specs.inside.Lanes.{HaveFewTaken, AsksLane, RefusesLane, FollowBegun};
+ghost use Rattle.upload_lanes.specs.Round.{GathersInTurn, IsFirst, IsNoRound, RefusesRound};
+ghost use Rattle.upload_lanes.specs.inside.Lanes.{one_more, only, none, HaveFewTaken, AskLanes, FollowsSchedule};
 
 use crate::fault::{GatherFault, RefusedRound};
 use crate::gathered::{Gathered, LaneResult, Stop};
@@ -24,7 +24,8 @@ pub fn gather_in_order<R: Source + Drop>(
     schedule: &[u32],
 ) -> Result<Gathered<R>, GatherFault>
     requires untouched { AllByRecursion IsUntouched uploads.items }
-    ensures ok { IfOk result (GathersFirstInTurn uploads.items quota schedule.now) }
+    ensures ok { IfOk result (λ gathered.
+        IsFirst (λ earlier. GathersInTurn earlier uploads.items quota schedule.now gathered)) }
     ensures refused { IfErr result (IsNoRound uploads.items) }
 {
     match gather_again_in_order(alloc, Gathered::new(alloc), uploads, quota, schedule) {
@@ -63,7 +64,7 @@ pub fn gather_again_in_order<R: Source + Drop>(
 // Each entry takes the next of its lane.
 fn take_all<R: Source + Drop>(lanes: &mut [(Client, LaneResult<R>)], schedule: &[u32]) -> Stop
     requires few { HaveFewTaken lanes.old }
-    ensures { FollowBegun schedule.now lanes.old lanes.new result }
+    ensures { FollowsSchedule schedule.now lanes.old lanes.new result }
 {
     for k in schedule {
         if take_at(lanes, *k as usize).is_err() {
@@ -83,8 +84,8 @@ fn take_at<R: Source + Drop>(
 ) -> Result<(), NoMemory>
     requires few { HaveFewTaken lanes.old }
     ensures few { HaveFewTaken lanes.new }
-    ensures goes { AsksLane (OnOk result) k lanes.old lanes.new }
-    ensures refused { RefusesLane (OnErr result) k lanes.old lanes.new }
+    ensures goes { OnOk result (AskLanes (one_more k) none lanes.old lanes.new) }
+    ensures refused { OnErr result (AskLanes (λ asked. asked) (only k) lanes.old lanes.new) }
 {
     if k >= lanes.len() {
         return Ok(());

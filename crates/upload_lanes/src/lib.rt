@@ -16,13 +16,11 @@ mod alone;
 mod in_turn;
 
 // Lanes on threads.
-mod collected;
 mod gate;
-mod group;
-mod groups;
 mod halt;
 mod heap;
 mod parties;
+mod party;
 mod recorder;
 mod sent;
 mod threads;

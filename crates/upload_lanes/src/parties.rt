@@ -1,112 +1,119 @@
-//! The parties of a round's lanes: what each recorder and its lanes' uploaders are given.
-ghost use Rattle.std.specs.Prelude.{ℕ, ◌≡◌, ◌≤◌, length, map, slice_get, Some, IfOk};
+//! The parties of all recorders of a round.
+ghost use Rattle.std.specs.Prelude.{ℕ, ◌≡◌, ◌≤◌, [], length, IfOk};
 ghost use Rattle.std.specs.List.{AllByRecursion};
-ghost use Rattle.lane_queue.specs.Limits.{AreLanes, max_lanes};
-ghost use Rattle.round_robin.specs.Dealt.{every};
-ghost use Rattle.upload_reader.specs.Upload.{IsUntouched};
-ghost use Rattle.upload_lanes.specs.inside.AllGroups.{ArePlaced, IsDealt, IsFreshLane, without_upload};
-ghost use Rattle.upload_lanes.specs.inside.Groups.{IsParty};
-ghost use Rattle.upload_lanes.specs.declared.group.Party.{Party};
+ghost use Rattle.std.specs.Vec.{vec_capacity};
+ghost use Rattle.lane_queue.specs.Limits.{max_items};
+ghost use Rattle.upload_lanes.specs.Threads.{both_stops};
+ghost use Rattle.upload_lanes.specs.inside.Party.{IsFreshHand, TakeEach, TakesParty};
+ghost use Rattle.upload_lanes.specs.inside.Party.{IsRunning, TakesByOne};
 
-use crate::gathered::LaneResult;
-use crate::group::Party;
-use crate::recorder::Duty;
-use crate::sent::Sent;
+use crate::gate::Gate;
+use crate::gathered::{LaneResult, Stop};
+use crate::halt::Halt;
+use crate::party::{Party, end_party, join_party, start_party};
 use byte_streams::Source;
-use lane_queue::{LaneQueue, Room};
-use round_robin::deal;
+use lane_queue::Room;
 use std::alloc::{AllocError, Global};
-use upload_reader::{Client, Upload};
+use std::sync::Wait;
+use std::thread;
+use std::thread::{Scope, Threads};
+use upload_reader::Client;
 
-/// Lanes without their uploads, and these.
-#[derive(Drop)]
-struct Parts<R: Source> {
-    lanes: Vec<(Client, LaneResult<R>)>,
-    uploads: Vec<Upload<R>>,
-}
-
-// Lanes of which nothing was taken.
-fn part<R: Source + Drop>(
+/// Takes each hand of lanes by a party of its own, side by side.
+pub(crate) fn take_hands<H: Halt, R: Source + Drop + Send, T: Threads + Wait + Sync>(
+    rt: &T,
     alloc: Global,
-    lanes: Vec<(Client, LaneResult<R>)>,
-) -> Result<Parts<R>, AllocError>
-    requires { AllByRecursion IsFreshLane lanes.items }
-    ensures lanes { IfOk result (λ parts. parts.lanes.items ≡ map without_upload lanes.items) }
-    ensures uploads { IfOk result (λ parts. map Some parts.uploads.items ≡ map (λ lane. lane.1.upload) lanes.items) }
-    ensures untouched { IfOk result (λ parts. AllByRecursion IsUntouched parts.uploads.items) }
-{
-    let mut rest = Vec::with_capacity(alloc, lanes.len())?;
-    let mut uploads = Vec::with_capacity(alloc, lanes.len())?;
-    for (client, lane) in lanes {
-        let LaneResult {
-            log,
-            taken,
-            end,
-            upload,
-        } = lane;
-        uploads.push_reserved(upload.unwrap());
-        let lane = LaneResult {
-            log,
-            taken,
-            end,
-            upload: None,
-        };
-        rest.push_reserved((client, lane));
-    }
-    Ok(Parts {
-        lanes: rest,
-        uploads,
-    })
-}
-
-/// A queue for these lanes, and their party.
-fn make_party<R: Source + Drop>(
-    alloc: Global,
-    lanes: Vec<(Client, LaneResult<R>)>,
+    hands: Vec<Vec<(Client, LaneResult<R>)>>,
     room: Room,
-) -> Result<(LaneQueue<Sent>, Party<R>), AllocError>
-    requires fresh { AllByRecursion IsFreshLane lanes.items }
-    requires lanes { AreLanes (length lanes.items) }
-    ensures party { IfOk result (λ made. IsParty made.0 made.1) }
-    ensures dealt { IfOk result (λ made. IsDealt lanes.items made.1) }
+    halt: &H,
+) -> Result<(Vec<Vec<(Client, LaneResult<R>)>>, Stop), AllocError>
+    requires fresh { AllByRecursion IsFreshHand hands.items }
+    requires halt { (n : ℕ) → n ≤ max_items → H.may halt.now n }
+    ensures { IfOk result (λ all.
+        TakeEach (λ hand. TakesByOne (H.allows halt.now) hand.items) hands.items all.0.items all.1) }
 {
-    let count = lanes.len() as u32;
-    let Parts { lanes, uploads } = part(alloc, lanes)?;
-    match LaneQueue::open(alloc, count, room) {
-        Err(_) => Err(AllocError),
-        Ok((queue, taker, putters)) => {
-            let party = Party {
-                duty: Duty { taker, lanes },
-                putters,
-                uploads,
-            };
-            Ok((queue, party))
+    let gate = &Gate::new();
+    thread::scope(
+        thread::scope_env(),
+        rt,
+        move |scope| -> Result<(Vec<Vec<(Client, LaneResult<R>)>>, Stop), AllocError>
+            requires { AllByRecursion IsFreshHand hands.items × ((n : ℕ) → n ≤ max_items → H.may halt.now n) }
+            ensures { IfOk result (λ all.
+                TakeEach (λ hand. TakesByOne (H.allows halt.entry.now) hand.items) hands.items all.0.items all.1) }
+        { run_parties(scope, rt, alloc, hands, room, gate, halt) },
+    )
+}
+
+// Starts all parties, opens the gate, and joins them. Where one can't be started, the gate is shut, and all end at once.
+fn run_parties<'s, E, H: Halt + 's, R: Source + Drop + Send + 's, T: Threads + Wait + Sync>(
+    scope: &Scope<'s, E>,
+    rt: &'s T,
+    alloc: Global,
+    hands: Vec<Vec<(Client, LaneResult<R>)>>,
+    room: Room,
+    gate: &'s Gate,
+    halt: &'s H,
+) -> Result<(Vec<Vec<(Client, LaneResult<R>)>>, Stop), AllocError>
+    requires fresh { AllByRecursion IsFreshHand hands.items }
+    requires halt { (n : ℕ) → n ≤ max_items → H.may halt.now n }
+    ensures { IfOk result (λ all.
+        TakeEach (λ hand. TakesByOne (H.allows halt.now) hand.items) hands.items all.0.items all.1) }
+{
+    let taken = Vec::with_capacity(alloc, hands.len())?;
+    let mut parties = Vec::with_capacity(alloc, hands.len())?;
+    for hand in hands {
+        match start_party(scope, rt, alloc, hand, room, gate, halt) {
+            Ok(party) => parties.push_reserved(party),
+            Err(refused) => {
+                gate.shut(rt);
+                end_parties(rt, parties);
+                return Err(refused);
+            }
         }
     }
+    gate.open(rt);
+    Ok(join_parties(rt, parties, taken))
 }
 
-/// A queue and a party for each of so many recorders: lane k goes to recorder k modulo their number.
-pub(crate) fn make_parties<R: Source + Drop>(
-    alloc: Global,
-    lanes: Vec<(Client, LaneResult<R>)>,
-    recorders: usize,
-    room: Room,
-) -> Result<(Vec<LaneQueue<Sent>>, Vec<Party<R>>), AllocError>
-    requires fresh { AllByRecursion IsFreshLane lanes.items }
-    requires recorders { (1 ≤ recorders) × (recorders ≤ length lanes.items) }
-    requires few { length lanes.items ≤ max_lanes }
-    ensures placed { IfOk result (λ made. ArePlaced IsParty made.0.items made.1.items) }
-    ensures count { IfOk result (λ made. length made.1.items ≡ recorders) }
-    ensures dealt { IfOk result (λ made. (g : ℕ) (party : Party R) → slice_get made.1.items g ≡ Some party
-        → IsDealt (every recorders g lanes.items) party) }
+fn end_parties<H: Halt, R: Source + Drop, T: Threads + Wait>(rt: &T, parties: Vec<Party<H, R>>)
+    requires { AllByRecursion IsRunning parties.items }
 {
-    let hands = deal(alloc, lanes, recorders)?;
-    let mut queues = Vec::with_capacity(alloc, recorders)?;
-    let mut parties = Vec::with_capacity(alloc, recorders)?;
-    for hand in hands {
-        let (queue, party) = make_party(alloc, hand, room)?;
-        queues.push_reserved(queue);
-        parties.push_reserved(party);
+    for party in parties {
+        end_party(rt, party);
     }
-    Ok((queues, parties))
+}
+
+// What was taken of each hand, and why the taking stopped.
+fn join_parties<H: Halt, R: Source + Drop, T: Threads + Wait>(
+    rt: &T,
+    parties: Vec<Party<H, R>>,
+    taken: Vec<Vec<(Client, LaneResult<R>)>>,
+) -> (Vec<Vec<(Client, LaneResult<R>)>>, Stop)
+    requires running { AllByRecursion IsRunning parties.items }
+    requires none { taken.items ≡ [] }
+    requires room { length parties.items ≤ vec_capacity taken }
+    ensures { TakeEach (TakesParty H.allows) parties.items result.0.items result.1 }
+{
+    let mut taken = taken;
+    let mut all = Stop::None;
+    for party in parties {
+        let (lanes, stop) = join_party(rt, party);
+        taken.push_reserved(lanes);
+        all = both_stops(all, stop);
+    }
+    (taken, all)
+}
+
+// Why the taking stopped by these two.
+fn both_stops(a: Stop, b: Stop) -> Stop
+    ensures { result ≡ both_stops a b }
+{
+    match a {
+        Stop::Memory => Stop::Memory,
+        Stop::None => b,
+        Stop::Asked => match b {
+            Stop::Memory => Stop::Memory,
+            Stop::None | Stop::Asked => Stop::Asked,
+        },
+    }
 }

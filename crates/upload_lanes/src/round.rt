@@ -1,10 +1,11 @@
 //! What all rounds have in common: how one begins, and what it leaves.
-ghost use Rattle.std.specs.Prelude.{◌≡◌, ◌+◌, ◌≤◌, ◌<◌, length, map, bytes_eq, IfOk, IfErr};
+ghost use Rattle.std.specs.Prelude.{◌≡◌, ◌+◌, ◌≤◌, ◌<◌, length, map, bytes_eq, slice_get, Some, IfOk, IfErr};
 ghost use Rattle.std.specs.List.{AllByRecursion};
-ghost use Rattle.indexmap.specs.IndexMap.{get, spare, insert_entry, insert_all, IsUnchanged};
+ghost use Rattle.indexmap.specs.IndexMap.{get, spare, insert_entry, insert_all, set_value_at, IsUnchanged};
 ghost use Rattle.upload_reader.specs.Upload.{IsUntouched};
-ghost use Rattle.upload_lanes.specs.Round.{IsNoRound, resumed, rested};
-ghost use Rattle.upload_lanes.specs.inside.Lanes.{new_lane, begun_lane, rested_at, BeginsRound};
+ghost use Rattle.upload_lanes.specs.Round.{IsRound, IsNoRound, resumed, rested, all_rested};
+ghost use Rattle.upload_lanes.specs.inside.Lanes.{new_lane, begun_lane};
+ghost use Rattle.upload_lanes.specs.declared.gathered.LaneResult.{LaneResult};
 
 use crate::checks::check_round;
 use crate::fault::GatherFault;
@@ -25,8 +26,9 @@ pub(crate) fn begin_round<R: Source + Drop>(
 ) -> Result<Vec<(Client, LaneResult<R>)>, GatherFault>
     requires untouched { AllByRecursion IsUntouched uploads.items }
     ensures same { IsUnchanged clients.old clients.new }
-    ensures ok { IfOk result (λ lanes. BeginsRound (get bytes_eq clients.old) quota uploads.items
-        (spare clients.new) lanes.items) }
+    ensures round { IfOk result (λ _. IsRound uploads.items) }
+    ensures lanes { IfOk result (λ lanes. lanes.items ≡ map (begun_lane (get bytes_eq clients.old) quota) uploads.items) }
+    ensures room { IfOk result (λ lanes. length lanes.items ≤ spare clients.new) }
     ensures refused { IfErr result (IsNoRound uploads.items) }
 {
     check_round(uploads.as_slice())?;
@@ -95,7 +97,7 @@ fn new_lane<R: Source + Drop>(log: ClientLog, upload: Upload<R>) -> LaneResult<R
 
 /// What a later round leaves of the lanes of the earlier ones.
 pub(crate) fn rest_all<R: Source + Drop>(clients: &mut IndexMap<Client, LaneResult<R>>)
-    ensures rested { clients.new.entries ≡ map (λ entry. (entry.0, rested entry.1)) clients.old.entries }
+    ensures rested { clients.new.entries ≡ all_rested clients.old.entries }
     ensures room { spare clients.old ≤ spare clients.new }
 {
     for k in 0..clients.len() {
@@ -104,7 +106,8 @@ pub(crate) fn rest_all<R: Source + Drop>(clients: &mut IndexMap<Client, LaneResu
 }
 
 fn rest_at<R: Source + Drop>(clients: &mut IndexMap<Client, LaneResult<R>>, k: usize)
-    ensures entries { clients.new.entries ≡ rested_at k clients.old.entries }
+    ensures entries { (lane : LaneResult R) → slice_get (map (λ entry. entry.1) clients.old.entries) k ≡ Some lane
+        → clients.new.entries ≡ set_value_at clients.old.entries k (rested lane) }
     ensures room { spare clients.new ≡ spare clients.old }
 {
     if let Some(lane) = clients.get_index_mut(k) {

@@ -1,26 +1,24 @@
 //! Lanes on threads: an uploader for each, and up to four recorders.
-ghost use Rattle.std.specs.Prelude.{ℕ, ◌≡◌, ◌≤◌, ◌^◌, length, bytes_eq, IfOk, IfErr};
+ghost use Rattle.std.specs.Prelude.{ℕ, ◌≡◌, ◌≤◌, length, bytes_eq, IfOk, IfErr};
 ghost use Rattle.std.specs.List.{AllByRecursion};
 ghost use Rattle.indexmap.specs.IndexMap.{get, spare, IsUnchanged};
-ghost use Rattle.lane_queue.specs.Limits.{AreLanes};
+ghost use Rattle.lane_queue.specs.Limits.{AreLanes, max_items};
 ghost use Rattle.upload_reader.specs.Upload.{IsUntouched};
-ghost use Rattle.upload_lanes.specs.Round.{IsNoRound, RefusesRound};
-ghost use Rattle.upload_lanes.specs.Threads.{recorders_of, Gathers, GathersFirst};
-ghost use Rattle.upload_lanes.specs.inside.AllGroups.{IsFreshLane};
-ghost use Rattle.upload_lanes.specs.inside.Lanes.{TakeBegun, TakesRound};
+ghost use Rattle.upload_lanes.specs.Round.{IsRound, IsNoRound, RefusesRound};
+ghost use Rattle.upload_lanes.specs.Threads.{recorders_of, AreTaken, Gathers, GathersFirst};
+ghost use Rattle.upload_lanes.specs.inside.Lanes.{IsFreshLane, TakeLanes};
 
 use crate::alone::take_only;
-use crate::collected::collect_groups;
 use crate::fault::{GatherFault, RefusedRound};
 use crate::gathered::{Gathered, LaneResult, Stop};
-use crate::groups::run_groups;
 use crate::halt::{Asks, Halt};
-use crate::parties::make_parties;
+use crate::parties::take_hands;
 use crate::round::{begin_round, put_back, rest_all};
 use byte_streams::Source;
 use client_log::Quota;
 use indexmap::IndexMap;
 use lane_queue::Room;
+use round_robin::{collect, deal};
 use std::alloc::{AllocError, Global};
 use std::sync::Wait;
 use std::thread::Threads;
@@ -46,7 +44,7 @@ pub fn gather<
     halt: &H,
 ) -> Result<Gathered<R>, GatherFault>
     requires untouched { AllByRecursion IsUntouched uploads.items }
-    requires halt { (n : ℕ) → n ≤ 2 ^ 61 → H.pre halt.now n }
+    requires halt { (n : ℕ) → n ≤ max_items → H.pre halt.now n }
     ensures ok { IfOk result (GathersFirst (H.post halt.now) uploads.items quota) }
     ensures refused { IfErr result (IsNoRound uploads.items) }
 {
@@ -71,7 +69,7 @@ pub fn gather_again<
     halt: &H,
 ) -> Result<Gathered<R>, RefusedRound<R>>
     requires untouched { AllByRecursion IsUntouched uploads.items }
-    requires halt { (n : ℕ) → n ≤ 2 ^ 61 → H.pre halt.now n }
+    requires halt { (n : ℕ) → n ≤ max_items → H.pre halt.now n }
     ensures ok { IfOk result (λ gathered. Gathers (H.post halt.now) earlier uploads.items quota gathered) }
     ensures refused { IfErr result (λ again. RefusesRound earlier uploads.items again.fault again.earlier) }
 {
@@ -106,17 +104,19 @@ fn take_round<H: Halt, R: Source + Drop + Send, T: Threads + Wait + Sync>(
     halt: &H,
 ) -> Result<(Vec<(Client, LaneResult<R>)>, Stop), GatherFault>
     requires untouched { AllByRecursion IsUntouched uploads.items }
-    requires halt { (n : ℕ) → n ≤ 2 ^ 61 → H.may halt.now n }
+    requires halt { (n : ℕ) → n ≤ max_items → H.may halt.now n }
     ensures same { IsUnchanged clients.old clients.new }
-    ensures ok { IfOk result (λ taken. TakesRound (H.allows halt.now) (get bytes_eq clients.old) quota uploads.items
-        (spare clients.new) (taken.0.items, taken.1)) }
+    ensures round { IfOk result (λ _. IsRound uploads.items) }
+    ensures taken { IfOk result (λ taken.
+        AreTaken (H.allows halt.now) (get bytes_eq clients.old) quota uploads.items taken.0.items taken.1) }
+    ensures room { IfOk result (λ taken. length taken.0.items ≤ spare clients.new) }
     ensures refused { IfErr result (IsNoRound uploads.items) }
 {
     let lanes = begin_round(alloc, clients, uploads, quota)?;
     Ok(take_lanes(rt, alloc, lanes, room, halt)?)
 }
 
-// Takes these lanes, of which nothing was taken.
+// Takes these lanes, side by side where there are more than one.
 fn take_lanes<H: Halt, R: Source + Drop + Send, T: Threads + Wait + Sync>(
     rt: &T,
     alloc: Global,
@@ -126,35 +126,17 @@ fn take_lanes<H: Halt, R: Source + Drop + Send, T: Threads + Wait + Sync>(
 ) -> Result<(Vec<(Client, LaneResult<R>)>, Stop), AllocError>
     requires fresh { AllByRecursion IsFreshLane lanes.items }
     requires lanes { AreLanes (length lanes.items) }
-    requires halt { (n : ℕ) → n ≤ 2 ^ 61 → H.may halt.now n }
-    ensures { IfOk result (λ taken. TakeBegun (H.allows halt.now) lanes.items taken.0.items taken.1) }
+    requires halt { (n : ℕ) → n ≤ max_items → H.may halt.now n }
+    ensures { IfOk result (λ taken. TakeLanes (H.allows halt.now) lanes.items taken.0.items taken.1) }
 {
     if lanes.len() == 1 {
         return Ok(take_only(rt, lanes, halt));
     }
-    take_beside(rt, alloc, lanes, room, halt)
-}
-
-// Takes them side by side.
-fn take_beside<H: Halt, R: Source + Drop + Send, T: Threads + Wait + Sync>(
-    rt: &T,
-    alloc: Global,
-    lanes: Vec<(Client, LaneResult<R>)>,
-    room: Room,
-    halt: &H,
-) -> Result<(Vec<(Client, LaneResult<R>)>, Stop), AllocError>
-    requires fresh { AllByRecursion IsFreshLane lanes.items }
-    requires lanes { AreLanes (length lanes.items) }
-    requires halt { (n : ℕ) → n ≤ 2 ^ 61 → H.may halt.now n }
-    ensures { IfOk result (λ taken. TakeBegun (H.allows halt.now) lanes.items taken.0.items taken.1) }
-{
     let count = lanes.len();
-    let recorders = recorders_of(count);
-    let collected = Vec::with_capacity(alloc, count)?;
-    let hands = Vec::with_capacity(alloc, recorders)?;
-    let (queues, parties) = make_parties(alloc, lanes, recorders, room)?;
-    let groups = run_groups(rt, alloc, queues.as_slice(), parties, halt)?;
-    Ok(collect_groups(groups, hands, collected, count))
+    let back = Vec::with_capacity(alloc, count)?;
+    let hands = deal(alloc, lanes, recorders_of(count))?;
+    let (taken, stop) = take_hands(rt, alloc, hands, room, halt)?;
+    Ok((collect(taken, back, count), stop))
 }
 
 fn recorders_of(lanes: usize) -> usize

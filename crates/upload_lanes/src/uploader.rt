@@ -1,5 +1,6 @@
 //! A lane's uploader: reads its upload, message by message, and puts each into the lane.
 ghost use Rattle.std.specs.Prelude.{◌≡◌, ◌≤◌, length, Bool, true, false, IfOk, MatchBool};
+ghost use Rattle.std.specs.Arc.{arc_value};
 ghost use Rattle.crossbeam_queue.specs.Passes.{view};
 ghost use Rattle.lane_queue.specs.Opened.{IsNewPutterOf};
 ghost use Rattle.lane_queue.specs.Queue.{IsPassOf};
@@ -15,7 +16,7 @@ use byte_streams::Source;
 use lane_queue::{LaneQueue, Put, Putter};
 use std::alloc::AllocError;
 use std::snapshot::Snapshot;
-use std::sync::Wait;
+use std::sync::{Arc, Wait};
 use std::thread::{Promise, PromisedHandle, Scope};
 use upload_reader::{Ending, Next, Upload};
 
@@ -45,30 +46,30 @@ impl<R: Source> Promise<Uploaded<R>> for Uploads<R> {
 pub(crate) fn start_upload<'s, E, R: Source + Drop + Send + 's, W: Wait + Sync>(
     scope: &Scope<'s, E>,
     rt: &'s W,
-    queue: &'s LaneQueue<Sent>,
+    queue: Arc<LaneQueue<Sent>>,
     gate: &'s Gate,
     putter: Putter<Sent>,
     upload: Upload<R>,
 ) -> Result<PromisedHandle<Uploaded<R>, Uploads<R>>, AllocError>
-    requires fresh { IsNewPutterOf queue.now putter }
+    requires fresh { IsNewPutterOf (arc_value queue) putter }
     requires untouched { IsUntouched upload }
-    ensures queue { IfOk result (λ handle. handle.promise.queue.value ≡ queue.now) }
+    ensures queue { IfOk result (λ handle. handle.promise.queue.value ≡ arc_value queue) }
     ensures putter { IfOk result (λ handle. handle.promise.putter.value ≡ putter) }
     ensures upload { IfOk result (λ handle. handle.promise.upload.value ≡ upload) }
 {
     let promise = Uploads {
-        queue: Snapshot::of(queue),
+        queue: Snapshot::of(&*queue),
         putter: Snapshot::of(&putter),
         upload: Snapshot::of(&upload),
     };
     let run = move || -> Uploaded<R>
-        requires { IsNewPutterOf queue.now putter × IsUntouched upload }
-        ensures { IsUploaded queue.entry.now (view putter).lane upload result }
-    { upload_once_open(rt, queue, gate, putter, upload) };
+        requires { IsNewPutterOf (arc_value queue) putter × IsUntouched upload }
+        ensures { IsUploaded (arc_value queue) (view putter).lane upload result }
+    { upload_once_open(rt, &*queue, gate, putter, upload) };
     Ok(scope.spawn_with(promise, run)?)
 }
 
-// Nothing is read where the gate is shut.
+// Reads nothing where the gate is shut.
 fn upload_once_open<R: Source + Drop, W: Wait>(
     rt: &W,
     queue: &LaneQueue<Sent>,

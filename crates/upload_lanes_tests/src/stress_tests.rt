@@ -3,9 +3,11 @@ ghost use Rattle.std.specs.Prelude.{IfOk};
 ghost use Rattle.std.specs.List.{AllByRecursion};
 ghost use Rattle.upload_reader.specs.Upload.{IsUntouched};
 
-use crate::tests::{Reader, add, told};
-use crate::thread_tests::{items_by_recorder, many, take_until};
-use byte_streams::{Fed, Lines};
+use crate::tests::{
+    BYE, CLICK, END, LOAD, Reader, THREE_CLICKS, add_lines, begin, client_name, hello, many, told,
+};
+use crate::thread_tests::{are_whole, is_whole, items_by_recorder, take_until};
+use byte_streams::Fed;
 use client_log::{Quota, Visit};
 use lane_queue::Room;
 use std::alloc::{AllocError, Global};
@@ -40,10 +42,12 @@ fn schedule_of(alloc: Global, gathered: &Gathered<Reader>) -> Result<Vec<u32>, A
     Ok(schedule)
 }
 
+fn visit_text(alloc: Global, visit: &Visit) -> Result<String, AllocError> {
+    format!(in alloc; "{visit:?}")
+}
+
 fn is_same_visit(alloc: Global, a: &Visit, b: &Visit) -> Result<bool, AllocError> {
-    let a = format!(in alloc; "{a:?}")?;
-    let b = format!(in alloc; "{b:?}")?;
-    Ok(a.as_str() == b.as_str())
+    Ok(visit_text(alloc, a)?.as_str() == visit_text(alloc, b)?.as_str())
 }
 
 // Whether their logs keep the same.
@@ -120,19 +124,20 @@ fn add_visit(text: &mut String, lane: u32, visit: u32) -> Result<(), AllocError>
 }
 
 // So many visits.
-fn long_upload(alloc: Global, lane: u32, visits: u32) -> Result<Upload<Reader>, Fail>
-    ensures { IfOk result IsUntouched }
-{
-    let mut text = format!(in alloc; "{{\"t\":\"hello\",\"client\":\"c{lane}\"}}\n")?;
+fn long_text(alloc: Global, lane: u32, visits: u32) -> Result<String, AllocError> {
+    let mut text = hello(alloc, client_name(alloc, lane)?.as_str())?;
     for visit in 0..visits {
         add_visit(&mut text, lane, visit.wrapping_add(1))?;
     }
-    text.push_str("{\"t\":\"bye\"}\n")?;
-    let reader = Fed::new(Drip::new(alloc, text.as_bytes(), 8_192)?);
-    match Upload::hello(alloc, Lines::over(alloc, reader)?) {
-        Ok(upload) => Ok(upload),
-        Err(refused) => Err(Fail::from(refused.fault)),
-    }
+    add_lines(&mut text, &[BYE])?;
+    Ok(text)
+}
+
+fn long_upload(alloc: Global, lane: u32, visits: u32) -> Result<Upload<Reader>, Fail>
+    ensures { IfOk result IsUntouched }
+{
+    let text = long_text(alloc, lane, visits)?;
+    begin(alloc, Fed::new(Drip::new(alloc, text.as_bytes(), 8_192)?))
 }
 
 fn long_uploads(alloc: Global, visits: u32) -> Result<Vec<Upload<Reader>>, Fail>
@@ -140,7 +145,7 @@ fn long_uploads(alloc: Global, visits: u32) -> Result<Vec<Upload<Reader>>, Fail>
 {
     let mut uploads = Vec::new(alloc);
     for lane in 0..LANES {
-        add(&mut uploads, long_upload(alloc, lane, visits)?)?;
+        uploads.push(long_upload(alloc, lane, visits)?)?;
     }
     Ok(uploads)
 }
@@ -163,12 +168,7 @@ fn long_lanes_go<T: AllocGlobal + Threads + Wait + Abort + Sync>(
 fn many_messages_come_as_in_turn(rt: HostRuntime) -> Result<(), Fail> {
     for room in [1, 64] {
         let gathered = long_lanes_go(&rt, 200, room, u64::MAX)?;
-        assert_eq!(rt; gathered.stop, Stop::None);
-        assert_eq!(rt; gathered.clients.len(), 16);
-        for lane in gathered.clients.values() {
-            assert_eq!(rt; lane.taken, 20_000);
-            assert_eq!(rt; lane.end, Some(Ending::Over(LaneEnd::Bye)));
-        }
+        are_whole(&rt, &gathered, 16, 20_000);
     }
     Ok(())
 }
@@ -187,6 +187,8 @@ fn many_messages_stop_as_in_turn(rt: HostRuntime) -> Result<(), Fail> {
 
 // ---- stops at each number of items
 
+const TWO_CLICKS: &[&str] = &[LOAD, CLICK, CLICK, END, BYE];
+
 // Six lanes of five items: the first two recorders have two lanes, and the others one.
 fn stops_at<T: AllocGlobal + Threads + Wait + Abort + Sync>(
     rt: &T,
@@ -194,8 +196,8 @@ fn stops_at<T: AllocGlobal + Threads + Wait + Abort + Sync>(
     items: u64,
 ) -> Result<(), Fail> {
     let alloc = rt.alloc();
-    let gathered = take_until(rt, many(alloc, 6, 2)?, room, items)?;
-    let want = in_turn(alloc, many(alloc, 6, 2)?, &gathered)?;
+    let gathered = take_until(rt, many(alloc, 6, TWO_CLICKS)?, room, items)?;
+    let want = in_turn(alloc, many(alloc, 6, TWO_CLICKS)?, &gathered)?;
     are_same(rt, alloc, &gathered, &want)?;
     let two = items.min(10);
     let one = items.min(5);
@@ -217,32 +219,41 @@ fn each_stop_comes_as_in_turn(rt: HostRuntime) -> Result<(), Fail> {
 
 // ---- want of memory
 
-fn is_whole(lane: &LaneResult<Reader>) -> bool {
-    lane.end == Some(Ending::Over(LaneEnd::Bye)) && lane.taken == 5
+// A lane gave up, or came to its end, or a recorder stopped.
+fn ended_or_gave_up(rt: &impl Abort, lane: &LaneResult<Reader>, stop: Stop) {
+    match lane.end {
+        Some(Ending::GaveUp) => {}
+        Some(_) => is_whole(rt, lane, 5),
+        None => assert!(rt; stop == Stop::Memory),
+    }
 }
 
-// Three lanes, each with a recorder. With ample memory all come to their ends. Where an allocation is refused there is no round, or a lane gives up, or a
+// What is counted is what is kept.
+fn keeps_what_is_counted(
+    rt: &impl Abort,
+    alloc: Global,
+    gathered: &Gathered<Reader>,
+) -> Result<(), Fail> {
+    let want = in_turn(alloc, many(alloc, 3, THREE_CLICKS)?, gathered)?;
+    assert!(rt; have_same_logs(alloc, gathered, &want)?);
+    for lane in gathered.clients.values() {
+        ended_or_gave_up(rt, lane, gathered.stop);
+    }
+    Ok(())
+}
+
+// Three lanes, each with a recorder. With ample memory all come to their ends. Where an allocation is refused there is no round (G3), or a lane gives up, or a
 // recorder stops. The others go on to their ends, and what is counted is what is kept.
 #[test]
 fn want_of_memory_ends_a_lane_or_a_recorder(rt: HostRuntime) -> Result<(), Fail> {
-    let alloc = rt.alloc();
-    let uploads = many(alloc, 3, 3)?;
     let quota = Quota::new(1_048_576)?;
     let room = Room::new(2)?;
     let halt = |_items: u64| -> bool { false };
-    match gather(&rt, uploads, quota, room, &halt) {
-        Err(fault) => assert_eq!(rt; fault, GatherFault::NoMemory),
-        Ok(gathered) => {
-            let want = in_turn(alloc, many(alloc, 3, 3)?, &gathered)?;
-            assert!(rt; have_same_logs(alloc, &gathered, &want)?);
-            for lane in gathered.clients.values() {
-                match lane.end {
-                    Some(Ending::GaveUp) => {}
-                    Some(_) => assert!(rt; is_whole(lane)),
-                    None => assert!(rt; gathered.stop == Stop::Memory),
-                }
-            }
+    match gather(&rt, many(rt.alloc(), 3, THREE_CLICKS)?, quota, room, &halt) {
+        Err(fault) => {
+            assert_eq!(rt; fault, GatherFault::NoMemory);
+            Ok(())
         }
+        Ok(gathered) => keeps_what_is_counted(&rt, rt.alloc(), &gathered),
     }
-    Ok(())
 }

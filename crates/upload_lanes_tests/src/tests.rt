@@ -1,19 +1,22 @@
-ghost use Rattle.std.specs.Prelude.{IfOk, OnOk};
+ghost use Rattle.std.specs.Prelude.{IfOk};
 ghost use Rattle.std.specs.List.{AllByRecursion};
 ghost use Rattle.upload_reader.specs.Upload.{IsUntouched};
 
-use byte_streams::{Fed, Lines};
+use byte_streams::{Fed, Lines, Source};
 use client_log::{ClientLog, Quota};
 use std::alloc::{AllocError, Global};
 use std::process::Abort;
 use std::test::Fail;
 use stream_fakes::Drip;
 use upload_lanes::{
-    GatherFault, Gathered, RefusedRound, Stop, gather_again_in_order, gather_in_order,
+    GatherFault, Gathered, LaneResult, RefusedRound, Stop, gather_again_in_order, gather_in_order,
 };
 use upload_reader::{Ending, LaneEnd, Upload};
 
 pub(crate) type Reader = Fed<Drip>;
+
+// A client, and the lines of its upload behind the hello.
+pub(crate) type Lane<'a> = (&'a str, &'a [&'a str]);
 
 pub(crate) const LOAD: &str =
     r#"{"t":"load","visit":1,"at":1,"path":"/a","page":{"n":"html","c":[{"n":"body","c":[{"n":"a","a":{"href":"/b"},"c":["go"]}]}]}}"#;
@@ -24,56 +27,73 @@ pub(crate) const END: &str = r#"{"t":"end","visit":1,"at":3}"#;
 
 pub(crate) const BYE: &str = r#"{"t":"bye"}"#;
 
-pub(crate) const THREE_CLICKS: [&str; 6] = [LOAD, CLICK, CLICK, CLICK, END, BYE];
+pub(crate) const THREE_CLICKS: &[&str] = &[LOAD, CLICK, CLICK, CLICK, END, BYE];
 
-const ONE_CLICK: [&str; 4] = [LOAD, CLICK, END, BYE];
+pub(crate) const ONE_CLICK: &[&str] = &[LOAD, CLICK, END, BYE];
 
-pub(crate) fn upload(alloc: Global, client: &str, lines: &[&str]) -> Result<Upload<Reader>, Fail>
-    ensures { IfOk result IsUntouched }
-{
-    let mut text = format!(in alloc; "{{\"t\":\"hello\",\"client\":\"{client}\"}}\n")?;
+// ---- uploads
+
+pub(crate) fn hello(alloc: Global, client: &str) -> Result<String, AllocError> {
+    format!(in alloc; "{{\"t\":\"hello\",\"client\":\"{client}\"}}\n")
+}
+
+pub(crate) fn add_lines(text: &mut String, lines: &[&str]) -> Result<(), AllocError> {
     for line in lines {
         text.push_str(line)?;
         text.push_str("\n")?;
     }
-    let reader = Fed::new(Drip::new(alloc, text.as_bytes(), 50)?);
-    match Upload::hello(alloc, Lines::over(alloc, reader)?) {
-        Ok(upload) => Ok(upload),
-        Err(refused) => Err(Fail::from(refused.fault)),
-    }
-}
-
-pub(crate) fn add(uploads: &mut Vec<Upload<Reader>>, upload: Upload<Reader>) -> Result<(), Fail>
-    requires others { AllByRecursion IsUntouched uploads.old.items }
-    requires one { IsUntouched upload }
-    ensures { OnOk result (AllByRecursion IsUntouched uploads.new.items) }
-{
-    uploads.push(upload)?;
     Ok(())
 }
 
-fn one(alloc: Global, only: Upload<Reader>) -> Result<Vec<Upload<Reader>>, Fail>
-    requires { IsUntouched only }
+// Takes the hello.
+pub(crate) fn begin<R: Source + Drop>(alloc: Global, reader: R) -> Result<Upload<R>, Fail>
+    ensures { IfOk result IsUntouched }
+{
+    Upload::hello(alloc, Lines::over(alloc, reader)?).map_err(|refused| Fail::from(refused.fault))
+}
+
+fn upload(alloc: Global, lane: Lane<'_>) -> Result<Upload<Reader>, Fail>
+    ensures { IfOk result IsUntouched }
+{
+    let (client, lines) = lane;
+    let mut text = hello(alloc, client)?;
+    add_lines(&mut text, lines)?;
+    begin(alloc, Fed::new(Drip::new(alloc, text.as_bytes(), 50)?))
+}
+
+pub(crate) fn uploads(alloc: Global, lanes: &[Lane<'_>]) -> Result<Vec<Upload<Reader>>, Fail>
     ensures { IfOk result (λ uploads. AllByRecursion IsUntouched uploads.items) }
 {
     let mut uploads = Vec::new(alloc);
-    add(&mut uploads, only)?;
+    for &lane in lanes {
+        uploads.push(upload(alloc, lane)?)?;
+    }
     Ok(uploads)
 }
 
-fn pair(
-    alloc: Global,
-    first: Upload<Reader>,
-    second: Upload<Reader>,
-) -> Result<Vec<Upload<Reader>>, Fail>
-    requires first { IsUntouched first }
-    requires second { IsUntouched second }
+// The client of that number.
+pub(crate) fn client_name(alloc: Global, number: u32) -> Result<String, AllocError> {
+    format!(in alloc; "c{number}")
+}
+
+fn numbered(alloc: Global, number: u32, lines: &[&str]) -> Result<Upload<Reader>, Fail>
+    ensures { IfOk result IsUntouched }
+{
+    upload(alloc, (client_name(alloc, number)?.as_str(), lines))
+}
+
+// So many lanes with these lines, of the clients c1, c2 and so on.
+pub(crate) fn many(alloc: Global, count: u32, lines: &[&str]) -> Result<Vec<Upload<Reader>>, Fail>
     ensures { IfOk result (λ uploads. AllByRecursion IsUntouched uploads.items) }
 {
-    let mut uploads = one(alloc, first)?;
-    add(&mut uploads, second)?;
+    let mut uploads = Vec::new(alloc);
+    for lane in 0..count {
+        uploads.push(numbered(alloc, lane + 1, lines)?)?;
+    }
     Ok(uploads)
 }
+
+// ---- what was gathered
 
 // What its log keeps: for each visit its number, how many events it has, and whether it ended.
 fn add_visits(text: &mut String, log: &ClientLog) -> Result<(), AllocError> {
@@ -86,15 +106,18 @@ fn add_visits(text: &mut String, log: &ClientLog) -> Result<(), AllocError> {
     Ok(())
 }
 
+fn add_lane(text: &mut String, client: &str, lane: &LaneResult<Reader>) -> Result<(), AllocError> {
+    let taken = lane.taken;
+    let end = lane.end;
+    write!(text, "{client} taken {taken} end {end:?}")?;
+    add_visits(text, &lane.log)?;
+    text.push_str("; ")
+}
+
 pub(crate) fn told(alloc: Global, gathered: &Gathered<Reader>) -> Result<String, AllocError> {
     let mut text = String::new(alloc);
     for (client, lane) in gathered.clients.iter() {
-        let name = client.text();
-        let taken = lane.taken;
-        let end = lane.end;
-        write!(text, "{name} taken {taken} end {end:?}")?;
-        add_visits(&mut text, &lane.log)?;
-        text.push_str("; ")?;
+        add_lane(&mut text, client.text(), lane)?;
     }
     let stop = gathered.stop;
     write!(text, "stop {stop:?}")?;
@@ -112,113 +135,85 @@ pub(crate) fn tells(
     Ok(())
 }
 
+// ---- a round
+
 fn first_round(
     alloc: Global,
-    uploads: Vec<Upload<Reader>>,
+    lanes: &[Lane<'_>],
     schedule: &[u32],
-) -> Result<Gathered<Reader>, Fail>
-    requires { AllByRecursion IsUntouched uploads.items }
-{
-    gather_in_order(alloc, uploads, Quota::new(1_048_576)?, schedule).map_err(Fail::from)
-}
-
-fn later_round(
-    alloc: Global,
-    earlier: Gathered<Reader>,
-    uploads: Vec<Upload<Reader>>,
-    schedule: &[u32],
-) -> Result<Gathered<Reader>, Fail>
-    requires { AllByRecursion IsUntouched uploads.items }
-{
+) -> Result<Gathered<Reader>, Fail> {
     let quota = Quota::new(1_048_576)?;
-    gather_again_in_order(alloc, earlier, uploads, quota, schedule).map_err(|again| Fail::from(
-        again.fault,
-    ))
+    gather_in_order(alloc, uploads(alloc, lanes)?, quota, schedule).map_err(Fail::from)
 }
 
-// One lane of that stream under that schedule.
-fn one_goes(
+// These lanes under that schedule.
+fn go(
     rt: &impl Abort,
     alloc: Global,
-    lines: &[&str],
+    lanes: &[Lane<'_>],
     schedule: &[u32],
     want: &str,
 ) -> Result<(), Fail> {
-    let gathered = first_round(alloc, one(alloc, upload(alloc, "c1", lines)?)?, schedule)?;
-    tells(rt, alloc, &gathered, want)
+    tells(rt, alloc, &first_round(alloc, lanes, schedule)?, want)
 }
+
+const ONE_LANE: &[Lane] = &[("c1", THREE_CLICKS)];
+
+const SCHEDULES: &[(&[u32], &str)] = &[
+    (
+        &[0, 0, 0],
+        "c1 taken 3 end None visit 1 events 2 ended false; stop Asked",
+    ),
+    (
+        &[0, 0, 0, 0, 0, 0, 0],
+        "c1 taken 5 end Some(Over(Bye)) visit 1 events 3 ended true; stop None",
+    ),
+    (&[], "c1 taken 0 end None; stop Asked"),
+    // No lane has these numbers.
+    (
+        &[1, 16, 4_294_967_295, 0],
+        "c1 taken 1 end None visit 1 events 0 ended false; stop Asked",
+    ),
+    (
+        &[0, 0, 0, 0, 0],
+        "c1 taken 5 end None visit 1 events 3 ended true; stop Asked",
+    ),
+];
 
 #[test]
 fn takes_as_many_as_the_schedule_asks(rt: HostRuntime) -> Result<(), Fail> {
-    let alloc = rt.alloc();
-    let table: [(&[u32], &str); 5] = [
-        (
-            &[0, 0, 0],
-            "c1 taken 3 end None visit 1 events 2 ended false; stop Asked",
-        ),
-        (
-            &[0, 0, 0, 0, 0, 0, 0],
-            "c1 taken 5 end Some(Over(Bye)) visit 1 events 3 ended true; stop None",
-        ),
-        (&[], "c1 taken 0 end None; stop Asked"),
-        // No lane has these numbers.
-        (
-            &[1, 16, 4_294_967_295, 0],
-            "c1 taken 1 end None visit 1 events 0 ended false; stop Asked",
-        ),
-        (
-            &[0, 0, 0, 0, 0],
-            "c1 taken 5 end None visit 1 events 3 ended true; stop Asked",
-        ),
-    ];
-    for (schedule, want) in table {
-        one_goes(&rt, alloc, &THREE_CLICKS, schedule, want)?;
+    for &(schedule, want) in SCHEDULES {
+        go(&rt, rt.alloc(), ONE_LANE, schedule, want)?;
     }
     Ok(())
 }
 
-// Two lanes of that stream under that schedule.
-fn two_go(rt: &impl Abort, alloc: Global, schedule: &[u32], want: &str) -> Result<(), Fail> {
-    let first = upload(alloc, "c1", &ONE_CLICK)?;
-    let second = upload(alloc, "c2", &ONE_CLICK)?;
-    let gathered = first_round(alloc, pair(alloc, first, second)?, schedule)?;
-    tells(rt, alloc, &gathered, want)
-}
+const TWO_LANES: &[Lane] = &[("c1", ONE_CLICK), ("c2", ONE_CLICK)];
+
+const SCHEDULES_OF_TWO: &[(&[u32], &str)] = &[
+    (
+        &[1, 0, 1, 1, 1],
+        "c1 taken 1 end None visit 1 events 0 ended false; c2 taken 3 end Some(Over(Bye)) visit 1 events 1 ended true; stop Asked",
+    ),
+    (
+        &[1, 0, 1, 1, 1, 0],
+        "c1 taken 2 end None visit 1 events 1 ended false; c2 taken 3 end Some(Over(Bye)) visit 1 events 1 ended true; stop Asked",
+    ),
+    (
+        &[0, 0, 0, 0, 0, 1, 1, 1, 1, 1],
+        "c1 taken 3 end Some(Over(Bye)) visit 1 events 1 ended true; c2 taken 3 end Some(Over(Bye)) visit 1 events 1 ended true; stop None",
+    ),
+];
 
 #[test]
 fn lanes_go_on_by_themselves(rt: HostRuntime) -> Result<(), Fail> {
-    let alloc = rt.alloc();
-    two_go(
-        &rt,
-        alloc,
-        &[1, 0, 1, 1, 1],
-        "c1 taken 1 end None visit 1 events 0 ended false; c2 taken 3 end Some(Over(Bye)) visit 1 events 1 ended true; stop Asked",
-    )?;
-    two_go(
-        &rt,
-        alloc,
-        &[1, 0, 1, 1, 1, 0],
-        "c1 taken 2 end None visit 1 events 1 ended false; c2 taken 3 end Some(Over(Bye)) visit 1 events 1 ended true; stop Asked",
-    )?;
-    two_go(
-        &rt,
-        alloc,
-        &[0, 0, 0, 0, 0, 1, 1, 1, 1, 1],
-        "c1 taken 3 end Some(Over(Bye)) visit 1 events 1 ended true; c2 taken 3 end Some(Over(Bye)) visit 1 events 1 ended true; stop None",
-    )
+    for &(schedule, want) in SCHEDULES_OF_TWO {
+        go(&rt, rt.alloc(), TWO_LANES, schedule, want)?;
+    }
+    Ok(())
 }
 
-// So many lanes, each of a client of its own.
-fn lanes(alloc: Global, count: u32) -> Result<Vec<Upload<Reader>>, Fail>
-    ensures { IfOk result (λ uploads. AllByRecursion IsUntouched uploads.items) }
-{
-    let mut uploads = Vec::new(alloc);
-    for lane in 0..count {
-        let client = format!(in alloc; "c{lane}")?;
-        add(&mut uploads, upload(alloc, client.as_str(), &[BYE])?)?;
-    }
-    Ok(uploads)
-}
+// ---- rounds that are refused
 
 fn fault_of(alloc: Global, uploads: Vec<Upload<Reader>>) -> Result<Option<GatherFault>, Fail>
     requires { AllByRecursion IsUntouched uploads.items }
@@ -226,67 +221,93 @@ fn fault_of(alloc: Global, uploads: Vec<Upload<Reader>>) -> Result<Option<Gather
     Ok(gather_in_order(alloc, uploads, Quota::new(100)?, &[0]).err())
 }
 
+// The fault of a round with so many lanes.
+const COUNTS: &[(u32, Option<GatherFault>)] = &[
+    (0, Some(GatherFault::BadLanes)),
+    (1, None),
+    (16, None),
+    (17, Some(GatherFault::BadLanes)),
+];
+
+// G1
 #[test]
 fn refuses_no_lane_and_more_than_16(rt: HostRuntime) -> Result<(), Fail> {
-    let alloc = rt.alloc();
-    assert_eq!(rt;
-        fault_of(alloc, lanes(alloc, 0)?)?,
-        Some(GatherFault::BadLanes)
-    );
-    assert_eq!(rt; fault_of(alloc, lanes(alloc, 1)?)?, None);
-    assert_eq!(rt; fault_of(alloc, lanes(alloc, 16)?)?, None);
-    assert_eq!(rt;
-        fault_of(alloc, lanes(alloc, 17)?)?,
-        Some(GatherFault::BadLanes)
-    );
+    for &(lanes, want) in COUNTS {
+        let fault = fault_of(rt.alloc(), many(rt.alloc(), lanes, &[BYE])?)?;
+        assert_eq!(rt; fault, want);
+    }
     Ok(())
 }
 
+const C1_TWICE_AMONG_FOUR: &[Lane] = &[
+    ("c0", &[BYE]),
+    ("c1", &[BYE]),
+    ("c2", &[BYE]),
+    ("c1", ONE_CLICK),
+];
+
+// G2
 #[test]
 fn refuses_two_lanes_of_a_client(rt: HostRuntime) -> Result<(), Fail> {
     let alloc = rt.alloc();
-    let mut uploads = lanes(alloc, 3)?;
-    add(&mut uploads, upload(alloc, "c1", &ONE_CLICK)?)?;
-    assert_eq!(rt;
-        fault_of(alloc, uploads)?,
-        Some(GatherFault::DuplicateClient)
-    );
+    let fault = fault_of(alloc, uploads(alloc, C1_TWICE_AMONG_FOUR)?)?;
+    assert_eq!(rt; fault, Some(GatherFault::DuplicateClient));
     let code = format!(in alloc; "{}", GatherFault::DuplicateClient)?;
     assert_eq!(rt; code.as_str(), "G2");
     Ok(())
 }
 
+// ---- later rounds
+
 // The first three messages of c1 were taken.
 fn after_three(alloc: Global) -> Result<Gathered<Reader>, Fail> {
-    first_round(
-        alloc,
-        one(alloc, upload(alloc, "c1", &THREE_CLICKS)?)?,
-        &[0, 0, 0],
-    )
+    first_round(alloc, ONE_LANE, &[0, 0, 0])
 }
+
+fn later_round(
+    alloc: Global,
+    earlier: Gathered<Reader>,
+    lanes: &[Lane<'_>],
+    schedule: &[u32],
+) -> Result<Gathered<Reader>, Fail> {
+    let quota = Quota::new(1_048_576)?;
+    let again = gather_again_in_order(alloc, earlier, uploads(alloc, lanes)?, quota, schedule);
+    again.map_err(|again| Fail::from(again.fault))
+}
+
+// These lanes in the round after those three messages.
+fn then_go(
+    rt: &impl Abort,
+    alloc: Global,
+    lanes: &[Lane<'_>],
+    schedule: &[u32],
+    want: &str,
+) -> Result<(), Fail> {
+    let gathered = later_round(alloc, after_three(alloc)?, lanes, schedule)?;
+    tells(rt, alloc, &gathered, want)
+}
+
+// What c1 sends behind those three.
+pub(crate) const REST: &[Lane] = &[("c1", &[CLICK, END, BYE])];
 
 #[test]
 fn a_later_round_goes_on_behind_what_was_taken(rt: HostRuntime) -> Result<(), Fail> {
-    let alloc = rt.alloc();
-    let again = one(alloc, upload(alloc, "c1", &[CLICK, END, BYE])?)?;
-    let gathered = later_round(alloc, after_three(alloc)?, again, &[0, 0, 0])?;
-    tells(
+    then_go(
         &rt,
-        alloc,
-        &gathered,
+        rt.alloc(),
+        REST,
+        &[0, 0, 0],
         "c1 taken 2 end Some(Over(Bye)) visit 1 events 3 ended true; stop None",
     )
 }
 
 #[test]
 fn a_visit_is_not_loaded_again_in_a_later_round(rt: HostRuntime) -> Result<(), Fail> {
-    let alloc = rt.alloc();
-    let again = one(alloc, upload(alloc, "c1", &THREE_CLICKS)?)?;
-    let gathered = later_round(alloc, after_three(alloc)?, again, &[0, 0, 0])?;
-    tells(
+    then_go(
         &rt,
-        alloc,
-        &gathered,
+        rt.alloc(),
+        ONE_LANE,
+        &[0, 0, 0],
         "c1 taken 0 end Some(Over(Fault { line: 2, kind: BadSession(VisitOrder) })) visit 1 events 2 ended false; stop None",
     )
 }
@@ -294,8 +315,12 @@ fn a_visit_is_not_loaded_again_in_a_later_round(rt: HostRuntime) -> Result<(), F
 #[test]
 fn a_client_without_a_lane_keeps_its_log(rt: HostRuntime) -> Result<(), Fail> {
     let alloc = rt.alloc();
-    let other = one(alloc, upload(alloc, "c2", &ONE_CLICK)?)?;
-    let second = later_round(alloc, after_three(alloc)?, other, &[0, 0, 0, 0])?;
+    let second = later_round(
+        alloc,
+        after_three(alloc)?,
+        &[("c2", ONE_CLICK)],
+        &[0, 0, 0, 0],
+    )?;
     tells(
         &rt,
         alloc,
@@ -303,35 +328,56 @@ fn a_client_without_a_lane_keeps_its_log(rt: HostRuntime) -> Result<(), Fail> {
         "c1 taken 0 end None visit 1 events 2 ended false; c2 taken 3 end Some(Over(Bye)) visit 1 events 1 ended true; stop None",
     )?;
     // In the third round it goes on where it was.
-    let again = one(alloc, upload(alloc, "c1", &[CLICK, END, BYE])?)?;
-    let third = later_round(alloc, second, again, &[0, 0])?;
     tells(
         &rt,
         alloc,
-        &third,
+        &later_round(alloc, second, REST, &[0, 0])?,
         "c1 taken 2 end None visit 1 events 3 ended true; c2 taken 0 end None visit 1 events 1 ended true; stop Asked",
     )
 }
 
-// A round behind three clients' in which one that is new comes before one that is known.
-fn new_before_known(alloc: Global) -> Result<Gathered<Reader>, Fail> {
-    let new = upload(alloc, "c0", &[BYE])?;
-    let known = upload(alloc, "c1", &[END, BYE])?;
-    let both = pair(alloc, new, known)?;
-    later_round(alloc, after_three(alloc)?, both, &[1])
-}
+// One that is new comes before one that is known.
+const NEW_BEFORE_KNOWN: &[Lane] = &[("c0", &[BYE]), ("c1", &[END, BYE])];
 
 #[test]
 fn known_clients_stand_before_new_ones(rt: HostRuntime) -> Result<(), Fail> {
-    let alloc = rt.alloc();
-    let gathered = new_before_known(alloc)?;
-    tells(
+    then_go(
         &rt,
-        alloc,
-        &gathered,
+        rt.alloc(),
+        NEW_BEFORE_KNOWN,
+        &[1],
         "c1 taken 1 end None visit 1 events 2 ended true; c0 taken 0 end None; stop Asked",
     )
 }
+
+// The round after those three messages had two lanes of one client.
+pub(crate) fn gives_back(
+    rt: &impl Abort,
+    alloc: Global,
+    again: &RefusedRound<Reader>,
+) -> Result<(), Fail> {
+    assert_eq!(rt; again.fault, GatherFault::DuplicateClient);
+    assert_eq!(rt; again.earlier.stop, Stop::Asked);
+    tells(
+        rt,
+        alloc,
+        &again.earlier,
+        "c1 taken 3 end None visit 1 events 2 ended false; stop Asked",
+    )
+}
+
+#[test]
+fn a_refused_round_gives_back_what_was_gathered(rt: HostRuntime) -> Result<(), Fail> {
+    let alloc = rt.alloc();
+    let quota = Quota::new(100)?;
+    let twice = uploads(alloc, &[("c1", &[BYE]), ("c1", &[BYE])])?;
+    match gather_again_in_order(alloc, after_three(alloc)?, twice, quota, &[0, 1]) {
+        Ok(_) => Err(Fail::from("two lanes of one client were taken")),
+        Err(again) => gives_back(&rt, alloc, &again),
+    }
+}
+
+// ---- want of memory
 
 // Whether the log keeps so many of its messages: the load, three clicks and the end.
 fn keeps(log: &ClientLog, taken: u64) -> bool {
@@ -344,46 +390,28 @@ fn keeps(log: &ClientLog, taken: u64) -> bool {
     }
 }
 
+// A lane gave up, or all its messages were taken, or the taking stopped. What is counted is what is kept.
+fn is_kept(rt: &impl Abort, lane: &LaneResult<Reader>, stop: Stop) {
+    assert!(rt; keeps(&lane.log, lane.taken));
+    match lane.end {
+        Some(Ending::GaveUp) => {}
+        Some(end) => assert!(rt; end == Ending::Over(LaneEnd::Bye) && lane.taken == 5),
+        None => assert!(rt; stop == Stop::Memory),
+    }
+}
+
 // Two lanes, each asked once more than it has messages. With ample memory both have their ends. Where an allocation of the round is refused, a lane gives up
 // and the other goes on to its end, or the taking stops, and what is counted is what is kept.
 #[test]
 fn want_of_memory_ends_a_lane_or_the_taking(rt: HostRuntime) -> Result<(), Fail> {
     let alloc = rt.alloc();
-    let first = upload(alloc, "c1", &THREE_CLICKS)?;
-    let second = upload(alloc, "c2", &THREE_CLICKS)?;
-    let uploads = pair(alloc, first, second)?;
     let quota = Quota::new(1_048_576)?;
+    let both = uploads(alloc, &[("c1", THREE_CLICKS), ("c2", THREE_CLICKS)])?;
     let schedule = [0, 1, 0, 1, 0, 1, 0, 1, 0, 1, 0, 1];
-    let Ok(gathered) = gather_in_order(alloc, uploads, quota, &schedule) else {
-        return Ok(());
-    };
-    for lane in gathered.clients.values() {
-        assert!(rt; keeps(&lane.log, lane.taken));
-        match lane.end {
-            Some(Ending::GaveUp) => {}
-            Some(end) => assert!(rt; end == Ending::Over(LaneEnd::Bye) && lane.taken == 5),
-            None => assert!(rt; gathered.stop == Stop::Memory),
+    if let Ok(gathered) = gather_in_order(alloc, both, quota, &schedule) {
+        for lane in gathered.clients.values() {
+            is_kept(&rt, lane, gathered.stop);
         }
     }
     Ok(())
-}
-
-#[test]
-fn a_refused_round_gives_back_what_was_gathered(rt: HostRuntime) -> Result<(), Fail> {
-    let alloc = rt.alloc();
-    let first = upload(alloc, "c1", &[BYE])?;
-    let twice = pair(alloc, first, upload(alloc, "c1", &[BYE])?)?;
-    let quota = Quota::new(100)?;
-    let refused = gather_again_in_order(alloc, after_three(alloc)?, twice, quota, &[0, 1]);
-    let Err(RefusedRound { fault, earlier }) = refused else {
-        return Err(Fail::from("two lanes of one client were taken"));
-    };
-    assert_eq!(rt; fault, GatherFault::DuplicateClient);
-    assert_eq!(rt; earlier.stop, Stop::Asked);
-    tells(
-        &rt,
-        alloc,
-        &earlier,
-        "c1 taken 3 end None visit 1 events 2 ended false; stop Asked",
-    )
 }

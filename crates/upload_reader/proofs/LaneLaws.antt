@@ -1,195 +1,235 @@
 -- What the next line that isn't blank does to a lane.
-use Rattle.std.proofs.Common.{◌≡◌, ℕ, ◌+◌, ◌≤◌, List, [], ◌∷◌, ◌++◌, length, drop, true, false, Option, Some, None, Result, Ok, Err, IsSome, refl, sym, subst, ap, ◌∙◌, arith, append-nil, length-append}
+use Rattle.std.proofs.Common.{◌≡◌, ℕ, ◌+◌, ◌≤◌, List, [], ◌∷◌, ◌++◌, length, drop, true, false, Option, Some, None, Result, Ok, Err, IsSome, IfSome, OnOk, IfErr, refl, sym, subst, ap, ◌∙◌, arith, append-nil, length-append}
 use Rattle.std.proofs.lemmas.Grind.{flat_map-append}
-use Rattle.byte_streams.specs.Answers.{Answer, bytes_of}
-use Rattle.byte_streams.specs.Cutting.{ending_of}
+use Rattle.byte_streams.specs.Cutting.{cut, ending_of}
 use Rattle.byte_streams.specs.Reading.{Reading, ReadsWhile, input, failures_told}
 use Rattle.byte_streams.specs.declared.fault.LineFault.{LineFault}
 use Rattle.byte_streams.specs.declared.fault.LineFault.TheVariants as line
-use Rattle.byte_streams.proofs.ReadingLaws.{bytes_of-append, reads_none, reads_then}
-use Rattle.byte_streams.specs.GoesOn.{GoesOn}
-use Rattle.upload_reader.specs.Front.{AreLinesTaken, bytes_of_lines}
-use Rattle.upload_reader.specs.inside.Between.{LinesBetween}
+use Rattle.byte_streams.proofs.CutLaws.{cut_is_short}
+use Rattle.byte_streams.proofs.ReadingLaws.{reads_none, reads_where}
 use Rattle.upload_reader.specs.Limits.{max_line_bytes}
 use Rattle.upload_reader.specs.Message.{is_blank, line_said}
-use Rattle.upload_reader.specs.Next.{next_of, failed_reads, IfOver}
-use Rattle.upload_reader.specs.Stream.{Costed, Stream, StreamStart, IsSaid, UnlessHad, IsStreamOf, messages_in, message_in, message_said, said_end, next_number, line_end, stop_end, kind_of}
-use Rattle.upload_reader.specs.inside.Ended.{fault_ending, EndsByText, IfReal}
-use Rattle.upload_reader.specs.inside.Taken.{Taken, LaneFront, LaneTaken, TakesSaid}
-use Rattle.upload_reader.specs.Upload.{EndsLane, SaysNoMore}
-use Rattle.upload_reader.specs.inside.Text.{AreBlank, BlanksBetween, OnlyBlanks, NextText}
+use Rattle.upload_reader.specs.Next.{given_by, ending_by, next_of, failed_reads, IfGot, IfOver, IsReal}
+use Rattle.upload_reader.specs.Stream.{Costed, Stream, StreamStart, IsSaid, UnlessHad, IsStreamOf, BeginsWith, messages_in, message_in, said_end, next_number, line_end, stop_end, kind_of}
+use Rattle.upload_reader.specs.Upload.{UploadState, lane_bytes, IsUntouched, GivesFirst, EndsBy, NothingMore}
+use Rattle.upload_reader.specs.inside.Passed.{NextText}
+use Rattle.upload_reader.specs.inside.Taken.{lane_of, upload_of, LaneTaken, fault_next, AnswersSaid}
 use Rattle.upload_reader.specs.declared.ending.Ending.{Ending}
+use Rattle.upload_reader.specs.declared.ending.Ending.TheVariants as ending
+use Rattle.upload_reader.specs.declared.lane_fault.LaneEnd.{LaneEnd}
+use Rattle.upload_reader.specs.declared.lane_fault.LaneEnd.TheVariants.{Fault}
+use Rattle.upload_reader.specs.declared.lane_fault.LaneFault.{LaneFault}
 use Rattle.upload_reader.specs.declared.message.Message.{Message}
-use Rattle.upload_reader.specs.declared.ending.Ending.TheVariants.{Over, GaveUp}
-use Rattle.upload_reader.proofs.BlankLaws.{passes_blanks, lines_long}
-use Rattle.upload_reader.proofs.FrontLaws.{passes_none}
-use Rattle.upload_reader.proofs.FrontSteps.{takes_line, ends_by_line, ends_by_fault, none_yet}
-use Rattle.upload_reader.proofs.LinesBetween.{between_none, between_then, between_longer}
-use Rattle.upload_reader.proofs.TextLaws.{cut_one, no_line, text_behind}
-
--- ---- one line
+use Rattle.upload_reader.specs.declared.next.Next.{Next}
+use Rattle.upload_reader.specs.declared.next.Next.TheVariants.{Got, Over, GaveUp}
+use Rattle.upload_reader.specs.declared.progress.Progress.{Progress}
+use Rattle.upload_reader.proofs.FrontLaws.{said_first}
+use Rattle.upload_reader.proofs.FrontSteps.{takes_first, passed_more, ends_by_line, ends_by_fault, passed_none, lines_long}
+use Rattle.upload_reader.proofs.Reach.{cut_one, no_line, cut_going, NotEnded, Reached, reach, again, unread}
 
 module _ (lane : StreamStart) where
   skips : (before : List (List ℕ)) (line : List ℕ) → is_blank line ≡ true → line_end lane before line ≡ None
   unfolding line_end
   skips before line blank = rw blank refl
 
-  ends_as : (before : List (List ℕ)) (line : List ℕ) → is_blank line ≡ false → line_end lane before line ≡ said_end lane.earlier (messages_in before) (next_number lane before) (line_said line)
+  ends_as : (before : List (List ℕ)) (line : List ℕ) (given : List Costed) (number : ℕ) → is_blank line ≡ false → given ≡ messages_in before → number ≡ next_number lane before
+      → line_end lane before line ≡ said_end lane given number (line_said line)
   unfolding line_end
-  ends_as before line text = rw text refl
+  ends_as before line given number text says count = rw (text, says, count) refl
 
-blanks_say : (blanks : List (List ℕ)) → AreBlank blanks → messages_in blanks ≡ []
-blanks_say [] blank = refl
-blanks_say (line ∷ blanks) blank = rw blank.0 (blanks_say blanks blank.2)
+messages_more : (front : List (List ℕ)) (line : List ℕ) (given more : List Costed) → given ≡ messages_in front → message_in line ≡ more → given ++ more ≡ messages_in (front ++ line ∷ [])
+messages_more front line given more says is = rw (says, flat_map-append message_in front (line ∷ []), is, append-nil) refl
 
-messages_more : (front lines : List (List ℕ)) → messages_in (front ++ lines) ≡ messages_in front ++ messages_in lines
-messages_more front lines = flat_map-append message_in front lines
+blank_says : (line : List ℕ) → is_blank line ≡ true → message_in line ≡ []
+blank_says line blank = rw blank refl
 
-text_says : (line : List ℕ) (costed : Costed) → is_blank line ≡ false → message_said (length line) (line_said line) ≡ costed ∷ [] → messages_in (line ∷ []) ≡ costed ∷ []
-text_says line costed text is = rw text (ap (λ given. given ++ []) is)
+-- ---- whether the lines had a fault before
 
--- a fault in the place of a line tells of a failed read where it is one
-pub stop_real : (number : ℕ) (fault : LineFault) → IfReal (fault_ending number (kind_of fault))
-stop_real number line.NoMemory = tt
-stop_real number fault = refl
+module _ (lane : StreamStart) (bytes : List ℕ) (ending : Option LineFault) (stream : Stream) where
+  pub is_stream : lane.fault ≡ None → IsSaid lane bytes ending stream → IsStreamOf lane bytes ending stream
+  is_stream none said = subst (λ had. UnlessHad had lane stream (IsSaid lane bytes ending stream)) (sym none) said
 
-stop_calm : (number : ℕ) (fault : LineFault) → failures_told (Some fault) ≡ failed_reads (Some (fault_ending number (kind_of fault)))
-stop_calm number line.NoMemory = refl
-stop_calm number fault = refl
+  had_stream : (had : LineFault) → lane.fault ≡ Some had → stream ≡ record { messages = []; end = stop_end lane [] had } → IsStreamOf lane bytes ending stream
+  had_stream had is same = subst (λ had. UnlessHad had lane stream (IsSaid lane bytes ending stream)) (sym is) same
 
--- where the lines had no fault before
-pub is_stream : (lane : StreamStart) (bytes : List ℕ) (ending : Option LineFault) (stream : Stream) → lane.fault ≡ None → IsSaid lane bytes ending stream → IsStreamOf lane bytes ending stream
-is_stream lane bytes ending stream none said = subst (λ had. UnlessHad had lane stream (IsSaid lane bytes ending stream)) (sym none) said
+-- the messages that were given are the first ones
+pub gives_first : {R : Type 0} (upload : UploadState R) (count : ℕ) → LaneTaken upload count → GivesFirst upload
+gives_first upload count stands more ending = by upload.lane.fault refl
+  where
+    by : (had : Option LineFault) → upload.lane.fault ≡ had → (stream : Stream) × IsStreamOf upload.lane (lane_bytes upload (input upload.lines ++ more)) ending stream × BeginsWith upload.given stream.messages
+    by None is =
+        let (front, end, said, extra, same) = takes_first max_line_bytes (line_end upload.lane) (stop_end upload.lane) upload.start stands.at (input upload.lines) stands.front stands.behind more ending in (
+          record { messages = messages_in front; end = end },
+          is_stream upload.lane _ ending _ is (record { front = front; taken = said; messages = refl }),
+          rw (stands.says, same) (said_first message_in stands.front extra),
+        )
+    by (Some had) is = (record { messages = []; end = stop_end upload.lane [] had }, had_stream upload.lane _ ending _ had is refl, rw (stands.says, stands.had (rw is refl)) refl)
 
 -- ---- a lane that begins
 
-pub begins_taken : {R : Type 0} (lines : Reading R) (taken : Taken) → taken.lines ≡ taken.lane.lines → taken.given ≡ [] → taken.lines ≤ lines.place → taken.lane.fault ≡ lines.fault
-    → (taken.lane.fault ≡ None → failures_told lines.fault ≡ 0) → LaneTaken lines.place lines taken None
-begins_taken lines taken is none few same calm = record {
-  at = lines.place;
-  behind = record { front = []; between = between_none (input lines) lines.place; passes = passes_none max_line_bytes (line_end taken.lane) (stop_end taken.lane); says = none };
-  had = λ some. refl;
-  numbered = few;
-  here = λ going. (refl, is ∙ omega arith, sym same);
-  ended = tt;
-  real = tt;
-  failures = calm;
-}
+pub begins_taken : {R : Type 0} (client : List ℕ) (lines : Reading R) (p : Progress) (earlier : List Message) (number : ℕ) → lane_of p ≡ record { earlier = earlier; lines = number; fault = lines.fault }
+    → p.given.items ≡ [] → p.lines ≡ number → number ≤ lines.place → LaneTaken (upload_of client lines p lines.place None) p.lines
+begins_taken client lines p earlier number lane none is few = let same = ap (λ lane. lane.fault) lane in
+    let first = ap (λ lane. lane.lines) lane in
+    record {
+      at = lines.place;
+      front = [];
+      behind = passed_none max_line_bytes (line_end (lane_of p)) (stop_end (lane_of p)) (input lines) lines.place;
+      says = none;
+      had = λ some. refl;
+      numbered = omega (arith, first, few);
+      here = λ going. (refl, omega (arith, first, is), sym same);
+      ended = tt;
+      real = tt;
+      failures = λ calm. ap failures_told (sym same ∙ calm);
+    }
 
--- one of which nothing was taken begins behind any other messages
-pub begins_again : {R : Type 0} (earlier : List Message) (start : ℕ) (lines : Reading R) (taken : Taken) → LaneTaken start lines taken None → taken.given ≡ [] → lines.place ≡ start
-    → LaneTaken start lines (record taken { lane = record taken.lane { earlier = earlier } }) None
-begins_again earlier start lines taken stands none place =
-    let (at, number, same) = stands.here refl in
-    let long : length stands.behind.front ≤ length (bytes_of_lines stands.behind.front) = lines_long stands.behind.front in
-    let bytes : stands.at ≡ start + length (bytes_of_lines stands.behind.front) = stands.behind.between.bytes in
-    let lines_are : taken.lines ≡ taken.lane.lines = omega (arith, at, number, long, bytes, place) in
-    let again : Taken = record taken { lane = record taken.lane { earlier = earlier } } in
-    subst (λ s. LaneTaken s lines again None) place (begins_taken lines again lines_are none stands.numbered (sym same) stands.failures)
+-- one of which nothing was asked begins behind any other messages
+pub begins_again : {R : Type 0} (client : List ℕ) (lines : Reading R) (p q : Progress) (start : ℕ) (over : Option Ending) (earlier : List Message) → LaneTaken (upload_of client lines p start over) p.lines
+    → IsUntouched (upload_of client lines p start over) → lane_of q ≡ record (lane_of p) { earlier = earlier } → q.given.items ≡ [] → q.lines ≡ p.lines → LaneTaken (upload_of client lines q start None) q.lines
+begins_again client lines p q start over earlier stands untouched lane given number =
+    let (at, count, same) = stands.here (rw untouched.ending refl) in
+    let place : lines.place ≡ start = untouched.place in
+    let first : q.lines ≡ p.first_lines.value = omega (arith, number, at, count, lines_long stands.front, stands.behind.bytes, place) in
+    subst (λ s. LaneTaken (upload_of client lines q s None) q.lines) place
+    (begins_taken client lines q earlier p.first_lines.value (rw same lane) given first (omega (arith, stands.numbered, place)))
 
--- ---- behind blank lines
+-- a fault in the place of a line tells of a failed read where it is one, and is real
+fault_real : (number : ℕ) (fault : LineFault) → IfOver (fault_next number fault) IsReal
+fault_real number line.NoMemory = tt
+fault_real number fault = tt
 
-module _ {R : Type 0} (start : ℕ) (old new : Reading R) (taken : Taken) (number : ℕ) (stands : LaneTaken start old taken None) where
+fault_calm : (number : ℕ) (fault : LineFault) → failures_told (Some fault) ≡ failed_reads (ending_by (fault_next number fault))
+fault_calm number line.NoMemory = refl
+fault_calm number fault = refl
+
+-- ---- what the next line does
+
+module _ {R : Type 0} (client : List ℕ) (lines new : Reading R) (p : Progress) (start number : ℕ) (stands : LaneTaken (upload_of client lines p start None) p.lines) where
   abbrev lane : StreamStart
-  lane = taken.lane
+  lane = lane_of p
 
-  -- blank lines behind the front give nothing more
-  abbrev past_blanks : (later more : List Answer) (to : ℕ) (blanks : List (List ℕ)) → later ≡ old.answers ++ more → BlanksBetween (bytes_of later) old.place to blanks → LaneFront lane start (bytes_of later) to taken.given
-  past_blanks later more to blanks grown passed =
-      let behind = stands.behind in
-      let here : LinesBetween (bytes_of later) start old.place behind.front = rw (← (stands.here refl).0, grown, bytes_of-append old.answers more) (between_longer (input old) (bytes_of more) start stands.at behind.front behind.between) in
-      record {
-        front = behind.front ++ blanks;
-        between = between_then (bytes_of later) start old.place to behind.front blanks here passed.between;
-        passes = passes_blanks (line_end lane) (stop_end lane) (skips lane) behind.front blanks behind.passes passed.blank;
-        says = behind.says ∙ sym (messages_more behind.front blanks ∙ ap (λ more. messages_in behind.front ++ more) (blanks_say blanks passed.blank) ∙ append-nil (messages_in behind.front));
-      }
+  abbrev upload : UploadState R
+  upload = upload_of client lines p start None
 
-  says_no_more : lane.fault ≡ None → (rest : List Answer) → OnlyBlanks old.place (old.answers ++ rest) → SaysNoMore lane start taken.given (old.answers ++ rest)
-  says_no_more none rest (to, blanks, passed, nothing) =
-      let here = past_blanks (old.answers ++ rest) rest to blanks refl passed in
-      is_stream lane (drop start (bytes_of (old.answers ++ rest))) None _ none
-      (record { front = here.front; taken = none_yet max_line_bytes (line_end lane) (stop_end lane) start to (bytes_of (old.answers ++ rest)) here.front here.between here.passes nothing; messages = here.says })
+  abbrev Says : List (List ℕ) → Type 0
+  Says front = p.given.items ≡ messages_in front
 
-  pub reads_for_message : {result : Result (Unit {0}) LineFault} → lane.fault ≡ None → NextText taken.lines old new number result → ReadsWhile (SaysNoMore lane start taken.given) old new
-  reads_for_message none next = reads_then (SaysNoMore lane start taken.given) (OnlyBlanks old.place) old old new (says_no_more none) (reads_none (SaysNoMore lane start taken.given) old old refl refl) next.reads
+  abbrev Reaches : Result (Unit {0}) LineFault → Type 0
+  Reaches text = Reached (line_end lane) (stop_end lane) Says start lane.lines stands.front lines new number text
 
--- ---- what the line there does
+  reached : (text : Result (Unit {0}) LineFault) → NextText new number text p.lines lines → Reaches text
+  reached text next = let (at, count, same) = stands.here refl in
+      reach (line_end lane) (stop_end lane) Says start lane.lines stands.front lines new number text (skips lane)
+      (λ before line is says. sym (append-nil p.given.items) ∙ messages_more before line p.given.items [] says (blank_says line is))
+      p.lines lines stands.front (rw (← at) stands.behind) stands.says count (reads_none _ lines lines refl refl) refl (λ some. (refl, refl)) next
 
-module _ {R : Type 0} (start : ℕ) (old new : Reading R) (taken taken' : Taken) (number : ℕ) (stands : LaneTaken start old taken None) (none : taken.lane.fault ≡ None) where
-  abbrev begun : StreamStart
-  begun = taken.lane
+  lines_same : lines.fault ≡ lane.fault
+  lines_same = (stands.here refl).2
 
-  going : old.fault ≡ None
-  going = (stands.here refl).2 ∙ none
+  pub lane_unread : (text : Result (Unit {0}) LineFault) → NextText new number text p.lines lines → IsSome lines.fault → new ≡ lines
+  lane_unread text next = unread (line_end lane) (stop_end lane) Says start lane.lines stands.front lines new number text (reached text next)
 
-  no_had : {X : Type 0} → IsSome begun.fault → X
-  no_had some = let never : IsSome {T = LineFault} None = rw none at some in absurd (cc)
+  had_same : (text : Result (Unit {0}) LineFault) → Reaches text → (had : LineFault) → lane.fault ≡ Some had → (text ≡ no_line had) × (new ≡ lines) × (number ≡ lane.lines + length stands.front + 1)
+  had_same text r had is = again (line_end lane) (stop_end lane) Says start lane.lines stands.front lines new number text r had (lines_same ∙ is)
 
-  module _ {result : Result (Unit {0}) LineFault} (next : NextText taken.lines old new number result) where
-    abbrev here : LaneFront begun start (input new) next.at taken.given
-    here = past_blanks start old new taken number stands new.answers next.reads.more next.at next.blanks next.reads.answers next.passed
-
-    number_is : number ≡ next_number begun here.front
-    number_is = omega (arith, next.number_is, (stands.here refl).1, length-append stands.behind.front next.blanks)
-
-    -- so the lane ends behind that front, however the input goes on
-    abbrev EndsHere : Ending → Type 0
-    EndsHere ending = IfOver (next_of ending) (λ end. (input' : List ℕ) (ending' : Option LineFault) → GoesOn (input new) input' (ending_of new.answers) ending' → AreLinesTaken max_line_bytes (line_end begun) (stop_end begun) (drop start input') ending' here.front (Some end))
-
-    ended_by : (ending : Ending) → EndsHere ending → IfOver (next_of ending) (EndsLane begun start new taken.given)
-    ended_by (Over end) ends = λ input' ending' goes. is_stream begun (drop start input') ending' _ none (record { front = here.front; taken = ends input' ending' goes; messages = here.says })
-    ended_by GaveUp ends = tt
-
-    over_by : (ending : Ending) → taken' ≡ taken → EndsHere ending → IfReal ending → failures_told new.fault ≡ failed_reads (Some ending) → LaneTaken start new taken' (Some ending)
-    over_by ending same ends real calm = rw same
-        (record {
-          at = next.at;
-          behind = here;
-          had = λ some. no_had some;
-          numbered = omega (arith, stands.numbered, next.passed.between.bytes, text_behind result next);
-          here = λ never. absurd (cc);
-          ended = ended_by ending ends;
-          real = real;
-          failures = λ none. calm;
-        })
-
-  module _ (next : NextText taken.lines old new number cut_one) where
-    ends_here : line_end begun (here next).front new.line ≡ said_end begun.earlier taken.given number (line_said new.line)
-    ends_here = ends_as begun (here next).front new.line next.text ∙ ap (λ given. said_end begun.earlier given (next_number begun (here next).front) (line_said new.line)) (sym (here next).says) ∙ ap (λ n. said_end begun.earlier taken.given n (line_said new.line)) (sym (number_is next))
-
-    -- a message was given
-    pub taken_message : (costed : Costed) → TakesSaid number (line_said new.line) (length new.line) taken taken' (Ok costed) → LaneTaken start new taken' None
-    taken_message costed (says, fits, is) =
-        let front = (here next).front in
-        let (between, passes) = takes_line max_line_bytes (line_end begun) (stop_end begun) start next.at (input new) front (here next).between (here next).passes new.line (ending_of new.answers) (next.tells going) (ends_here ∙ fits) in
-        rw is
-        (record {
-          at = next.at + length new.line + 1;
-          behind = record {
-            front = front ++ new.line ∷ [];
-            between = between;
-            passes = passes;
-            says = ap (λ given. given ++ costed ∷ []) (here next).says ∙ sym (messages_more front (new.line ∷ []) ∙ ap (λ more. messages_in front ++ more) (text_says new.line costed next.text says));
-          };
-          had = λ some. no_had some;
-          numbered = omega (arith, next.number_is, stands.numbered, next.passed.between.bytes, lines_long next.blanks, next.place);
-          here = λ still. (sym next.place, omega (arith, number_is next, length-append front (new.line ∷ [])), next.fault ∙ sym none);
-          ended = tt;
-          real = tt;
-          failures = λ none. rw next.fault refl;
-        })
-
-    -- the lane ended by what the line says
-    pub taken_end : (ending : Ending) → TakesSaid number (line_said new.line) (length new.line) taken taken' (Err ending) → EndsByText ending → LaneTaken start new taken' (Some ending)
-    taken_end (Over end) (says, same) (real, calm) =
-        over_by next (Over end) same (ends_by_line max_line_bytes (line_end begun) (stop_end begun) start next.at (input new) (here next).front (here next).between (here next).passes new.line (ending_of new.answers) end (next.tells going) (ends_here ∙ says)) real (rw next.fault (sym calm))
-    taken_end GaveUp same (real, calm) = over_by next GaveUp same tt tt (rw next.fault refl)
-
-  -- there is no line
-  pub taken_stop : (fault : LineFault) (next : NextText taken.lines old new number (no_line fault)) → taken' ≡ taken → LaneTaken start new taken' (Some (fault_ending number (kind_of fault)))
-  taken_stop fault next same = over_by next _ same (stops fault next) (stop_real number fault) (rw next.fault (stop_calm number fault))
+  pub lane_reads : (text : Result (Unit {0}) LineFault) → NextText new number text p.lines lines → ReadsWhile (NothingMore upload) lines new
+  lane_reads text next = by lane.fault refl
     where
-      stops : (fault : LineFault) (next : NextText taken.lines old new number (no_line fault)) → EndsHere next (fault_ending number (kind_of fault))
-      stops line.NoMemory next = tt
-      stops fault next = ends_by_fault max_line_bytes (line_end begun) (stop_end begun) start next.at (input new) (here next).front (here next).between (here next).passes (ending_of new.answers) fault _ (next.tells going) (rw (← number_is next) refl)
+      by : (had : Option LineFault) → lane.fault ≡ had → ReadsWhile (NothingMore upload) lines new
+      by None is = reads_where (NotEnded (line_end lane) (stop_end lane) Says start lane.lines stands.front lines new number text) (NothingMore upload) lines new
+          (λ answers nothing. is_stream lane _ None _ is (record { front = nothing.0; taken = nothing.1; messages = nothing.2 })) (reached text next).reads
+      by (Some had) is = let same = (had_same text (reached text next) had is).1 in reads_none (NothingMore upload) lines new (ap (λ lines. lines.first) same) (ap (λ lines. lines.answers) same)
+
+  -- the lane ended
+  over_by : {text : Result (Unit {0}) LineFault} (r : Reaches text) (e : Ending) (count : ℕ) → IfOver (next_of e) (EndsBy (record upload { lines = new })) → IfOver (next_of e) IsReal
+      → failures_told new.fault ≡ failed_reads (Some e) → LaneTaken (record upload { lines = new; ending = Some e }) count
+  over_by r e count ends real calm = record {
+    at = r.now.place;
+    front = r.front;
+    behind = r.behind;
+    says = r.says;
+    had = λ some. (r.same (rw lines_same some)).1 ∙ stands.had some;
+    numbered = stands.numbered;
+    here = λ never. absurd (cc);
+    ended = ends;
+    real = real;
+    failures = λ none. calm;
+  }
+
+  module _ (r : Reaches cut_one) where
+    none : lane.fault ≡ None
+    none = sym (r.fault ∙ lines_same) ∙ cut_going r.now new r.moves
+
+    cut_is : cut max_line_bytes (drop r.now.place (input new)) (ending_of new.answers) ≡ Some (Ok new.line)
+    cut_is = r.moves.tells (rw (r.fault ∙ lines_same ∙ none) refl)
+
+    by_line : (count : ℕ) (result : Next) → IfGot result (λ _ _. count ≡ number) → AnswersSaid p number (line_said new.line) (length new.line) result
+        → LaneTaken (record upload { lines = new; given = p.given.items ++ given_by result; ending = ending_by result }) count
+    by_line count (Got message price) numbered (says, fits) = record {
+      at = new.place;
+      front = r.front ++ new.line ∷ [];
+      behind = rw r.moves.place (passed_more max_line_bytes (line_end lane) (stop_end lane) start r.now.place (input new) r.front r.behind new.line (ending_of new.answers) cut_is
+          (ends_as lane r.front new.line p.given.items number r.text r.says r.number_is ∙ fits));
+      says = messages_more r.front new.line p.given.items _ r.says (rw r.text says);
+      had = λ some. let never = rw none at some in absurd (cc);
+      numbered = stands.numbered;
+      here = λ still. (refl, omega (arith, numbered, r.number_is, length-append r.front (new.line ∷ [])), r.moves.fault ∙ sym none);
+      ended = tt;
+      real = tt;
+      failures = λ none. rw r.moves.fault refl;
+    }
+    by_line count (Over end) numbered (says, own) = rw append-nil
+        (over_by r (ending.Over end) count (λ input' ending' goes. is_stream lane _ ending' _ none (record {
+          front = r.front;
+          taken = ends_by_line max_line_bytes (line_end lane) (stop_end lane) start r.now.place (input new) r.front r.behind new.line (ending_of new.answers) end cut_is
+              (ends_as lane r.front new.line p.given.items number r.text r.says r.number_is ∙ says) input' ending' goes;
+          messages = r.says;
+        })) own.0 (rw r.moves.fault (sym own.1)))
+    by_line count GaveUp numbered says = rw append-nil (over_by r ending.GaveUp count tt tt (rw r.moves.fault refl))
+
+  stops : (fault : LineFault) (kind : LaneFault) → kind_of fault ≡ Some kind → (r : Reaches (no_line fault)) → (lane.fault ≡ None → cut max_line_bytes (drop r.now.place (input new)) (ending_of new.answers) ≡ Some (Err fault))
+      → EndsBy (record upload { lines = new }) (Fault number kind)
+  stops fault kind of r cut_is input' ending' goes = by lane.fault refl
+    where
+      by : (had : Option LineFault) → lane.fault ≡ had → IsStreamOf lane (drop start input') ending' (record { messages = p.given.items; end = Some (Fault number kind) })
+      by None is = is_stream lane _ ending' _ is (record {
+        front = r.front;
+        taken = ends_by_fault max_line_bytes (line_end lane) (stop_end lane) start r.now.place (input new) r.front r.behind (ending_of new.answers) fault _ (cut_is is) (rw (of, ← r.number_is) refl) input' ending' goes;
+        messages = r.says;
+      })
+      by (Some had) is =
+          let (told, _, count) = had_same (no_line fault) r had is in
+          let same : had ≡ fault = cc told in
+          let front = stands.had (rw is refl) in
+          had_stream lane _ ending' _ had is (rw (stands.says, front, same, of) (ap (λ n. record { messages = []; end = Some (Fault n kind) }) (count ∙ ap (λ front. lane.lines + length front + 1) front)))
+
+  by_fault : (count : ℕ) (fault : LineFault) → Reaches (no_line fault)
+      → LaneTaken (record upload { lines = new; given = p.given.items ++ given_by (fault_next number fault); ending = ending_by (fault_next number fault) }) count
+  by_fault count line.NoMemory r = rw append-nil (over_by r ending.GaveUp count tt tt (rw r.moves.fault refl))
+  by_fault count fault r = rw append-nil (over_by r _ count (stops fault _ refl r (λ none. r.moves.tells (rw (r.fault ∙ lines_same ∙ none) refl))) (fault_real number fault) (rw r.moves.fault (fault_calm number fault)))
+
+  -- What is behind the answer.
+  pub answered : (text : Result (Unit {0}) LineFault) → NextText new number text p.lines lines → (q : Progress) (result : Next) → lane_of q ≡ lane → q.given.items ≡ p.given.items ++ given_by result
+      → IfGot result (λ _ _. q.lines ≡ number) → OnOk text (AnswersSaid p number (line_said new.line) (length new.line) result) → IfErr text (λ fault. result ≡ fault_next number fault)
+      → LaneTaken (upload_of client new q start (ending_by result)) q.lines
+  answered (Ok tt) next q result same given numbered says stop = rw (same, given) (by_line (reached cut_one next) q.lines result numbered says)
+  answered (Err fault) next q result same given numbered says stop = rw (same, given, stop) (by_fault q.lines fault (reached (no_line fault) next))
+
+  pub text_plain : (text : Result (Unit {0}) LineFault) → NextText new number text p.lines lines → OnOk text (is_blank new.line ≡ false)
+  text_plain text next = (reached text next).text
+
+  pub text_short : (text : Result (Unit {0}) LineFault) → NextText new number text p.lines lines → OnOk text (length new.line ≤ max_line_bytes)
+  text_short (Ok tt) next = let r = reached cut_one next in cut_is_short max_line_bytes r.now.place (input new) new.line (ending_of new.answers) (cut_is r)
+  text_short (Err fault) next = tt
+
+-- an answer that ends the upload
+pub over_of : (P : LaneEnd → Type 0) (result : Next) → IfSome (ending_by result) (λ ending. IfOver (next_of ending) P) → IfOver result P
+over_of P (Got message price) over = tt
+over_of P (Over end) over = over
+over_of P GaveUp over = tt
+
+-- there are at most as many lines as bytes
+pub few_taken : {R : Type 0} (upload : UploadState R) (count : ℕ) → LaneTaken upload count → upload.ending ≡ None → count ≤ upload.lines.place
+few_taken upload count stands going =
+    let (at, number, _) = stands.here (rw going refl) in omega (arith, at, number, lines_long stands.front, stands.behind.bytes, stands.numbered)

@@ -1,25 +1,21 @@
 -- What a line says that isn't blank: a message whose cost and visit are at least 1, or a fault of its own, which is never want of memory or a failed read.
-use Rattle.std.proofs.Common.{◌≡◌, ◌≢◌, ℕ, ◌≤◌, List, [], ◌∷◌, length, codes, Bool, true, false, ◌&&◌, nat_le, if◌then◌else◌, Option, Some, None, option_and_then, Result, Ok, Err, MatchResult, refl, ap, ◌∙◌, arith}
+use Rattle.std.proofs.Common.{◌≡◌, ℕ, ◌≤◌, List, [], ◌∷◌, length, codes, Bool, true, false, ◌&&◌, nat_le, if◌then◌else◌, Option, Some, None, option_and_then, Result, Ok, Err, MatchResult, refl, ap, ◌∙◌, arith}
 use Rattle.std.specs.Option.{ok_or}
 use Rattle.std.specs.Result.{result_map_both}
 use Rattle.std.proofs.lemmas.Bool.Decides.{nat_tests}
+use Rattle.std.specs.Str.{is_utf8}
 use Rattle.serde_json.specs.Data.{Data}
-use Rattle.serde_json.specs.Find.{get, as_number, as_u64}
+use Rattle.serde_json.specs.Read.{read}
+use Rattle.serde_json.specs.Find.{get, as_number, as_u64, as_str}
 use Rattle.page_tree.specs.FirstFault.{◌>>=◌}
 use Rattle.page_tree.specs.Fault.{page_or_fault}
-use Rattle.page_tree.specs.declared.fault.PageFault.{PageFault}
-use Rattle.page_tree.specs.declared.fault.PageFault.TheVariants as page_fault
 use Rattle.page_tree.proofs.RealFaults.{page_fault_real}
 use Rattle.xpath_child.specs.Fault.{path_in}
-use Rattle.xpath_child.specs.declared.fault.PathFaultKind.{PathFaultKind}
-use Rattle.xpath_child.specs.declared.fault.PathFaultKind.TheVariants as path_fault
 use Rattle.xpath_child.proofs.RealFaults.{path_fault_real}
 use Rattle.upload_reader.specs.Limits.{max_number}
-use Rattle.upload_reader.specs.Member.{if_within, number_in, member_text, page_said, path_said, path_if_any, value_in, json_said}
-use Rattle.upload_reader.specs.Message.{visit_in, load_in, input_in, click_in, submit_in, ended_in, says, kind_said, value_said, is_blank, line_said, IsPositive}
-use Rattle.upload_reader.specs.Real.{is_page_fault, is_path_fault}
-use Rattle.upload_reader.specs.inside.Ended.{EndsByText}
-use Rattle.upload_reader.specs.declared.ending.Ending.TheVariants.{Over}
+use Rattle.upload_reader.specs.Member.{if_within, number_in, member_as, page_said, path_said, path_if_any, json_said}
+use Rattle.upload_reader.specs.Message.{visit_in, says, kind_said, value_said, is_blank, line_said, IsPositive}
+use Rattle.upload_reader.specs.inside.Taken.{EndsByText}
 use Rattle.upload_reader.specs.declared.lane_fault.LaneEnd.TheVariants.{Fault}
 use Rattle.upload_reader.specs.declared.lane_fault.LaneFault.{LaneFault}
 use Rattle.upload_reader.specs.declared.lane_fault.LaneFault.TheVariants.{NotJson, BadMessage, BadPage, BadTarget}
@@ -30,7 +26,7 @@ use Rattle.upload_reader.specs.declared.message.Message.{Message}
 -- ---- what is read, in steps
 
 abbrev IsOwn : LaneFault → Type 0
-IsOwn kind = (number : ℕ) → EndsByText (Over (Fault number kind))
+IsOwn kind = (number : ℕ) → EndsByText (Fault number kind)
 
 -- a value that is so, or a fault of the line's own
 abbrev Reads : {A : Type 0} → (A → Type 0) → Result A LaneFault → Type 0
@@ -51,15 +47,19 @@ either Holds false r s first second = second
 -- ---- members
 
 own_bad : IsOwn BadMessage
-own_bad number = (refl, refl)
+own_bad number = (tt, refl)
 
 or_bad_clean : {A : Type 0} (o : Option A) → Clean (ok_or o BadMessage)
 or_bad_clean None = own_bad
 or_bad_clean (Some x) = tt
 
-json_clean : (o : Option Data) → Clean (ok_or o NotJson)
-json_clean None = λ number. (refl, refl)
-json_clean (Some d) = tt
+json_clean : (line : List ℕ) → Clean (json_said line)
+unfolding json_said
+json_clean line = by (if is_utf8 line then read line else None)
+  where
+    by : (o : Option Data) → Clean (ok_or o NotJson)
+    by None = λ number. (tt, refl)
+    by (Some d) = tt
 
 if_least : (test : Bool) (least n : ℕ) → (test ≡ true → least ≤ n) → Reads (λ v. least ≤ v) (ok_or (if test then Some n else None) BadMessage)
 if_least true least n within = within refl
@@ -74,25 +74,17 @@ unfolding number_in
 number_least least None = own_bad
 number_least least (Some d) = of_least least (option_and_then as_u64 (as_number d))
 
-real_page : (fault : PageFault) → fault ≢ page_fault.NoMemory → is_page_fault fault ≡ true
-real_page page_fault.NoMemory real = absurd (real refl)
-real_page fault real = refl
-
-real_path : (kind : PathFaultKind) → kind ≢ path_fault.NoMemory → is_path_fault kind ≡ true
-real_path path_fault.NoMemory real = absurd (real refl)
-real_path kind real = refl
-
 mapped_clean : {A F : Type 0} (r : Result A F) (kind : F → LaneFault) → ((fault : F) → r ≡ Err fault → IsOwn (kind fault)) → Clean (result_map_both (λ x. x) kind r)
 mapped_clean (Ok x) kind own = tt
 mapped_clean (Err fault) kind own = own fault refl
 
 page_clean : (d : Data) → Clean (page_said d)
 unfolding page_said
-page_clean d = mapped_clean (page_or_fault d) BadPage (λ fault is number. (real_page fault (page_fault_real d fault is), refl))
+page_clean d = mapped_clean (page_or_fault d) BadPage (λ fault is number. (page_fault_real d fault is, refl))
 
 path_clean : (text : List ℕ) → Clean (path_said text)
 unfolding path_said
-path_clean text = mapped_clean (path_in text) BadTarget (λ fault is number. (real_path fault.kind (path_fault_real text fault is), refl))
+path_clean text = mapped_clean (path_in text) BadTarget (λ fault is number. (path_fault_real text fault is, refl))
 
 path_if_clean : (o : Option (List ℕ)) → Clean (path_if_any o)
 path_if_clean None = tt
@@ -117,37 +109,22 @@ module _ (cost : ℕ) (some : 1 ≤ cost) where
       by (Ok v) least = rest v (some, least)
       by (Err kind) own = own
 
-  load_fits : (d : Data) → Fits (load_in d)
-  load_fits d = of_visit d _ (λ visit is. search (members, is) depth 8)
-
-  input_fits : (d : Data) → Fits (input_in d)
-  input_fits d = of_visit d _ (λ visit is. search (members, is) depth 8)
-
-  click_fits : (d : Data) → Fits (click_in d)
-  click_fits d = of_visit d _ (λ visit is. search (members, is) depth 8)
-
-  submit_fits : (d : Data) → Fits (submit_in d)
-  submit_fits d = of_visit d _ (λ visit is. search (members, is) depth 8)
-
-  ended_fits : (d : Data) → Fits (ended_in d)
-  ended_fits d = of_visit d _ (λ visit is. search (members, is) depth 8)
-
   says_fits : (r : Result Message LaneFault) → Fits r → Reads LineFits (says r)
   says_fits (Ok message) fits = fits
   says_fits (Err kind) own = own
 
   kind_fits : (kind : List ℕ) (d : Data) → Reads LineFits (kind_said kind d)
   unfolding kind_said
-  kind_fits kind d = search (either, says_fits, load_fits, input_fits, click_fits, submit_fits, ended_fits, own_bad) depth 8
+  kind_fits kind d = search (either, says_fits, of_visit, members, own_bad) depth 16
 
   line_fits : (line : List ℕ) → Reads LineFits (line_said line)
   unfolding line_said
-  line_fits line = and_then LineFits (json_said line) value_said (json_clean (value_in line)) (λ d. and_then LineFits (member_text (codes "t") d) (λ kind. kind_said kind d) (or_bad_clean _) (λ kind. kind_fits kind d))
+  line_fits line = and_then LineFits (json_said line) value_said (json_clean line) (λ d. and_then LineFits (member_as as_str (codes "t") d) (λ kind. kind_said kind d) (or_bad_clean _) (λ kind. kind_fits kind d))
 
 -- ---- any line
 
 -- Where a line can't be read, the fault is the line's own.
-pub said_own : (line : List ℕ) (kind : LaneFault) → line_said line ≡ Err kind → (number : ℕ) → EndsByText (Over (Fault number kind))
+pub said_own : (line : List ℕ) (kind : LaneFault) → line_said line ≡ Err kind → (number : ℕ) → EndsByText (Fault number kind)
 said_own line kind is = rw is at (line_fits 1 (omega arith) line)
 
 -- an empty line is blank

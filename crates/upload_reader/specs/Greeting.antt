@@ -16,13 +16,10 @@ pub record Greeting : Type 0 where
   pub lines : ℕ
   pub answer : Result (List ℕ) HelloFault
 
--- what the line of that number says as a hello
-abbrev pub greeting_at : ℕ → List ℕ → Greeting
-greeting_at number line = record { lines = number; answer = hello_said number line }
-
--- what a line says so behind these; none where it is blank
+-- what a line says as a hello behind these; none where it is blank
 unfoldable pub greeting_by : List (List ℕ) → List ℕ → Option Greeting
-greeting_by before line = if is_blank line then None else Some (greeting_at (length before + 1) line)
+greeting_by before line = let number = length before + 1 in
+    if is_blank line then None else Some (record { lines = number; answer = hello_said number line })
 
 -- why there is no line behind these (`U3`)
 abbrev pub no_greeting : List (List ℕ) → LineFault → Option Greeting

@@ -1,7 +1,7 @@
 -- What the first line of an upload that isn't blank says: this project's own format, over RFC 8259. Unknown members are
 -- ignored.
-use Rattle.std.specs.Prelude.{ℕ, List, if◌then◌else◌, Bool, false, Option, Some, None, Result, Ok, Err, codes}
-use Rattle.std.specs.Option.{option_map_or}
+use Rattle.std.specs.Prelude.{ℕ, List, if◌then◌else◌, Result, Ok, Err, codes}
+use Rattle.std.specs.Option.{ok_or}
 use Rattle.std.specs.Result.{result_map_both}
 use Rattle.std.specs.Str.{bytes_eq}
 use Rattle.serde_json.specs.Data.{Data}
@@ -11,18 +11,14 @@ use Rattle.upload_reader.specs.Member.{text_in, json_said}
 use Rattle.upload_reader.specs.declared.hello_fault.HelloFault.{HelloFault}
 use Rattle.upload_reader.specs.declared.hello_fault.HelloFault.TheVariants.{BadClient, NoHello, Line, NoMemory}
 
-abbrev pub is_hello : Option (List ℕ) → Bool
-is_hello kind = option_map_or (λ given. bytes_eq given (codes "hello")) kind false
+-- `U1` where no client can have the name
+abbrev pub client_said : List ℕ → Result (List ℕ) HelloFault
+client_said text = if is_client text then Ok text else Err BadClient
 
--- `U1` where there is no client's name
-abbrev pub client_said : Option (List ℕ) → Result (List ℕ) HelloFault
-client_said None = Err BadClient
-client_said (Some text) = if is_client text then Ok text else Err BadClient
-
--- by the members `t` and `client`; `U2` where it is no hello
+-- by the members `t` and `client`; `U2` where it is no hello, and then `U1`
 unfoldable pub greeting_said : Data → Result (List ℕ) HelloFault
-greeting_said d =
-    if is_hello (text_in (codes "t") d) then client_said (text_in (codes "client") d) else Err NoHello
+greeting_said d = ok_or (text_in (codes "t") d) NoHello >>= λ kind.
+    if bytes_eq kind (codes "hello") then ok_or (text_in (codes "client") d) BadClient >>= client_said else Err NoHello
 
 -- The name that the line of that number says as a hello. A line that is no JSON text has that fault, with its number
 -- (`U3`).

@@ -10,5 +10,4 @@ pub mod Hello
 pub mod Greeting
 pub mod Upload
 pub mod Next
-pub mod Real
 pub mod inside

@@ -15,17 +15,17 @@ use Rattle.upload_reader.specs.declared.lane_fault.LaneFault.{LaneFault}
 use Rattle.upload_reader.specs.declared.lane_fault.LaneFault.TheVariants.{NotJson, BadMessage, BadPage, BadTarget}
 use Rattle.upload_reader.specs.Limits.{max_number}
 
--- the value that a line is (section 8.1: it is UTF-8)
-unfoldable pub value_in : List ℕ → Option Data
-value_in line = if is_utf8 line then read line else None
-
--- the same with the fault of a line that is none (`E5`)
-abbrev pub json_said : List ℕ → Result Data LaneFault
-json_said line = ok_or (value_in line) NotJson
+-- the value that a line is (section 8.1: it is UTF-8); else `E5`
+unfoldable pub json_said : List ℕ → Result Data LaneFault
+json_said line = ok_or (if is_utf8 line then read line else None) NotJson
 
 -- The member's value, whatever it is. Each fault of a member is `E6`.
 abbrev pub member_at : List ℕ → Data → Result Data LaneFault
 member_at name d = ok_or (get name d) BadMessage
+
+-- the member read so
+abbrev pub member_as : {A : Type 0} → (Data → Option A) → List ℕ → Data → Result A LaneFault
+member_as reads name d = ok_or (option_and_then reads (get name d)) BadMessage
 
 -- ---- numbers
 
@@ -36,9 +36,6 @@ if_within least n = if nat_le least n && nat_le n max_number then Some n else No
 unfoldable pub number_in : ℕ → Data → Option ℕ
 number_in least d = option_and_then (if_within least) (option_and_then as_u64 (as_number d))
 
-abbrev pub number_at : ℕ → List ℕ → Data → Result ℕ LaneFault
-number_at least name d = ok_or (option_and_then (number_in least) (get name d)) BadMessage
-
 -- 0 where the member is absent
 abbrev pub optional_number_at : List ℕ → Data → Result ℕ LaneFault
 optional_number_at name d = ok_or (option_map_or (number_in 0) (get name d) (Some 0)) BadMessage
@@ -47,9 +44,6 @@ optional_number_at name d = ok_or (option_map_or (number_in 0) (get name d) (Som
 
 abbrev pub text_in : List ℕ → Data → Option (List ℕ)
 text_in name d = option_and_then as_str (get name d)
-
-abbrev pub member_text : List ℕ → Data → Result (List ℕ) LaneFault
-member_text name d = ok_or (text_in name d) BadMessage
 
 -- none where the member is absent
 abbrev pub optional_text_at : List ℕ → Data → Result (Option (List ℕ)) LaneFault

@@ -1,14 +1,17 @@
 -- What an upload gives next.
-use Rattle.std.specs.Prelude.{ℕ, List, [], ◌∷◌, Option, Some, None}
+use Rattle.std.specs.Prelude.{◌≢◌, ℕ, List, [], ◌∷◌, Option, Some, None}
+use Rattle.page_tree.specs.declared.fault.PageFault.TheVariants as page_fault
+use Rattle.xpath_child.specs.declared.fault.PathFaultKind.TheVariants as path_fault
 use Rattle.upload_reader.specs.Stream.{Costed}
 use Rattle.upload_reader.specs.declared.ending.Ending.{Ending}
 use Rattle.upload_reader.specs.declared.ending.Ending.TheVariants as ending
 use Rattle.upload_reader.specs.declared.lane_fault.LaneEnd.{LaneEnd}
 use Rattle.upload_reader.specs.declared.lane_fault.LaneEnd.TheVariants.{Fault}
-use Rattle.upload_reader.specs.declared.lane_fault.LaneFault.TheVariants.{ReadFailed}
+use Rattle.upload_reader.specs.declared.lane_fault.LaneFault.TheVariants.{ReadFailed, BadPage, BadTarget, BadSession}
 use Rattle.upload_reader.specs.declared.message.Message.{Message}
 use Rattle.upload_reader.specs.declared.next.Next.{Next}
 use Rattle.upload_reader.specs.declared.next.Next.TheVariants.{Got, Over, GaveUp}
+use Rattle.upload_reader.specs.declared.session_fault.SessionFault.TheVariants as session_fault
 
 abbrev pub given_by : Next → List Costed
 given_by (Got message cost) = (message, cost) ∷ []
@@ -35,3 +38,10 @@ IfOver other P = Unit {0}
 abbrev pub failed_reads : Option Ending → ℕ
 failed_reads (Some (ending.Over (Fault line ReadFailed))) = 1
 failed_reads other = 0
+
+-- How a lane can end by its input alone: its fault, where it has one, is not that memory was refused.
+abbrev pub IsReal : LaneEnd → Type 0
+IsReal (Fault line (BadPage fault)) = fault ≢ page_fault.NoMemory
+IsReal (Fault line (BadTarget fault)) = fault.kind ≢ path_fault.NoMemory
+IsReal (Fault line (BadSession fault)) = fault ≢ session_fault.NoMemory
+IsReal end = Unit {0}

@@ -1,20 +1,18 @@
 -- What clauses see of an upload: what was read of it, where its lane began, what was given of it and how it ended.
-use Rattle.std.specs.Prelude.{◌≡◌, ◌≢◌, ℕ, ◌+◌, ◌≤◌, List, [], ◌++◌, drop, Option, Some, None, Ok, Err, IfSome, ◌⊎◌}
+use Rattle.std.specs.Prelude.{◌≡◌, ◌≢◌, ℕ, ◌+◌, ◌≤◌, List, [], ◌++◌, drop, Option, Some, None, Ok, Err, IfSome}
 use Rattle.byte_streams.specs.Answers.{Answer, bytes_of}
 use Rattle.byte_streams.specs.Cutting.{ending_of}
 use Rattle.byte_streams.specs.GoesOn.{GoesOn}
 use Rattle.byte_streams.specs.Reading.{Reading, ReadsWhile, input}
 use Rattle.byte_streams.specs.declared.fault.LineFault.{LineFault}
 use Rattle.byte_streams.specs.declared.fault.LineFault.TheVariants as line
-use Rattle.byte_streams.specs.declared.fault.LineFault.TheVariants.{ReadFailed, TooManyReads, Truncated, LineTooLong}
 use Rattle.upload_reader.specs.Greeting.{Greeting, IsGreetingOf, lines_length, hello_fault_of}
 use Rattle.upload_reader.specs.Next.{given_by, ending_by}
 use Rattle.upload_reader.specs.Stream.{Costed, Stream, StreamStart, IsStreamOf, BeginsWith}
 use Rattle.upload_reader.specs.declared.ending.Ending.{Ending}
 use Rattle.upload_reader.specs.declared.hello_fault.HelloFault.{HelloFault}
-use Rattle.upload_reader.specs.declared.hello_fault.HelloFault.TheVariants.{Line, NoMemory}
+use Rattle.upload_reader.specs.declared.hello_fault.HelloFault.TheVariants.{NoMemory}
 use Rattle.upload_reader.specs.declared.lane_fault.LaneEnd.{LaneEnd}
-use Rattle.upload_reader.specs.declared.lane_fault.LaneFault.TheVariants as lane
 use Rattle.upload_reader.specs.declared.message.Message.{Message}
 use Rattle.upload_reader.specs.declared.next.Next.{Next}
 
@@ -35,8 +33,7 @@ lane_bytes upload bytes = drop upload.start bytes
 
 -- it is so however the input of these lines goes on
 abbrev pub OnEachInput : {R : Type 0} → Reading R → (List ℕ → Option LineFault → Type 0) → Type 0
-OnEachInput lines IsSo =
-    (input' : List ℕ) → (ending' : Option LineFault)
+OnEachInput lines IsSo = (input' : List ℕ) (ending' : Option LineFault)
     → GoesOn (input lines) input' (ending_of lines.answers) ending' → IsSo input' ending'
 
 -- ---- how an upload begins
@@ -66,25 +63,17 @@ pub record Begins {R : Type 0} (old : Reading R) (upload : UploadState R) : Type
   pub behind : upload.start ≡ old.place + lines_length upload.lane.lines (drop old.place (input upload.lines))
   pub fresh : (upload.given ≡ []) × (upload.ending ≡ None)
 
--- the fault that lines have behind a hello that was refused so: none, where they gave a line that is no hello
-abbrev pub LeavesFault : HelloFault → Option LineFault → Type 0
-LeavesFault (Line number lane.ReadFailed) fault = fault ≡ Some ReadFailed
-LeavesFault (Line number lane.TooManyReads) fault = fault ≡ Some TooManyReads
-LeavesFault (Line number lane.Truncated) fault = fault ≡ Some Truncated
-LeavesFault (Line number lane.LineTooLong) fault = fault ≡ Some LineTooLong
-LeavesFault NoMemory fault = (fault ≡ None) ⊎ (fault ≡ Some line.NoMemory)
-LeavesFault refused fault = fault ≡ None
-
--- The upload doesn't begin: the first fault, want of memory aside. Lines that had a fault are left as they are.
+-- The upload doesn't begin: the first fault, want of memory aside. A fault that the lines have behind it is the one
+-- told, and each that is told is theirs. Lines that had a fault are left as they are.
 pub record Refuses {R : Type 0} (old new : Reading R) (fault : HelloFault) : Type 0 where
   pub reads : ReadsWhile (NotGreeted old.place) old new
   pub lines : ℕ
-  pub greets : old.fault ≡ None → fault ≢ NoMemory
-      → Greets old.place new (record { lines = lines; answer = Err fault })
+  pub greets : old.fault ≡ None → fault ≢ NoMemory → Greets old.place new (record { lines = lines; answer = Err fault })
   pub place : old.fault ≡ None → fault ≢ NoMemory
       → new.place ≡ old.place + lines_length lines (drop old.place (input new))
   pub behind : old.place ≤ new.place
-  pub leaves : LeavesFault fault new.fault
+  pub leaves : IfSome new.fault (λ had. fault ≡ hello_fault_of (lines + 1) had)
+  pub told : (at : ℕ) (had : LineFault) → had ≢ line.NoMemory → fault ≡ hello_fault_of at had → new.fault ≡ Some had
   pub again : IfSome old.fault (λ had. (fault ≡ hello_fault_of 1 had) × (new ≡ old))
 
 -- nothing was asked of it yet
@@ -102,25 +91,19 @@ with_answer answer lines upload =
 
 -- however the input goes on, the messages of the lane begin with those that were given
 abbrev pub GivesFirst : {R : Type 0} → UploadState R → Type 0
-GivesFirst upload =
-    (more : List ℕ) (ending : Option LineFault) → (stream : Stream)
+GivesFirst upload = (more : List ℕ) (ending : Option LineFault) → (stream : Stream)
     × IsStreamOf upload.lane (lane_bytes upload (input upload.lines ++ more)) ending stream
     × BeginsWith upload.given stream.messages
 
--- However the input of these lines goes on, the lane that begins at this place has these messages and this end.
-abbrev pub EndsLane : {R : Type 0} → StreamStart → ℕ → Reading R → List Costed → LaneEnd → Type 0
-EndsLane lane start lines given end =
-    OnEachInput lines (λ input' ending'.
-    IsStreamOf lane (drop start input') ending' (record { messages = given; end = Some end }))
+-- what a lane says whose input is that of this upload
+abbrev pub IsLane : {R : Type 0} → UploadState R → List ℕ → Option LineFault → Option LaneEnd → Type 0
+IsLane upload bytes ending end =
+    IsStreamOf upload.lane (lane_bytes upload bytes) ending (record { messages = upload.given; end = end })
 
--- so its messages are these, and its end is this
+-- However its input goes on, the lane has the messages that were given, and this end.
 abbrev pub EndsBy : {R : Type 0} → UploadState R → LaneEnd → Type 0
-EndsBy upload end = EndsLane upload.lane upload.start upload.lines upload.given end
+EndsBy upload end = OnEachInput upload.lines (λ input' ending'. IsLane upload input' ending' (Some end))
 
--- what was read holds no further message of that lane and no end
-abbrev pub SaysNoMore : StreamStart → ℕ → List Costed → List Answer → Type 0
-SaysNoMore lane start given answers =
-    IsStreamOf lane (drop start (bytes_of answers)) None (record { messages = given; end = None })
-
+-- what was read holds no further message of the lane and no end
 abbrev pub NothingMore : {R : Type 0} → UploadState R → List Answer → Type 0
-NothingMore upload answers = SaysNoMore upload.lane upload.start upload.given answers
+NothingMore upload answers = IsLane upload (bytes_of answers) None None

@@ -1,8 +1,4 @@
-pub mod Between
 pub mod Counting
-pub mod Ended
-pub mod Greeted
+pub mod Passed
 pub mod Taken
-pub mod Text
 pub mod Unread
-pub mod Heading

@@ -9,11 +9,11 @@ pub(crate) struct Counts {
 }
 
 impl Counts {
-    ghost use Rattle.upload_reader.specs.inside.Counting.{no_events, counts_with};
+    ghost use Rattle.upload_reader.specs.inside.Counting.{counts_with};
 
     /// With no event.
     pub(crate) fn new() -> Counts
-        ensures { result ≡ no_events }
+        ensures { result ≡ record { largest = 0; events = 0 } }
     {
         Counts {
             largest: 0,

@@ -26,7 +26,7 @@ impl Model for Header {
     ghost use Rattle.std.specs.Coded.{codes};
     ghost use Rattle.page_tree.specs.contracts.page.Page as pages;
     ghost use Rattle.upload_reader.specs.declared.message.Message.{Message};
-    ghost use Rattle.upload_reader.specs.inside.Heading.{IsHeader};
+    ghost use Rattle.upload_reader.specs.inside.Counting.{IsHeader};
 
     ghost Value = { Message };
 

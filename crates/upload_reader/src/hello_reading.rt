@@ -1,8 +1,7 @@
-ghost use Rattle.std.specs.Prelude.{◌≡◌, codes};
+ghost use Rattle.std.specs.Prelude.{◌≡◌, ◌≢◌, IfOk, IfErr};
 ghost use Rattle.serde_json.specs.View.{view};
-ghost use Rattle.upload_reader.specs.Hello.{is_hello, client_said, greeting_said, hello_said};
-ghost use Rattle.upload_reader.specs.Member.{text_in};
-ghost use Rattle.upload_reader.specs.inside.Greeted.{SaysHello};
+ghost use Rattle.upload_reader.specs.Hello.{greeting_said, hello_said};
+ghost use Rattle.upload_reader.specs.declared.hello_fault.HelloFault.TheVariants.{NoMemory};
 
 use crate::client::Client;
 use crate::hello_fault::HelloFault;
@@ -13,7 +12,8 @@ use std::alloc::Global;
 
 /// The client of the line of that number, the first that isn't blank. U3 where it is no JSON text, and U4 for want of memory.
 pub(crate) fn read_hello(alloc: Global, number: u64, line: &[u8]) -> Result<Client, HelloFault>
-    ensures { SaysHello result (hello_said number line.now) }
+    ensures ok { IfOk result (λ client. hello_said number line.now ≡ Ok client) }
+    ensures refused { IfErr result (λ fault. fault ≢ NoMemory → hello_said number line.now ≡ Err fault) }
 {
     match line_value(alloc, line) {
         Ok(value) => read_greeting(alloc, &value),
@@ -25,30 +25,18 @@ pub(crate) fn read_hello(alloc: Global, number: u64, line: &[u8]) -> Result<Clie
     }
 }
 
-// U2 where it is no hello.
+// U2 where it is no hello, and U1 where it names no client.
 #[tactic(auto, unfolding(crate::specs::Hello::greeting_said))]
 fn read_greeting(alloc: Global, value: &Value) -> Result<Client, HelloFault>
-    ensures { SaysHello result (greeting_said (view value.now)) }
+    ensures ok { IfOk result (λ client. greeting_said (view value.now) ≡ Ok client) }
+    ensures refused { IfErr result (λ fault. fault ≢ NoMemory → greeting_said (view value.now) ≡ Err fault) }
 {
-    if !is_hello(value) {
+    let Some(kind) = text_in(value, "t") else {
+        return Err(HelloFault::NoHello);
+    };
+    if kind != "hello" {
         return Err(HelloFault::NoHello);
     }
-    read_client(alloc, value)
-}
-
-fn is_hello(value: &Value) -> bool
-    ensures { result ≡ is_hello (text_in (codes "t") (view value.now)) }
-{
-    match text_in(value, "t") {
-        Some(kind) => kind == "hello",
-        None => false,
-    }
-}
-
-// U1 where it names no client.
-fn read_client(alloc: Global, value: &Value) -> Result<Client, HelloFault>
-    ensures { SaysHello result (client_said (text_in (codes "client") (view value.now))) }
-{
     let Some(text) = text_in(value, "client") else {
         return Err(HelloFault::BadClient);
     };

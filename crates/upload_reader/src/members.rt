@@ -1,7 +1,8 @@
 //! Members of messages, each with the fault where it isn't so. Nothing is copied.
 ghost use Rattle.std.specs.Prelude.{◌≡◌, option_map};
+ghost use Rattle.serde_json.specs.Find.{as_str};
 ghost use Rattle.serde_json.specs.View.{view};
-ghost use Rattle.upload_reader.specs.Member.{json_said, member_at, number_in, number_at, optional_number_at, text_in, member_text, optional_text_at, page_said, path_said, path_if_any};
+ghost use Rattle.upload_reader.specs.Member.{json_said, member_at, member_as, number_in, optional_number_at, text_in, optional_text_at, page_said, path_said, path_if_any};
 ghost use Rattle.upload_reader.specs.inside.Unread.{IsReadAs, ReadsAs};
 
 use crate::lane_fault::LaneFault;
@@ -52,7 +53,7 @@ fn number(value: &Value, least: u64) -> Option<u64>
 }
 
 pub(crate) fn number_at(message: &Value, name: &str, least: u64) -> Result<u64, Unread>
-    ensures { IsReadAs result (number_at least name.now (view message.now)) }
+    ensures { IsReadAs result (member_as (number_in least) name.now (view message.now)) }
 {
     let Some(value) = message.get(name) else {
         return Err(BAD_MESSAGE);
@@ -78,7 +79,7 @@ pub(crate) fn text_in<'a>(message: &'a Value, name: &str) -> Option<&'a str>
 }
 
 pub(crate) fn member_text<'a>(message: &'a Value, name: &str) -> Result<&'a str, Unread>
-    ensures { ReadsAs (λ text. text.now) result (member_text name.now (view message.now)) }
+    ensures { ReadsAs (λ text. text.now) result (member_as as_str name.now (view message.now)) }
 {
     text_in(message, name).ok_or(BAD_MESSAGE)
 }

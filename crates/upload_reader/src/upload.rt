@@ -1,22 +1,18 @@
 //! The upload of one client, message by message.
-ghost use Rattle.std.specs.Prelude.{ℕ, ◌≡◌, ◌≢◌, ◌+◌, ◌≤◌, [], ◌++◌, length, true, Some, None, IsSome, IfSome, IfOk, IfErr};
+ghost use Rattle.std.specs.Prelude.{ℕ, ◌≡◌, ◌≢◌, ◌+◌, ◌≤◌, [], ◌++◌, length, Some, None, IsSome, IfSome, IfOk, IfErr};
 ghost use Rattle.byte_streams.specs.Answers.{failures_of};
 ghost use Rattle.byte_streams.specs.Cutting.{StopsAtEnd};
 ghost use Rattle.byte_streams.specs.Reading.{WasRead, ReadsWhile};
 ghost use Rattle.upload_reader.specs.Limits.{max_messages};
-ghost use Rattle.upload_reader.specs.Next.{next_of, failed_reads, IfGot, IfOver};
+ghost use Rattle.upload_reader.specs.Next.{next_of, failed_reads, IfGot, IfOver, IsReal};
 ghost use Rattle.upload_reader.specs.Message.{IsPositive};
-ghost use Rattle.upload_reader.specs.Real.{is_real};
 ghost use Rattle.upload_reader.specs.Stream.{messages_of, MayFollow};
 ghost use Rattle.upload_reader.specs.Upload.{Begins, Refuses, IsUntouched, upload_behind, with_answer, GivesFirst, EndsBy, NothingMore};
-ghost use Rattle.upload_reader.specs.inside.Ended.{IfReal};
-ghost use Rattle.upload_reader.specs.inside.Taken.{taken_of, GoesOnBy};
 
 use crate::client::Client;
 use crate::ending::Ending;
 use crate::greeting::greet;
 use crate::line_reading::next_text;
-use crate::message::Message;
 use crate::next::Next;
 use crate::progress::Progress;
 use crate::refused::Refused;
@@ -45,18 +41,11 @@ impl<R: Source> Model for Upload<R> {
 
     ghost coded = { Prim.hlevel (codes, pages.the_row.coded) };
 
-    ghost use Rattle.upload_reader.specs.inside.Taken.{taken_of, LaneTaken};
+    ghost use Rattle.upload_reader.specs.inside.Taken.{upload_of, LaneTaken};
 
-    ghost view = { λ u. record {
-      client = u.client;
-      lines = u.lines;
-      lane = (taken_of u.progress).lane;
-      start = u.start.value.place;
-      given = (taken_of u.progress).given;
-      ending = u.ending;
-    } };
+    ghost view = { λ u. upload_of u.client u.lines u.progress u.start.value.place u.ending };
 
-    ghost invariant = { λ u. LaneTaken u.start.value.place u.lines (taken_of u.progress) u.ending };
+    ghost invariant = { λ u. LaneTaken (upload_of u.client u.lines u.progress u.start.value.place u.ending) u.progress.lines };
 }
 
 impl<R: Source> Upload<R> {
@@ -155,7 +144,7 @@ impl<R: Source> Upload<R> {
         // The messages that were given are the first ones of the stream, however the input goes on, and the end follows the last of them.
         ensures first { GivesFirst self.new }
         ensures over { IfOver result (EndsBy self.new) }
-        ensures real { IfOver result (λ end. is_real end ≡ true) }
+        ensures real { IfOver result IsReal }
 
         // A message may follow those before it. Its cost and the number of its visit are at least 1. No more are given than a lane may have.
         ensures lawful { IfGot result (λ message cost. MayFollow self.old.lane self.old.given message) }
@@ -170,31 +159,9 @@ impl<R: Source> Upload<R> {
             None => {}
         }
         let alloc = self.lines.allocator();
-        match next_message(alloc, &mut self.lines, &mut self.progress) {
-            Ok((message, cost)) => Next::Got(message, cost),
-            Err(ending) => {
-                self.ending = Some(ending);
-                Next::of(ending)
-            }
-        }
-    }
-}
-
-// The next message with its cost, behind any blank lines.
-fn next_message<R: Source>(
-    alloc: Global,
-    lines: &mut Lines<R>,
-    progress: &mut Progress,
-) -> Result<(Message, u32), Ending>
-    requires numbered { (taken_of progress.old).lines ≤ lines.old.place }
-    ensures takes { GoesOnBy lines.old lines.new (taken_of progress.old) (taken_of progress.new) result }
-    ensures priced { IfOk result (λ costed. IsPositive costed.0 costed.1) }
-    ensures lawful { IfOk result (λ costed. MayFollow (taken_of progress.old).lane (taken_of progress.old).given costed.0) }
-    ensures real { IfErr result IfReal }
-{
-    let (number, next) = next_text(lines, progress.lines());
-    match next {
-        Err(fault) => Err(Ending::without_line(number, fault)),
-        Ok(()) => progress.take(alloc, number, lines.line()),
+        let (number, text) = next_text(&mut self.lines, self.progress.lines());
+        let answer = self.progress.answer(alloc, number, text, self.lines.line());
+        self.ending = answer.ending();
+        answer
     }
 }

@@ -1,5 +1,5 @@
 -- What is found of a visit's parent.
-use Rattle.std.proofs.Common.{◌≡◌, ◌≢◌, ℕ, suc, ◌+◌, ◌==◌, ◌<◌, ◌≤◌, List, [], ◌∷◌, ◌++◌, length, take, zip, Bool, true, false, if◌then◌else◌, nat_lt, Option, Some, None, option_map, option_and_then, slice_get, IfSome, map, filter, inl, inr, refl, sym, ap, subst, ◌∙◌, arith}
+use Rattle.std.proofs.Common.{◌≡◌, ◌≢◌, ℕ, suc, ◌+◌, ◌==◌, ◌<◌, ◌≤◌, List, [], ◌∷◌, ◌++◌, length, take, zip, Bool, true, false, if◌then◌else◌, Option, Some, None, option_map, option_and_then, slice_get, IfSome, map, filter, inl, inr, refl, sym, ap, subst, ◌∙◌, arith}
 use Rattle.std.proofs.lemmas.Bool.Decides.{eqb_tells}
 use Rattle.std.proofs.lemmas.Option.{slice_get_within}
 use Rattle.std.proofs.lemmas.List.{length-append, length-map, append-nil}
@@ -10,31 +10,10 @@ use Rattle.std.specs.List.{last_or}
 use Rattle.std.specs.BTreeMap.{BTreeMap}
 use Rattle.visit_replay.proofs.Places.{some_same, take_suc, zip_at, zip_size, front_at, last_at, last_push, same_places, map_at, some_there}
 use Rattle.client_log.specs.declared.visit.Visit.{Visit}
-use Rattle.visit_replay.specs.Moved.{is_moved}
-use Rattle.visit_replay.specs.Following.{Replayed, last_numbered, parent_among, is_elsewhere, outcome_behind, with_next, following}
-use Rattle.visit_replay.specs.inside.Families.{pair_at, IsKnown, AreKnown, Stands}
+use Rattle.visit_replay.specs.Following.{Replayed, last_numbered, outcome_behind, with_next, following}
+use Rattle.visit_replay.specs.inside.Moves.{Knows}
+use Rattle.visit_replay.specs.inside.Families.{pair_at, AreKnown, Stands}
 use Rattle.visit_replay.specs.declared.outcome.Outcome.{Outcome}
-
-module _ (visits : List Visit) (outcomes : List Outcome) (places : ℕ → Option ℕ) (before : List Replayed) (stands : Stands visits outcomes places before) (visit : Visit) where
-  found_behind : nat_lt visit.parent visit.number ≡ true → parent_among before visit ≡ option_and_then (slice_get before) (places visit.parent)
-  found_behind less = rw less (sym (stands.places_are visit.parent))
-
-  pub none_there : places visit.parent ≡ None → is_elsewhere visit (parent_among before visit) ≡ false
-  none_there none = by_order (nat_lt visit.parent visit.number) refl
-    where
-      by_order : (b : Bool) → nat_lt visit.parent visit.number ≡ b → is_elsewhere visit (parent_among before visit) ≡ false
-      by_order true less = ap (is_elsewhere visit) (found_behind less ∙ ap (option_and_then (slice_get before)) none)
-      by_order false less = rw less refl
-
-  pub none_before : nat_lt visit.parent visit.number ≡ false → is_elsewhere visit (parent_among before visit) ≡ false
-  none_before less = rw less refl
-
-  pub one_there : (place : ℕ) (parent : Visit) (outcome : Outcome) → nat_lt visit.parent visit.number ≡ true → places visit.parent ≡ Some place → slice_get visits place ≡ Some parent
-      → slice_get outcomes place ≡ Some outcome → place < length before → is_elsewhere visit (parent_among before visit) ≡ is_moved parent outcome visit.from
-  one_there place parent outcome less at there given below =
-      ap (is_elsewhere visit)
-      (found_behind less ∙ ap (option_and_then (slice_get before)) at ∙ stands.pairs place below
-      ∙ ap (option_and_then (λ v. option_map (λ o. (v, o)) (slice_get outcomes place))) there ∙ ap (option_map (λ o. (parent, o))) given)
 
 -- ---- from visit to visit
 
@@ -136,7 +115,7 @@ module _ (visits : List Visit) (own : List Outcome) (k : ℕ) (outcomes : List O
       let within = slice_get_within (slots' ++ None ∷ []) j slot slot_at in
       let many = length-append slots' (None ∷ []) in
       elim (eqb_tells j k) [
-        | inl same ↦ subst (IsKnown v o) (some_same None slot (sym (last_at slots' None) ∙ ap (slice_get (slots' ++ None ∷ [])) (size ∙ sym same.1) ∙ slot_at)) tt
+        | inl same ↦ subst (λ slot. IfSome slot (Knows v o v.events)) (some_same None slot (sym (last_at slots' None) ∙ ap (slice_get (slots' ++ None ∷ [])) (size ∙ sym same.1) ∙ slot_at)) tt
         | inr other ↦
             let below : j < length slots' = omega (arith, within, many, size, other.1) in
             known j v o slot v_at o_at (sym (front_at slots' None j below) ∙ slot_at)

@@ -43,25 +43,18 @@ is_disabled place page = is_some (attribute_at place (codes "disabled") page)
 
 -- ---- inputs: into a text control that isn't disabled (K4), over an unchanged start text (K5)
 
-unfoldable pub input_conflict_on : Control → Bool → Bool → Option ConflictKind
-input_conflict_on control.Text disabled unchanged =
+-- K4, K5
+unfoldable pub input_conflict : Control → Bool → Bool → Option ConflictKind
+input_conflict control.Text disabled unchanged =
     if disabled then Some NotAField else (if unchanged then None else Some BaseChanged)
-input_conflict_on _ disabled unchanged = Some NotAField
+input_conflict _ disabled unchanged = Some NotAField
 
--- an absent start text is the same as no other, an absent one too
-abbrev pub is_same_start : Option (List ℕ) → Option (List ℕ) → Bool
-is_same_start (Some before) (Some now) = bytes_eq before now
-is_same_start before now = false
-
--- whether the path selected, on the old page, one text control that started as the one at the place does now; else K5
+-- whether the path selected, on the old page, one text control that started as the one at the place does now; else K5.
+-- A start text that is absent is the same as no other.
 abbrev pub is_unchanged : Tree → Tree → List Step → List ℕ → Bool
 is_unchanged old new path place =
-    is_same_start (option_and_then (λ there. start_text_at there old) (only_place (target_in path old)))
-    (start_text_at place new)
-
-abbrev pub input_conflict : Tree → Tree → List Step → List ℕ → Option ConflictKind
-input_conflict old new path place =
-    input_conflict_on (control_at place new) (is_disabled place new) (is_unchanged old new path place)
+    let was = option_and_then (λ there. start_text_at there old) (only_place (target_in path old)) in
+    option_map_or (λ before. option_map_or (bytes_eq before) (start_text_at place new) false) was false
 
 -- ---- clicks: on no radio button and no disabled checkbox (K4); one that made a request, on a link (K6)
 
@@ -69,14 +62,11 @@ abbrev pub off_link : ℕ → Option ConflictKind
 off_link req = if req == 0 then None else Some NotALink
 
 -- K4, K6
-unfoldable pub click_conflict_on : Control → Bool → ℕ → Option ConflictKind
-click_conflict_on control.Radio disabled req = Some NotAField
-click_conflict_on control.Check disabled req = if disabled then Some NotAField else off_link req
-click_conflict_on control.Link disabled req = None
-click_conflict_on _ disabled req = off_link req
-
-abbrev pub click_conflict : Tree → ℕ → List ℕ → Option ConflictKind
-click_conflict new req place = click_conflict_on (control_at place new) (is_disabled place new) req
+unfoldable pub click_conflict : Control → Bool → ℕ → Option ConflictKind
+click_conflict control.Radio disabled req = Some NotAField
+click_conflict control.Check disabled req = if disabled then Some NotAField else off_link req
+click_conflict control.Link disabled req = None
+click_conflict _ disabled req = off_link req
 
 -- ---- submits: of a form, and by a button of it where one was pressed (K7)
 
@@ -93,19 +83,17 @@ has_button new form None = true
 has_button new form (Some path) = option_map_or (is_button_of new form) (only_place (target_in path new)) false
 
 -- K7 where it is no form, or the button none of it
-unfoldable pub submit_conflict_on : Control → Bool → Option ConflictKind
-submit_conflict_on control.Form button = if button then None else Some NotAForm
-submit_conflict_on _ button = Some NotAForm
-
-abbrev pub submit_conflict : Tree → Option (List Step) → List ℕ → Option ConflictKind
-submit_conflict new by place = submit_conflict_on (control_at place new) (has_button new place by)
+unfoldable pub submit_conflict : Control → Bool → Option ConflictKind
+submit_conflict control.Form button = if button then None else Some NotAForm
+submit_conflict _ button = Some NotAForm
 
 -- ---- any event
 
 abbrev pub conflict_at : Tree → Tree → Event → List ℕ → Option ConflictKind
-conflict_at old new (Input at target value) place = input_conflict old new target place
-conflict_at old new (Click at target req) place = click_conflict new req place
-conflict_at old new (Submit at target by req) place = submit_conflict new by place
+conflict_at old new (Input at target value) place =
+    input_conflict (control_at place new) (is_disabled place new) (is_unchanged old new target place)
+conflict_at old new (Click at target req) place = click_conflict (control_at place new) (is_disabled place new) req
+conflict_at old new (Submit at target by req) place = submit_conflict (control_at place new) (has_button new place by)
 
 -- a target must be a place (K2), and one alone (K3)
 abbrev pub on_target : Target → (List ℕ → Option ConflictKind) → Option ConflictKind

@@ -1,8 +1,7 @@
 -- What a field holds before an event: the value of the last input into it, and a checkbox's start state turned once for
 -- each click on it. A field is a place of the page, however the paths to it are spelled (HTML 4.01, section 17.13.2:
 -- current value).
-use Rattle.std.specs.Prelude.{ℕ, zero, suc, List, [], Bool, false, not, if◌then◌else◌, Option, Some, None, unwrap_or, count_by}
-use Rattle.std.specs.List.{filter_map, last_or}
+use Rattle.std.specs.Prelude.{ℕ, List, [], Bool, false, not, if◌then◌else◌, Option, unwrap_or, fold}
 use Rattle.std.specs.Option.{option_map_or}
 use Rattle.std.specs.Str.{bytes_eq}
 use Rattle.page_tree.specs.Tree.{Tree}
@@ -17,26 +16,24 @@ is_there place found = option_map_or (λ other. bytes_eq other place) found fals
 
 -- ---- texts
 
--- what an event writes into the field there
-abbrev pub written : Tree → List ℕ → Event → Option (List ℕ)
-written new place (Input at target value) =
-    if is_there place (only_place (target_in target new)) then Some value else None
-written new place other = None
+-- what the field there holds after an event, from what it held before: an input into it writes its value
+abbrev pub text_after : Tree → List ℕ → List ℕ → Event → List ℕ
+text_after new place text (Input at target value) =
+    if is_there place (only_place (target_in target new)) then value else text
+text_after new place text other = text
 
 -- the value of the last input into it, or the start text where there was none, or else an empty text
 abbrev pub value_before : Tree → List Event → List ℕ → List ℕ
-value_before new before place = unwrap_or (last_or (start_text_at place new) (filter_map (written new place) before)) []
+value_before new before place = fold (text_after new place) (unwrap_or (start_text_at place new) []) before
 
 -- ---- checkboxes
 
-abbrev pub is_click_on : Tree → List ℕ → Event → Bool
-is_click_on new place (Click at target req) = is_there place (only_place (target_in target new))
-is_click_on new place other = false
-
-abbrev pub turned : ℕ → Bool → Bool
-turned zero on = on
-turned (suc n) on = not (turned n on)
+-- a click on it turns it
+abbrev pub is_on_after : Tree → List ℕ → Bool → Event → Bool
+is_on_after new place on (Click at target req) =
+    if is_there place (only_place (target_in target new)) then not on else on
+is_on_after new place on other = on
 
 -- the start state, turned once for each click on it
 abbrev pub is_on_before : Tree → List Event → List ℕ → Bool
-is_on_before new before place = turned (count_by (is_click_on new place) before) (start_checked_at place new)
+is_on_before new before place = fold (is_on_after new place) (start_checked_at place new) before

@@ -1,7 +1,8 @@
 -- The outcomes of a list of visits, of which each follows the visit that opened it, its parent (this project's own
 -- rule).
-use Rattle.std.specs.Prelude.{ℕ, List, [], ◌∷◌, ◌++◌, Bool, true, false, nat_lt, ◌==◌, if◌then◌else◌, Option, Some, None, map, filter, fold}
+use Rattle.std.specs.Prelude.{ℕ, List, [], ◌∷◌, ◌++◌, Bool, true, false, nat_lt, ◌==◌, if◌then◌else◌, Option, None, map, filter, fold}
 use Rattle.std.specs.List.{last_or}
+use Rattle.std.specs.Option.{option_map_or}
 use Rattle.client_log.specs.declared.visit.Visit.{Visit}
 use Rattle.visit_replay.specs.Moved.{is_moved}
 use Rattle.visit_replay.specs.Outcome.{outcome}
@@ -24,21 +25,18 @@ parent_among before visit = if nat_lt visit.parent visit.number then last_number
 
 -- whether the request that opened it goes elsewhere by its parent's outcome
 abbrev pub is_elsewhere : Visit → Option Replayed → Bool
-is_elsewhere visit None = false
-is_elsewhere visit (Some parent) = is_moved parent.0 parent.1 visit.from
+is_elsewhere visit parent = option_map_or (λ one. is_moved one.0 one.1 visit.from) parent false
 
 abbrev pub is_untouched : Outcome → Bool
 is_untouched Untouched = true
 is_untouched other = false
 
-abbrev pub moved_away : Outcome
-moved_away = Conflict [] 0 Moved
-
 -- what the visit gives behind these, by what it gives by itself: a visit that is untouched stays so; any other is a
 -- conflict at its load where its parent leads elsewhere now (K10)
 abbrev pub outcome_behind : List Replayed → Visit → Outcome → Outcome
 outcome_behind before visit own =
-    if is_untouched own then Untouched else (if is_elsewhere visit (parent_among before visit) then moved_away else own)
+    if is_untouched own then Untouched else
+    (if is_elsewhere visit (parent_among before visit) then Conflict [] 0 Moved else own)
 
 abbrev pub with_next : List Replayed → Replayed → List Replayed
 with_next before one = before ++ (one.0, outcome_behind before one.0 one.1) ∷ []

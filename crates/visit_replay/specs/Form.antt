@@ -37,26 +37,26 @@ sent_name place new = if is_disabled place new then None else unless_empty (attr
 abbrev pub value_or : List ℕ → List ℕ → Tree → List ℕ
 value_or default place new = unwrap_or (attribute_at place (codes "value") new) default
 
--- what a control sends that holds that text, or is on or off, where `by` is the place of the pressed button
-unfoldable pub sent_value : Control → List ℕ → Bool → Option (List ℕ) → Tree → List ℕ → Option (List ℕ)
-sent_value control.Text text on by new place = Some text
-sent_value control.Check text on by new place = if on then Some (value_or (codes "on") place new) else None
-sent_value control.Radio text on by new place =
+-- what the control there sends that holds that text, is on or off, and was pressed or not
+unfoldable pub sent_value : Control → List ℕ → Bool → Bool → Tree → List ℕ → Option (List ℕ)
+sent_value control.Text text on pressed new place = Some text
+sent_value control.Check text on pressed new place = if on then Some (value_or (codes "on") place new) else None
+sent_value control.Radio text on pressed new place =
     if start_checked_at place new then Some (value_or (codes "on") place new) else None
-sent_value control.Submit text on by new place = if is_there place by then Some (value_or [] place new) else None
-sent_value _ text on by new place = None
+sent_value control.Submit text on pressed new place = if pressed then Some (value_or [] place new) else None
+sent_value _ text on pressed new place = None
 
-abbrev pub paired : Option (List ℕ) → Option (List ℕ) → Option Pair
-paired name value = option_and_then (λ n. option_map (λ v. (n, v)) value) name
+-- the same under its name
+abbrev pub sent_pair : List ℕ → Bool → Bool → Tree → List ℕ → Option Pair
+sent_pair text on pressed new place =
+    let value = sent_value (control_at place new) text on pressed new place in
+    option_and_then (λ name. option_map (λ v. (name, v)) value) (sent_name place new)
 
-abbrev pub pair_of : Tree → List Event → Option (List ℕ) → List ℕ → Option Pair
-pair_of new before by place =
-    paired (sent_name place new)
-    (sent_value (control_at place new) (value_before new before place) (is_on_before new before place) by new place)
-
--- of all nodes under the form, in document order
+-- of all nodes under the form, in document order, where `by` is the place of the pressed button
 abbrev pub pairs_of : Tree → List Event → Option (List ℕ) → List ℕ → List Pair
-pairs_of new before by form = filter_map (pair_of new before by) (places_under form new)
+pairs_of new before by form =
+    filter_map (λ place. sent_pair (value_before new before place) (is_on_before new before place)
+    (is_there place by) new place) (places_under form new)
 
 -- the place of the pressed button, where one was pressed and its path selects one place
 abbrev pub button_of : Tree → Option (List Step) → Option (List ℕ)
@@ -68,12 +68,9 @@ encoded new before by form = extend_pairs [] (pairs_of new before (button_of new
 
 -- ---- method and address (section 17.13.3)
 
-abbrev pub is_mark : ℕ → Bool
-is_mark c = c == 63 || c == 35
-
 -- an address up to its first `?` or `#`
 abbrev pub bare : List ℕ → List ℕ
-bare address = before_first is_mark address
+bare address = before_first (λ c. c == 63 || c == 35) address
 
 abbrev pub is_post : List ℕ → Tree → Bool
 is_post form new =
@@ -84,22 +81,12 @@ is_post form new =
 abbrev pub action_of : List ℕ → List ℕ → Tree → List ℕ
 action_of address form new = unwrap_or (unless_empty (attribute_at form (codes "action") new)) address
 
-abbrev pub post_request : ℕ → List ℕ → List ℕ → Request
-post_request number action pairs = record { number = number; method = Post; address = action; pairs = pairs }
-
--- the pairs stand in the address, in the place of the action's own query and fragment
-abbrev pub get_request : ℕ → List ℕ → List ℕ → Request
-get_request number action pairs =
-    record { number = number; method = Get; address = bare action ++ codes "?" ++ pairs; pairs = pairs }
-
-abbrev pub form_request_of : Bool → ℕ → List ℕ → List ℕ → Request
-form_request_of post number action pairs =
-    if post then post_request number action pairs else get_request number action pairs
-
--- of the form at that place, with these pairs
-abbrev pub sent_by : List ℕ → List ℕ → Tree → ℕ → List ℕ → Request
-sent_by address form new number pairs = form_request_of (is_post form new) number (action_of address form new) pairs
+-- with the pairs: under Get they stand in the address, in the place of the action's own query and fragment
+abbrev pub sent_to : Bool → ℕ → List ℕ → List ℕ → Request
+sent_to post number action pairs =
+    if post then record { number = number; method = Post; address = action; pairs = pairs }
+    else record { number = number; method = Get; address = bare action ++ codes "?" ++ pairs; pairs = pairs }
 
 abbrev pub form_request : List ℕ → Tree → List Event → Option (List Step) → List ℕ → ℕ → Request
 form_request address new before by form number =
-    sent_by address form new number (encoded new before by form)
+    sent_to (is_post form new) number (action_of address form new) (encoded new before by form)

@@ -1,6 +1,6 @@
 -- Whether a request of a visit goes elsewhere now: what the visit asked for on the page that it was made on, beside
 -- what its replay asks for (this project's own rule). Only the addresses count.
-use Rattle.std.specs.Prelude.{ℕ, List, [], Bool, false, true, not, ◌==◌, if◌then◌else◌, Option, Some, None, option_and_then, slice_get}
+use Rattle.std.specs.Prelude.{ℕ, List, [], Bool, false, true, not, ◌==◌, if◌then◌else◌, Option, Some, None, option_map, option_and_then, slice_get}
 use Rattle.std.specs.List.{find, position}
 use Rattle.std.specs.Option.{option_map_or}
 use Rattle.std.specs.Str.{bytes_eq}
@@ -21,9 +21,10 @@ requests_of Untouched = []
 requests_of (Done requests) = requests
 requests_of (Conflict requests at kind) = requests
 
--- the first request with that number
-abbrev pub request_now : Outcome → ℕ → Option Request
-request_now outcome number = find (λ request. request.number == number) (requests_of outcome)
+-- the address of the first request with that number
+abbrev pub address_now : Outcome → ℕ → Option (List ℕ)
+address_now outcome number =
+    option_map (λ request. request.address) (find (λ request. request.number == number) (requests_of outcome))
 
 -- ---- what the visit asked for
 
@@ -38,17 +39,16 @@ own_request visit k =
     if option_map_or (is_bad visit.page visit.page) (slice_get visit.events k) true then None
     else nth_request visit.address visit.page visit.events k
 
-abbrev pub request_then : Visit → ℕ → Option Request
-request_then visit number = option_and_then (own_request visit) (event_numbered visit.events number)
-
 -- ---- whether they differ
 
-abbrev pub are_apart : Option Request → Option Request → Bool
-are_apart (Some before) (Some now) = not (bytes_eq before.address now.address)
+-- the request that the visit made and the address that its replay asks for
+abbrev pub are_apart : Option Request → Option (List ℕ) → Bool
+are_apart (Some before) (Some now) = not (bytes_eq before.address now)
 are_apart before now = false
 
 -- K10 of the visit that the request opened. A request that is missing stays where it is, and 0 is the number of no link
 -- or form.
 abbrev pub is_moved : Visit → Outcome → ℕ → Bool
 is_moved visit outcome from =
-    if from == 0 then false else are_apart (request_then visit from) (request_now outcome from)
+    if from == 0 then false else
+    are_apart (option_and_then (own_request visit) (event_numbered visit.events from)) (address_now outcome from)

@@ -1,6 +1,7 @@
 -- What replaying a visit gives: the first case that holds. Events are numbered from 1, the load is event 0.
 use Rattle.std.specs.Prelude.{ℕ, ◌+◌, List, [], length, Bool, if◌then◌else◌, Option, Some, None, is_some, option_map, option_and_then, slice_get}
 use Rattle.std.specs.List.{list_any, position}
+use Rattle.std.specs.Option.{option_map_or}
 use Rattle.std.specs.Str.{bytes_eq}
 use Rattle.page_tree.specs.Tree.{Tree}
 use Rattle.upload_reader.specs.declared.message.Event.{Event}
@@ -11,7 +12,6 @@ use Rattle.visit_replay.specs.RepairedSite.{RepairedSite}
 use Rattle.visit_replay.specs.Requests.{requests_before}
 use Rattle.visit_replay.specs.declared.outcome.ConflictKind.{ConflictKind}
 use Rattle.visit_replay.specs.declared.outcome.ConflictKind.TheVariants.{NoPage, LogCut, Ui}
-use Rattle.visit_replay.specs.declared.requests.Request.{Request}
 use Rattle.visit_replay.specs.declared.outcome.Outcome.{Outcome}
 use Rattle.visit_replay.specs.declared.outcome.Outcome.TheVariants.{Untouched, Done, Conflict}
 
@@ -29,41 +29,32 @@ is_affected patch address = is_listed patch (bare address)
 abbrev pub is_bad : Tree → Tree → Event → Bool
 is_bad old new event = is_some (conflict old new event)
 
--- how many events stand before it
-abbrev pub first_bad : Tree → Tree → List Event → Option ℕ
-first_bad old new events = position (is_bad old new) events
-
 abbrev pub conflict_of : Tree → Tree → List Event → ℕ → Option ConflictKind
 conflict_of old new events k = option_and_then (conflict old new) (slice_get events k)
 
+-- how many events stand before it, and why
+abbrev pub first_conflict : Tree → Tree → List Event → Option (ℕ × ConflictKind)
+first_conflict old new events = let first = position (is_bad old new) events in
+    option_and_then (λ k. option_map (λ kind. (k, kind)) (conflict_of old new events k)) first
+
 -- ---- the outcome
-
-abbrev pub all_requests : Visit → Tree → List Request
-all_requests visit new = requests_before visit.address new visit.events (length visit.events)
-
-abbrev pub behind_the_events : Visit → Tree → ConflictKind → Outcome
-behind_the_events visit new kind = Conflict (all_requests visit new) (length visit.events + 1) kind
 
 -- where no event is bad: the visit was kept in part (K8), or the site signals a conflict (K9), or all is done
 abbrev pub at_end : Visit → Tree → Bool → Outcome
 at_end visit new signalled =
-    if visit.cut then behind_the_events visit new LogCut else
-    (if signalled then behind_the_events visit new Ui else Done (all_requests visit new))
+    let n = length visit.events in let requests = requests_before visit.address new visit.events n in
+    if visit.cut then Conflict requests (n + 1) LogCut else
+    (if signalled then Conflict requests (n + 1) Ui else Done requests)
 
-abbrev pub at_event : Visit → Tree → Bool → Option (ℕ × ConflictKind) → Outcome
-at_event visit new signalled (Some found) =
-    Conflict (requests_before visit.address new visit.events found.0) (found.0 + 1) found.1
-at_event visit new signalled None = at_end visit new signalled
-
--- its place among the events, and why
-abbrev pub first_conflict : Tree → Tree → List Event → Option (ℕ × ConflictKind)
-first_conflict old new events =
-    option_and_then (λ k. option_map (λ kind. (k, kind)) (conflict_of old new events k)) (first_bad old new events)
+-- where the first bad event is that one
+abbrev pub at_event : Visit → Tree → ℕ × ConflictKind → Outcome
+at_event visit new bad = Conflict (requests_before visit.address new visit.events bad.0) (bad.0 + 1) bad.1
 
 -- on the page that the site has there now, if it has one (K1)
 abbrev pub on_page : Visit → (Tree → Bool) → Option Tree → Outcome
 on_page visit signalled None = Conflict [] 0 NoPage
-on_page visit signalled (Some new) = at_event visit new (signalled new) (first_conflict visit.page new visit.events)
+on_page visit signalled (Some new) =
+    option_map_or (at_event visit new) (first_conflict visit.page new visit.events) (at_end visit new (signalled new))
 
 -- where the patch doesn't list the visit's address it is left alone
 abbrev pub outcome : RepairedSite → Visit → Outcome

@@ -14,25 +14,19 @@ use Rattle.visit_replay.specs.declared.requests.Request.{Request}
 abbrev pub load_request : List ℕ → Request
 load_request address = record { number = 0; method = Load; address = address; pairs = [] }
 
-abbrev pub link_request : ℕ → List ℕ → Request
-link_request number address = record { number = number; method = Get; address = address; pairs = [] }
-
 -- of the link at that place, with its address as it is written
-abbrev pub link_request_at : ℕ → List ℕ → Tree → Option Request
-link_request_at number place new = option_map (link_request number) (attribute_at place (codes "href") new)
+abbrev pub link_request : ℕ → List ℕ → Tree → Option Request
+link_request number place new =
+    option_map (λ address. record { number = number; method = Get; address = address; pairs = [] })
+    (attribute_at place (codes "href") new)
 
--- with 0 for its number an event makes none
-abbrev pub numbered : ℕ → Option Request → Option Request
-numbered req request = if req == 0 then None else request
-
--- of an event at that place, behind those events: a click sends the address of its link as it is written, a submit its
--- form
+-- of an event at that place, behind those events: of a click that of its link, of a submit that of its form; with 0 for
+-- its number an event makes none
 abbrev pub request_at : List ℕ → Tree → List Event → Event → List ℕ → Option Request
 request_at address new before (Input at target value) place = None
-request_at address new before (Click at target req) place =
-    numbered req (link_request_at req place new)
+request_at address new before (Click at target req) place = if req == 0 then None else link_request req place new
 request_at address new before (Submit at target by req) place =
-    numbered req (Some (form_request address new before by place req))
+    if req == 0 then None else Some (form_request address new before by place req)
 
 abbrev pub event_request : List ℕ → Tree → List Event → Event → Option Request
 event_request address new before event =

@@ -1,4 +1,3 @@
-pub mod Setting
 pub mod FieldsNow
 pub mod KeptFields
 pub mod OneEvent

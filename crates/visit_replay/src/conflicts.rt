@@ -4,8 +4,8 @@ ghost use Rattle.page_tree.specs.Limits.{nodes};
 ghost use Rattle.page_tree.specs.Number.{place_numbered};
 ghost use Rattle.page_tree.specs.Under.{is_under};
 ghost use Rattle.xpath_child.specs.Targets.{target_in, only_place};
-ghost use Rattle.visit_replay.specs.Conflict.{path_of, is_disabled, input_conflict, input_conflict_on, is_unchanged, off_link, click_conflict, click_conflict_on, is_enabled_submit, is_button_of, has_button, submit_conflict, submit_conflict_on, conflict_at};
-ghost use Rattle.visit_replay.specs.inside.OneEvent.{Locates, IsNodeOf, IsTargetOf, IsButton, by_of};
+ghost use Rattle.visit_replay.specs.Conflict.{path_of, is_disabled, input_conflict, is_unchanged, off_link, click_conflict, is_enabled_submit, is_button_of, has_button, submit_conflict, conflict_at};
+ghost use Rattle.visit_replay.specs.inside.OneEvent.{Locates, IsNodeOf, IsButton, by_of};
 
 use crate::outcome::ConflictKind;
 use page_tree::{Control, NoMemory, Page};
@@ -37,7 +37,7 @@ pub(crate) fn find(old: &Page, new: &Page, event: &Event) -> Result<Located, NoM
 
 /// The number of the event's target, if its path selects one node.
 pub(crate) fn target_of(page: &Page, event: &Event) -> Option<u32>
-    ensures target { IfSome result (IsTargetOf page.now event.now) }
+    ensures target { IfSome result (IsNodeOf (path_of event.now) page.now) }
     ensures none { IfNone result (only_place (target_in (path_of event.now) page.now) ≡ None) }
 {
     only(path_of(event), page)
@@ -85,10 +85,17 @@ fn conflict_at(
     requires button { IsButton new.now (by_of event.now) button }
     ensures { IfOk result (λ found. found ≡ conflict_at old.now new.now event.now (place_numbered target new.now)) }
 {
+    let control = new.control_of(target);
     match event {
-        Event::Input { target: path, .. } => input_conflict(old, new, path, target),
-        Event::Click { req, .. } => Ok(click_conflict(new, *req, target)),
-        Event::Submit { by, .. } => Ok(submit_conflict(new, by, target, button)),
+        Event::Input { target: path, .. } => {
+            let unchanged = is_unchanged(old, new, path, target)?;
+            Ok(input_conflict(control, is_disabled(new, target), unchanged))
+        }
+        Event::Click { req, .. } => Ok(click_conflict(control, is_disabled(new, target), *req)),
+        Event::Submit { by, .. } => Ok(submit_conflict(
+            control,
+            has_button(new, target, by, button),
+        )),
     }
 }
 
@@ -100,22 +107,10 @@ pub(crate) fn is_disabled(page: &Page, number: u32) -> bool
 
 // ---- inputs: K4, K5
 
-fn input_conflict(
-    old: &Page,
-    new: &Page,
-    path: &Path,
-    number: u32,
-) -> Result<Option<ConflictKind>, NoMemory>
-    ensures { IfOk result (λ found. found ≡ input_conflict old.now new.now path.now (place_numbered number new.now)) }
-{
-    let unchanged = is_unchanged(old, new, path, number)?;
-    Ok(input_conflict_on(new.control_of(number), is_disabled(new, number), unchanged))
-}
-
 // K4 off a text control or into a disabled one, K5 over a changed text.
-#[tactic(auto, unfolding(crate::specs::Conflict::input_conflict_on))]
-fn input_conflict_on(control: Control, disabled: bool, unchanged: bool) -> Option<ConflictKind>
-    ensures { result ≡ input_conflict_on control disabled unchanged }
+#[tactic(auto, unfolding(crate::specs::Conflict::input_conflict))]
+fn input_conflict(control: Control, disabled: bool, unchanged: bool) -> Option<ConflictKind>
+    ensures { result ≡ input_conflict control disabled unchanged }
 {
     match control {
         Control::Text if disabled => Some(ConflictKind::NotAField),
@@ -140,16 +135,10 @@ fn is_unchanged(old: &Page, new: &Page, path: &Path, number: u32) -> Result<bool
 
 // ---- clicks: K4, K6
 
-fn click_conflict(new: &Page, req: u64, number: u32) -> Option<ConflictKind>
-    ensures { result ≡ click_conflict new.now req (place_numbered number new.now) }
-{
-    click_conflict_on(new.control_of(number), is_disabled(new, number), req)
-}
-
 // K4 on a radio button or a disabled checkbox.
-#[tactic(auto, unfolding(crate::specs::Conflict::click_conflict_on))]
-fn click_conflict_on(control: Control, disabled: bool, req: u64) -> Option<ConflictKind>
-    ensures { result ≡ click_conflict_on control disabled req }
+#[tactic(auto, unfolding(crate::specs::Conflict::click_conflict))]
+fn click_conflict(control: Control, disabled: bool, req: u64) -> Option<ConflictKind>
+    ensures { result ≡ click_conflict control disabled req }
 {
     match control {
         Control::Radio => Some(ConflictKind::NotAField),
@@ -172,24 +161,10 @@ fn off_link(req: u64) -> Option<ConflictKind>
 
 // ---- submits: K7
 
-fn submit_conflict(
-    new: &Page,
-    by: &Option<Path>,
-    form: u32,
-    button: Option<u32>,
-) -> Option<ConflictKind>
-    requires there { form < nodes new.now }
-    requires button { IsButton new.now by.now button }
-    ensures { result ≡ submit_conflict new.now by.now (place_numbered form new.now) }
-{
-    let has = has_button(new, form, by, button);
-    submit_conflict_on(new.control_of(form), has)
-}
-
 // K7 off a form, or without its button.
-#[tactic(auto, unfolding(crate::specs::Conflict::submit_conflict_on))]
-fn submit_conflict_on(control: Control, button: bool) -> Option<ConflictKind>
-    ensures { result ≡ submit_conflict_on control button }
+#[tactic(auto, unfolding(crate::specs::Conflict::submit_conflict))]
+fn submit_conflict(control: Control, button: bool) -> Option<ConflictKind>
+    ensures { result ≡ submit_conflict control button }
 {
     match control {
         Control::Form if button => None,

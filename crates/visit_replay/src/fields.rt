@@ -1,8 +1,11 @@
 //! The fields of a page that events have changed so far.
-ghost use Rattle.std.specs.Prelude.{◌≡◌, [], OnOk, option_map, unwrap_or};
+ghost use Rattle.std.specs.Prelude.{◌≡◌, [], OnOk, option_map};
+ghost use Rattle.std.specs.BTreeMap.{get};
+ghost use Rattle.std.specs.Ordering.{nat_cmp};
 ghost use Rattle.page_tree.specs.Tree.{Tree};
-ghost use Rattle.visit_replay.specs.inside.KeptFields.{Keeps, TakesIn, IsWritten, IsClicked, text_written, check_turned};
-ghost use Rattle.visit_replay.specs.inside.OneEvent.{IsTargetOf};
+ghost use Rattle.visit_replay.specs.Conflict.{path_of};
+ghost use Rattle.visit_replay.specs.inside.KeptFields.{Keeps, TakesIn, is_on_now};
+ghost use Rattle.visit_replay.specs.inside.OneEvent.{IsNodeOf};
 
 use page_tree::{Control, NoMemory, Page};
 use std::alloc::Global;
@@ -29,46 +32,38 @@ impl<'a> Fields<'a> {
 
     /// What was written into the field; none where nothing was.
     pub(crate) fn text(&self, number: u32) -> Option<&str>
-        ensures { option_map (λ text. text.now) result ≡ text_written self.now number }
+        ensures { option_map (λ t. t.now) result ≡ option_map (λ t. t.now) (get nat_cmp self.now.texts number) }
     {
         self.texts.get(&number).copied()
     }
 
-    /// Whether the checkbox is on, which started so.
-    pub(crate) fn is_on(&self, number: u32, start: bool) -> bool
-        ensures { result ≡ unwrap_or (check_turned self.now number) start }
+    /// Whether the checkbox is on.
+    pub(crate) fn is_on(&self, new: &Page, number: u32) -> bool
+        ensures { result ≡ is_on_now self.now new.now number }
     {
+        let start = new.start_checked_of(number);
         self.checks.get(&number).copied().unwrap_or(start)
     }
 
-    /// Takes in one event more, whose target has that number.
+    /// Takes in one event more, whose target has that number. A click turns a checkbox; of any other nothing is kept.
     pub(crate) fn note(&mut self, new: &Page, event: &'a Event, number: u32) -> Result<(), NoMemory>
-        requires { IsTargetOf new.now event.now number }
+        requires { IsNodeOf (path_of event.now) new.now number }
         ensures { OnOk result (TakesIn new.now event.now self.old self.new) }
     {
         match event {
-            Event::Input { value, .. } => self.note_input(value.as_str(), number),
-            Event::Click { .. } => self.note_click(new, number),
+            Event::Input { value, .. } => {
+                self.texts.insert(number, value.as_str())?;
+                Ok(())
+            }
+            Event::Click { .. } => match new.control_of(number) {
+                Control::Check => {
+                    let on = self.is_on(new, number);
+                    self.checks.insert(number, !on)?;
+                    Ok(())
+                }
+                _ => Ok(()),
+            },
             Event::Submit { .. } => Ok(()),
         }
-    }
-
-    // The field holds that text from now on.
-    fn note_input(&mut self, text: &'a str, number: u32) -> Result<(), NoMemory>
-        ensures { OnOk result (IsWritten self.old self.new number text.now) }
-    {
-        self.texts.insert(number, text)?;
-        Ok(())
-    }
-
-    // A checkbox is turned; of any other click nothing is kept.
-    fn note_click(&mut self, new: &Page, number: u32) -> Result<(), NoMemory>
-        ensures { OnOk result (IsClicked self.old self.new new.now number) }
-    {
-        if let Control::Check = new.control_of(number) {
-            let on = self.is_on(number, new.start_checked_of(number));
-            self.checks.insert(number, !on)?;
-        }
-        Ok(())
     }
 }

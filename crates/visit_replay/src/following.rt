@@ -1,18 +1,18 @@
 //! The outcomes of a list of visits, of which each follows its parent.
-ghost use Rattle.std.specs.Prelude.{◌≡◌, ◌≢◌, ◌<◌, ℕ, length, map, zip, slice_get, IfOk, IfSome, OnOk};
+ghost use Rattle.std.specs.Prelude.{◌≡◌, ◌≢◌, ◌<◌, ◌≤◌, [], ℕ, length, map, zip, slice_get, IfOk, IfSome, OnOk};
 ghost use Rattle.std.specs.BTreeMap.{get};
 ghost use Rattle.std.specs.Ordering.{nat_cmp};
 ghost use Rattle.visit_replay.specs.Moved.{is_moved};
-ghost use Rattle.visit_replay.specs.Following.{is_untouched, moved_away, following};
-ghost use Rattle.visit_replay.specs.inside.Families.{IsKnown, AreKnown, ArePlaces, TellsElsewhere, IsBehind};
-ghost use Rattle.visit_replay.specs.inside.Setting.{IsSetAt};
+ghost use Rattle.visit_replay.specs.Following.{is_untouched, following};
+ghost use Rattle.visit_replay.specs.inside.Moves.{Knows};
+ghost use Rattle.visit_replay.specs.inside.Families.{AreKnown, TellsElsewhere, IsBehind};
 
-use crate::moves::{has_moved, moves_of};
+use crate::moves::moves_of;
 use crate::outcome::{ConflictKind, Outcome};
 use crate::requests::Requests;
 use client_log::Visit;
 use page_tree::NoMemory;
-use std::alloc::{AllocError, Global};
+use std::alloc::Global;
 use std::collections::BTreeMap;
 
 /// The outcomes of visits in their order, from those that `replay` gives of each by itself. A visit that isn't untouched is a conflict at its load where its
@@ -39,7 +39,7 @@ pub fn follow_parents(
             &places,
             slots.as_mut_slice(),
         )?;
-        put_place(&mut places, visits[k].number, k)?;
+        places.insert(visits[k].number, k)?;
         slots.push_reserved(None);
     }
     Ok(outcomes)
@@ -82,20 +82,13 @@ fn is_untouched(outcome: &Outcome) -> bool
 
 // K10.
 fn moved_away(alloc: Global) -> Outcome
-    ensures { result ≡ moved_away }
+    ensures { result ≡ Outcome.Conflict [] 0 ConflictKind.Moved }
 {
     Outcome::Conflict {
         requests: Requests::new(alloc),
         at: 0,
         kind: ConflictKind::Moved,
     }
-}
-
-fn put_place(places: &mut BTreeMap<u64, usize>, number: u64, place: usize) -> Result<(), AllocError>
-    ensures { OnOk result (IsSetAt number place (get nat_cmp places.old) (get nat_cmp places.new)) }
-{
-    places.insert(number, place)?;
-    Ok(())
 }
 
 // Whether the visit's parent leads elsewhere now.
@@ -107,7 +100,8 @@ fn is_elsewhere(
     slots: &mut [Option<BTreeMap<u64, bool>>],
     visit: &Visit,
 ) -> Result<bool, NoMemory>
-    requires within { ArePlaces (get nat_cmp places.now) visits.now outcomes.now slots.old }
+    requires there { (length slots.old ≤ length visits.now) × (length slots.old ≤ length outcomes.now) }
+    requires within { (number : ℕ) → IfSome (get nat_cmp places.now number) (λ j. j < length slots.old) }
     requires known { AreKnown visits.now outcomes.now slots.old }
     ensures known { AreKnown visits.now outcomes.now slots.new }
     ensures answer { IfOk result (TellsElsewhere visits.now outcomes.now (get nat_cmp places.now) visit.now) }
@@ -135,15 +129,15 @@ fn knows(
     slot: &mut Option<BTreeMap<u64, bool>>,
     number: u64,
 ) -> Result<bool, NoMemory>
-    requires { IsKnown visit.now outcome.now slot.old }
-    ensures slot { IsKnown visit.now outcome.now slot.new }
+    requires { IfSome slot.old (Knows visit.now outcome.now visit.now.events) }
+    ensures slot { IfSome slot.new (Knows visit.now outcome.now visit.now.events) }
     ensures answer { IfOk result (λ answer. answer ≡ is_moved visit.now outcome.now number) }
 {
     if slot.is_none() {
         *slot = Some(moves_of(alloc, visit, outcome)?);
     }
     match slot {
-        Some(moves) => Ok(has_moved(moves, number)),
+        Some(moves) => Ok(number != 0 && moves.get(&number).copied().unwrap_or(false)),
         None => Ok(false),
     }
 }

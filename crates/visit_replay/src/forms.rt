@@ -1,11 +1,13 @@
 //! What a form sends.
-ghost use Rattle.std.specs.Prelude.{◌≡◌, ◌<◌, [], ◌∷◌, IfOk, OnOk, option_map};
+ghost use Rattle.std.specs.Prelude.{◌≡◌, ◌<◌, ◌==◌, [], ◌∷◌, false, IfOk, OnOk, option_map};
 ghost use Rattle.std.specs.List.{cons_option};
+ghost use Rattle.std.specs.Option.{option_map_or};
 ghost use Rattle.form_urlencoded.specs.Form.{append_pair};
 ghost use Rattle.page_tree.specs.Limits.{nodes};
 ghost use Rattle.page_tree.specs.Number.{place_numbered};
 ghost use Rattle.visit_replay.specs.Form.{unless_empty, sent_name, value_or, is_post, action_of};
-ghost use Rattle.visit_replay.specs.inside.FieldsNow.{text_now, is_on_now, is_pressed, named_now, pair_now, pairs_now, with_pairs, IsEncoded};
+ghost use Rattle.visit_replay.specs.inside.KeptFields.{text_now};
+ghost use Rattle.visit_replay.specs.inside.FieldsNow.{pair_now, pairs_now, with_pairs, IsEncoded};
 
 use crate::conflicts::is_disabled;
 use crate::fields::Fields;
@@ -75,29 +77,17 @@ fn add_pairs(
 }
 
 // Adds what the node with that number sends, if anything.
+#[tactic(auto, unfolding(crate::specs::Form::sent_value))]
 fn add_pair(pairs: &mut Serializer, filled: &Filled<'_, '_>, number: u32) -> Result<(), NoMemory>
     ensures { OnOk result (pairs.new ≡ with_pairs pairs.old (cons_option (pair_now filled.now number) [])) }
 {
-    match sent_name(filled.page, number) {
-        Some(name) => add_named(pairs, name, filled, number),
-        None => Ok(()),
-    }
-}
-
-// The same of a node that isn't disabled and has that name.
-#[tactic(auto, unfolding(crate::specs::Form::sent_value))]
-fn add_named(
-    pairs: &mut Serializer,
-    name: &str,
-    filled: &Filled<'_, '_>,
-    number: u32,
-) -> Result<(), NoMemory>
-    ensures { OnOk result (pairs.new ≡ with_pairs pairs.old (cons_option (named_now filled.now name.now number) [])) }
-{
     let page = filled.page;
+    let Some(name) = sent_name(page, number) else {
+        return Ok(());
+    };
     match page.control_of(number) {
-        Control::Text => add_text(pairs, name, filled, number),
-        Control::Check if is_on(filled, number) => {
+        Control::Text => add_text(pairs, name, filled.fields, page, number),
+        Control::Check if filled.fields.is_on(page, number) => {
             pairs.append_pair(name, value_or("on", page, number))
         }
         Control::Radio if page.start_checked_of(number) => {
@@ -114,14 +104,15 @@ fn add_named(
 fn add_text(
     pairs: &mut Serializer,
     name: &str,
-    filled: &Filled<'_, '_>,
+    fields: &Fields<'_>,
+    page: &Page,
     number: u32,
 ) -> Result<(), NoMemory>
-    ensures { OnOk result (pairs.new ≡ with_pairs pairs.old ((name.now, text_now filled.now number) ∷ [])) }
+    ensures { OnOk result (pairs.new ≡ with_pairs pairs.old ((name.now, text_now fields.now page.now number) ∷ [])) }
 {
-    match filled.fields.text(number) {
+    match fields.text(number) {
         Some(text) => pairs.append_pair(name, text),
-        None => match filled.page.start_text_of(number)? {
+        None => match page.start_text_of(number)? {
             Some(text) => pairs.append_pair(name, text.as_str()),
             None => pairs.append_pair(name, ""),
         },
@@ -146,16 +137,8 @@ fn value_or<'a>(default: &'a str, page: &'a Page, number: u32) -> &'a str
     page.attribute_of(number, "value").unwrap_or(default)
 }
 
-fn is_on(filled: &Filled<'_, '_>, number: u32) -> bool
-    ensures { result ≡ is_on_now filled.now number }
-{
-    filled
-        .fields
-        .is_on(number, filled.page.start_checked_of(number))
-}
-
 fn is_pressed(button: Option<u32>, number: u32) -> bool
-    ensures { result ≡ is_pressed button number }
+    ensures { result ≡ option_map_or (λ pressed. pressed == number) button false }
 {
     let Some(pressed) = button else {
         return false;

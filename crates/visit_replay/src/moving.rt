@@ -1,6 +1,6 @@
 //! Whether a request of a visit goes elsewhere now.
 ghost use Rattle.std.specs.Prelude.{◌≡◌, ◌<◌, length, take, IfOk, IfSome, OnOk, option_map};
-ghost use Rattle.visit_replay.specs.Moved.{requests_of, request_now, event_numbered, own_request, request_then, is_moved};
+ghost use Rattle.visit_replay.specs.Moved.{requests_of, address_now, event_numbered, own_request, is_moved};
 ghost use Rattle.visit_replay.specs.inside.KeptFields.{Keeps, TakesIn};
 
 use crate::conflicts::{Located, find, target_of};
@@ -24,7 +24,10 @@ pub fn moved(alloc: Global, visit: &Visit, outcome: &Outcome, from: u64) -> Resu
     let Some(now) = request_now(outcome, from) else {
         return Ok(false);
     };
-    match request_then(alloc, visit, from)? {
+    let Some(k) = event_numbered(visit.events.as_slice(), from) else {
+        return Ok(false);
+    };
+    match own_request(alloc, visit, k)? {
         Some(before) => Ok(before.address.as_str() != now.address.as_str()),
         None => Ok(false),
     }
@@ -43,7 +46,7 @@ pub(crate) fn requests_of(outcome: &Outcome) -> &[Request]
 }
 
 fn request_now(outcome: &Outcome, number: u64) -> Option<&Request>
-    ensures { option_map (λ request. request.now) result ≡ request_now outcome.now number }
+    ensures { option_map (λ request. request.now.address) result ≡ address_now outcome.now number }
 {
     requests_of(outcome)
         .iter()
@@ -60,16 +63,7 @@ fn event_numbered(events: &[Event], number: u64) -> Option<usize>
     events.iter().position(|event| event.request() == number)
 }
 
-fn request_then(alloc: Global, visit: &Visit, number: u64) -> Result<Option<Request>, NoMemory>
-    ensures { IfOk result (λ request. request ≡ request_then visit.now number) }
-{
-    match event_numbered(visit.events.as_slice(), number) {
-        Some(k) => own_request(alloc, visit, k),
-        None => Ok(None),
-    }
-}
-
-// Of the event with k events before it.
+// The request of the event with k events before it.
 fn own_request(alloc: Global, visit: &Visit, k: usize) -> Result<Option<Request>, NoMemory>
     requires { k < length visit.now.events }
     ensures { IfOk result (λ request. request ≡ own_request visit.now k) }

@@ -1,9 +1,9 @@
 //! The outcome of a visit: the walk over its events, up to the first that can't be replayed, and what stands at its end.
-ghost use Rattle.std.specs.Prelude.{ℕ, ◌≡◌, ◌<◌, ◌+◌, ◌^◌, IfOk, IfSome, Some};
-ghost use Rattle.visit_replay.specs.Conflict.{conflict};
-ghost use Rattle.visit_replay.specs.Outcome.{outcome, all_requests, first_conflict};
+ghost use Rattle.std.specs.Prelude.{◌≡◌, ◌<◌, ◌+◌, length, IfOk, IfSome, IfNone, Some};
+ghost use Rattle.visit_replay.specs.Requests.{requests_before};
+ghost use Rattle.visit_replay.specs.Outcome.{outcome, conflict_of, on_page, at_end};
 ghost use Rattle.visit_replay.specs.RepairedSite.{site_by};
-ghost use Rattle.visit_replay.specs.inside.OneEvent.{TakesEvent, made_until, outcome_on_page, outcome_at_end};
+ghost use Rattle.visit_replay.specs.inside.OneEvent.{IsWalked};
 
 use crate::conflicts::{Located, find};
 use crate::fields::Fields;
@@ -43,24 +43,26 @@ pub fn replay<H: SiteHooks>(
     }
 }
 
-// On the page that the site has there now.
+// On the page that the site has there now: the events, up to the first that can't be replayed.
 fn replay_on<H: SiteHooks>(
     alloc: Global,
     hooks: &H,
     visit: &Visit,
     new: &Page,
 ) -> Result<Outcome, NoMemory>
-    ensures { IfOk result (λ answer. answer ≡ outcome_on_page (H.signals hooks.now) visit.now new.now) }
+    ensures { IfOk result (λ answer. answer
+        ≡ on_page visit.now (H.signals hooks.now visit.now.address visit.now.page) (Some new.now)) }
 {
-    let walked = walk(alloc, visit, new)?;
-    match walked.stop {
-        Some((before, kind)) => Ok(Outcome::Conflict {
-            requests: walked.requests,
-            at: before + 1,
-            kind,
-        }),
-        None => finish(hooks, visit, new, walked.requests),
+    let mut fields = Fields::new(alloc);
+    let mut requests = Requests::new(alloc);
+    requests.push(load_request(alloc, visit.address.as_str())?)?;
+    for i in 0..visit.events.as_slice().len() {
+        if let Some(kind) = step(alloc, visit, new, i, &mut fields, &mut requests)? {
+            let at = i as u64 + 1;
+            return Ok(Outcome::Conflict { requests, at, kind });
+        }
     }
+    finish(hooks, visit, new, requests)
 }
 
 // Behind the last event: K8, K9, or done.
@@ -70,8 +72,9 @@ fn finish<H: SiteHooks>(
     new: &Page,
     requests: Requests,
 ) -> Result<Outcome, NoMemory>
-    requires { requests ≡ all_requests visit.now new.now }
-    ensures { IfOk result (λ answer. answer ≡ outcome_at_end (H.signals hooks.now) visit.now new.now) }
+    requires { requests ≡ requests_before visit.now.address new.now visit.now.events (length visit.now.events) }
+    ensures { IfOk result (λ answer. answer
+        ≡ at_end visit.now new.now (H.signals hooks.now visit.now.address visit.now.page new.now)) }
 {
     let at = visit.events.as_slice().len() as u64 + 1;
     if visit.cut {
@@ -85,46 +88,22 @@ fn finish<H: SiteHooks>(
     Ok(Outcome::Done { requests })
 }
 
-// ---- the events
-
-/// What a walk gave: the requests that were made, and, where an event can't be replayed, how many stand before it, and why.
-#[derive(Drop)]
-struct Walked {
-    requests: Requests,
-    stop: Option<(u64, ConflictKind)>,
-}
-
-// The walk over the events, up to the first that can't be replayed.
-fn walk(alloc: Global, visit: &Visit, new: &Page) -> Result<Walked, NoMemory>
-    ensures stop { IfOk result (λ walked. walked.stop ≡ first_conflict visit.now.page new.now visit.now.events) }
-    ensures requests { IfOk result (λ walked. walked.requests ≡ made_until visit.now new.now walked.stop) }
-    ensures within { IfOk result (λ walked. IfSome walked.stop (λ stop. stop.0 + 1 < 2 ^ 64)) }
-{
-    let mut fields = Fields::new(alloc);
-    let mut requests = Requests::new(alloc);
-    requests.push(load_request(alloc, visit.address.as_str())?)?;
-    for (i, event) in visit.events.as_slice().iter().enumerate() {
-        if let Some(kind) = step(alloc, visit, new, event, &mut fields, &mut requests)? {
-            let stop = Some((i as u64, kind));
-            return Ok(Walked { requests, stop });
-        }
-    }
-    let stop = None;
-    Ok(Walked { requests, stop })
-}
-
-// Replays one event, or says why it can't be.
+// Replays the event with i events before it, or says why it can't be.
 fn step<'a>(
     alloc: Global,
-    visit: &Visit,
+    visit: &'a Visit,
     new: &Page,
-    event: &'a Event,
+    i: usize,
     fields: &mut Fields<'a>,
     requests: &mut Requests,
 ) -> Result<Option<ConflictKind>, NoMemory>
-    ensures conflict { IfOk result (λ found. found ≡ conflict visit.now.page new.now event.now) }
-    ensures steps { IfOk result (TakesEvent visit.now new.now event.now fields.old fields.new requests.old requests.new) }
+    requires there { i < length visit.now.events }
+    requires so_far { IsWalked visit.now new.now i fields.old requests.old }
+    ensures conflict { IfOk result (λ found. found ≡ conflict_of visit.now.page new.now visit.now.events i) }
+    ensures stays { IfOk result (λ found. IfSome found (λ _. requests.new ≡ requests.old)) }
+    ensures further { IfOk result (λ found. IfNone found (IsWalked visit.now new.now (i + 1) fields.new requests.new)) }
 {
+    let event = &visit.events.as_slice()[i];
     let (target, button) = match find(&visit.page, new, event)? {
         Located::Bad(kind) => return Ok(Some(kind)),
         Located::At { target, button } => (target, button),

@@ -2,8 +2,8 @@
 ghost use Rattle.std.specs.Prelude.{◌≡◌, ◌<◌, [], ◌∷◌, ◌++◌, List, IfOk, OnOk, OnErr, option_map, codes};
 ghost use Rattle.page_tree.specs.Limits.{nodes};
 ghost use Rattle.page_tree.specs.Number.{place_numbered};
-ghost use Rattle.visit_replay.specs.Form.{sent_by, post_request, get_request};
-ghost use Rattle.visit_replay.specs.Requests.{load_request, link_request, link_request_at};
+ghost use Rattle.visit_replay.specs.Form.{sent_to};
+ghost use Rattle.visit_replay.specs.Requests.{load_request, link_request};
 ghost use Rattle.visit_replay.specs.inside.FieldsNow.{IsRequestAt};
 ghost use Rattle.visit_replay.specs.inside.OneEvent.{IsButton, by_of};
 
@@ -118,73 +118,55 @@ pub(crate) fn request_at(
     match event {
         Event::Input { .. } => Ok(None),
         Event::Click { req: 0, .. } | Event::Submit { req: 0, .. } => Ok(None),
-        Event::Click { req, .. } => click_request(alloc, new, *req, target),
+        Event::Click { req, .. } => link_request(alloc, new, *req, target),
         Event::Submit { req, .. } => {
+            let action = forms::action_of(address, new, target);
             let pairs = forms::encoded(alloc, filled, target)?;
-            Ok(Some(form_request(alloc, address, new, target, *req, pairs)?))
+            let post = forms::is_post(new, target);
+            Ok(Some(form_request(alloc, post, *req, action, pairs)?))
         }
     }
 }
 
 // A click sends the address of its link as it is written.
-fn click_request(
+fn link_request(
     alloc: Global,
     new: &Page,
     number: u64,
     link: u32,
 ) -> Result<Option<Request>, NoMemory>
-    ensures { IfOk result (λ request. request ≡ link_request_at number (place_numbered link new.now) new.now) }
+    ensures { IfOk result (λ request. request ≡ link_request number (place_numbered link new.now) new.now) }
 {
-    match new.attribute_of(link, "href") {
-        Some(address) => Ok(Some(link_request(alloc, number, address)?)),
-        None => Ok(None),
-    }
-}
-
-fn link_request(alloc: Global, number: u64, address: &str) -> Result<Request, NoMemory>
-    ensures { IfOk result (λ request. request ≡ link_request number address.now) }
-{
-    Ok(Request {
+    let Some(address) = new.attribute_of(link, "href") else {
+        return Ok(None);
+    };
+    Ok(Some(Request {
         number,
         method: Method::Get,
         address: Text::from_str(alloc, address)?,
         pairs: Text::from(String::new(alloc)),
-    })
+    }))
 }
 
 // ---- forms
 
 fn form_request(
     alloc: Global,
-    address: &str,
-    new: &Page,
-    form: u32,
+    post: bool,
     number: u64,
+    action: &str,
     pairs: Text,
 ) -> Result<Request, NoMemory>
-    ensures { IfOk result (λ request. request ≡ sent_by address.now (place_numbered form new.now) new.now number pairs) }
+    ensures { IfOk result (λ request. request ≡ sent_to post number action.now pairs) }
 {
-    let action = forms::action_of(address, new, form);
-    if forms::is_post(new, form) {
-        return post_request(alloc, number, action, pairs);
+    if post {
+        return Ok(Request {
+            number,
+            method: Method::Post,
+            address: Text::from_str(alloc, action)?,
+            pairs,
+        });
     }
-    get_request(alloc, number, action, pairs)
-}
-
-fn post_request(alloc: Global, number: u64, action: &str, pairs: Text) -> Result<Request, NoMemory>
-    ensures { IfOk result (λ request. request ≡ post_request number action.now pairs) }
-{
-    Ok(Request {
-        number,
-        method: Method::Post,
-        address: Text::from_str(alloc, action)?,
-        pairs,
-    })
-}
-
-fn get_request(alloc: Global, number: u64, action: &str, pairs: Text) -> Result<Request, NoMemory>
-    ensures { IfOk result (λ request. request ≡ get_request number action.now pairs) }
-{
     Ok(Request {
         number,
         method: Method::Get,

@@ -1,11 +1,11 @@
 -- What was gathered, repaired and settled is what the headline says.
-use Rattle.std.proofs.Common.{◌≡◌, ℕ, List, [], ◌∷◌, ◌++◌, map, Bool, true, false, ◌||◌, bytes_eq, Option, Some, None, refl, sym, ap, subst, ◌∙◌, append-nil, append_assoc, true≢false}
+use Rattle.std.proofs.Common.{◌≡◌, ℕ, List, [], ◌∷◌, ◌++◌, map, Bool, true, false, bytes_eq, Option, Some, None, refl, sym, ap, subst, ◌∙◌, append-nil, append_assoc}
 use Rattle.std.specs.Map.{keys_of, lookup}
 use Rattle.std.specs.List.{list_any, AllByRecursion, AllZip, IsDistinct}
 use Rattle.std.specs.Cmp.Lexicographic.{nat_list_eq_equiv}
-use Rattle.std.proofs.lemmas.Bool.{cond-true, cond-false}
+use Rattle.std.proofs.lemmas.Bool.{cond-true, cond-false, or_parts}
 use Rattle.indexmap.specs.IndexMap.{get, insert_all, insert_entry}
-use Rattle.indexmap.proofs.MapLemmas.{insert_entry-absent, absent_from_lookup}
+use Rattle.indexmap.proofs.MapLemmas.{insert_entry-absent, absent_from_lookup, absent_before}
 use Rattle.visit_replay.specs.RepairedSite.{RepairedSite}
 use Rattle.upload_reader.specs.Upload.{UploadState}
 use Rattle.conflict_desk.specs.Book.{Book, with_decision}
@@ -13,83 +13,68 @@ use Rattle.conflict_desk.specs.Desk.{Books, book_of, decided_on, decided_in, ref
 use Rattle.conflict_desk.specs.declared.decision.Decision.{Decision}
 use Rattle.conflict_desk.specs.declared.docket.Docket.{Docket}
 use Rattle.conflict_desk.specs.declared.fault.DeskFault.{DeskFault}
+use Rattle.site_line.specs.Reading.{site_decisions}
+use Rattle.site_line.specs.declared.site.Site.{Site}
 use Rattle.upload_lanes.specs.Lane.{IsTaken}
 use Rattle.upload_lanes.specs.Round.{log_before, resumed, rested, clients_of, has_twice}
 use Rattle.upload_lanes.specs.Threads.{IsLaneOf, GathersFirst}
 use Rattle.upload_lanes.specs.declared.gathered.Gathered.{Gathered}
 use Rattle.upload_lanes.specs.declared.gathered.LaneResult.{LaneResult}
-use Rattle.warp_server.specs.Headline.{docket_of, HasPrefix}
+use Rattle.warp_server.specs.Answer.{repaired_site, site_settled}
+use Rattle.warp_server.specs.Headline.{docket_of, HasPrefix, AreReplayed}
 use Rattle.warp_server.specs.Repair.{docket_for}
 
--- ---- entries of clients that differ stand behind one another
+-- ---- the lanes of a round
 
-module _ {X : Type 0} where
-  none_some : (x : X) → Some x ≡ None → ⊥
-  none_some x same = cc
-
-  absent_by : (b : Bool) (k : List ℕ) (e : List ℕ × X) (es more : List (List ℕ × X)) → bytes_eq k e.0 ≡ b → (lookup (bytes_eq k) es ≡ None → lookup (bytes_eq k) more ≡ None)
-      → lookup (bytes_eq k) (e ∷ es) ≡ None → lookup (bytes_eq k) (e ∷ more) ≡ None
-  absent_by true k e es more is rest none = absurd (none_some e.1 (sym (cond-true (bytes_eq k e.0) (Some e.1) (lookup (bytes_eq k) es) is) ∙ none))
-  absent_by false k e es more is rest none =
-      cond-false (bytes_eq k e.0) (Some e.1) (lookup (bytes_eq k) more) is ∙ rest (sym (cond-false (bytes_eq k e.0) (Some e.1) (lookup (bytes_eq k) es) is) ∙ none)
-
-  absent_push : (k key : List ℕ) (x : X) (es : List (List ℕ × X)) → lookup (bytes_eq k) es ≡ None → bytes_eq k key ≡ false → lookup (bytes_eq k) (es ++ (key, x) ∷ []) ≡ None
-  absent_push k key x [] none other = cond-false (bytes_eq k key) (Some x) None other
-  absent_push k key x (e ∷ es) none other = absent_by (bytes_eq k e.0) k e es (es ++ (key, x) ∷ []) refl (λ rest. absent_push k key x es rest other) none
-
-  all_absent : (key : List ℕ) (x : X) (es rest : List (List ℕ × X)) → AllByRecursion (λ e. lookup {X = X} (bytes_eq e.0) es ≡ None) rest → AllByRecursion (λ client. bytes_eq key client ≡ false) (keys_of rest)
-      → AllByRecursion (λ e. lookup {X = X} (bytes_eq e.0) (es ++ (key, x) ∷ []) ≡ None) rest
-  all_absent key x es [] none others = tt
-  all_absent key x es (e ∷ rest) none others = (absent_push e.0 key x es none.0 (nat_list_eq_equiv.symm e.0 key ∙ others.0), all_absent key x es rest none.1 others.1)
-
-  insert_behind : (es rest : List (List ℕ × X)) → AllByRecursion (λ e. lookup {X = X} (bytes_eq e.0) es ≡ None) rest → IsDistinct bytes_eq (keys_of rest) → insert_all bytes_eq es rest ≡ es ++ rest
-  unfolding IsDistinct
-  insert_behind es [] none distinct = sym (append-nil es)
-  insert_behind es (e ∷ rest) none distinct =
-      ap (λ some. insert_all bytes_eq some rest) (insert_entry-absent bytes_eq e.0 e.1 es (absent_from_lookup (bytes_eq e.0) es none.0))
-      ∙ insert_behind (es ++ (e.0, e.1) ∷ []) rest (all_absent e.0 e.1 es rest none.1 distinct.0) distinct.1
-      ∙ append_assoc es ((e.0, e.1) ∷ []) rest
-
-  none_yet : (rest : List (List ℕ × X)) → AllByRecursion (λ e. lookup {X = X} (bytes_eq e.0) [] ≡ None) rest
-  none_yet [] = tt
-  none_yet (e ∷ rest) = (refl, none_yet rest)
-
--- ---- no client has two uploads
-
-or_none : (b c : Bool) → (b || c) ≡ false → (b ≡ false) × (c ≡ false)
-or_none true c none = absurd (true≢false none)
-or_none false c none = (refl, none)
+-- entries of clients that differ stand behind one another
+insert_behind : {X : Type 0} (es rest : List (List ℕ × X)) → IsDistinct bytes_eq (keys_of (es ++ rest)) → insert_all bytes_eq es rest ≡ es ++ rest
+insert_behind es [] apart = sym (append-nil es)
+insert_behind es (e ∷ rest) apart =
+    let none = absent_from_lookup (bytes_eq e.0) es (absent_before nat_list_eq_equiv es rest e apart) in
+    let behind : (es ++ e ∷ []) ++ rest ≡ es ++ e ∷ rest = append_assoc es (e ∷ []) rest in
+    ap (λ some. insert_all bytes_eq some rest) (insert_entry-absent bytes_eq e.0 e.1 es none)
+    ∙ insert_behind (es ++ e ∷ []) rest (subst (λ all. IsDistinct bytes_eq (keys_of all)) (sym behind) apart) ∙ behind
 
 none_of : (client : List ℕ) (clients : List (List ℕ)) → list_any (bytes_eq client) clients ≡ false → AllByRecursion (λ other. bytes_eq client other ≡ false) clients
 none_of client [] none = tt
-none_of client (other ∷ clients) none =
-    let both = or_none (bytes_eq client other) (list_any (bytes_eq client) clients) none in
-    (both.0, none_of client clients both.1)
+none_of client (other ∷ clients) none = let (one, rest) = or_parts _ _ none in (one, none_of client clients rest)
 
 pub distinct : (clients : List (List ℕ)) → has_twice clients ≡ false → IsDistinct bytes_eq clients
 unfolding IsDistinct
 distinct [] once = tt
-distinct (client ∷ clients) once =
-    let both = or_none (list_any (bytes_eq client) clients) (has_twice clients) once in
-    (none_of client clients both.0, distinct clients both.1)
+distinct (client ∷ clients) once = let (one, rest) = or_parts _ _ once in (none_of client clients one, distinct clients rest)
 
--- ---- the lanes of a first round
+pub zip_weaker : {X Y : Type 0} (P Q : X → Y → Type 0) → ((x : X) (y : Y) → P x y → Q x y) → (xs : List X) (ys : List Y) → AllZip P xs ys → AllZip Q xs ys
+zip_weaker P Q goes [] [] all = tt
+zip_weaker P Q goes [] (y ∷ ys) all = all
+zip_weaker P Q goes (x ∷ xs) [] all = all
+zip_weaker P Q goes (x ∷ xs) (y ∷ ys) all = (goes x y all.0, zip_weaker P Q goes xs ys all.1)
 
-module _ {R : Type 0} (known : List ℕ → Option (LaneResult R)) (quota : ℕ) (unknown : (client : List ℕ) → known client ≡ None) where
-  same_keys : (uploads : List (UploadState R)) (lanes : List (List ℕ × LaneResult R)) → AllZip (IsLaneOf known quota) uploads lanes → keys_of lanes ≡ clients_of uploads
+module _ {R : Type 0} (known : List ℕ → Option (LaneResult R)) (quota : ℕ) where
+  pub same_keys : (uploads : List (UploadState R)) (lanes : List (List ℕ × LaneResult R)) → AllZip (IsLaneOf known quota) uploads lanes → keys_of lanes ≡ clients_of uploads
   same_keys [] [] are = refl
   same_keys [] (lane ∷ lanes) are = absurd are
   same_keys (upload ∷ uploads) [] are = absurd are
   same_keys (upload ∷ uploads) (lane ∷ lanes) are = rw (are.0.client, same_keys uploads lanes are.1) refl
 
-  prefixes : (uploads : List (UploadState R)) (lanes : List (List ℕ × LaneResult R)) → AllZip (IsLaneOf known quota) uploads lanes → AllZip (HasPrefix quota) uploads lanes
-  prefixes [] [] are = tt
-  prefixes [] (lane ∷ lanes) are = absurd are
-  prefixes (upload ∷ uploads) [] are = absurd are
-  prefixes (upload ∷ uploads) (lane ∷ lanes) are = (
-    record { client = are.0.client; is_taken = subst (λ found. IsTaken (log_before quota upload found) (resumed upload found) lane.1) (unknown upload.client) are.0.is_taken },
-    prefixes uploads lanes are.1,
-  )
+module _ {R : Type 0} (quota : ℕ) (allows : ℕ → Bool → Type 0) (uploads : List (UploadState R)) (gathered : Gathered R) where
+  -- the lanes of a first round are all
+  pub first_entries : (first : GathersFirst allows uploads quota gathered) → gathered.clients.entries ≡ first.2.lanes
+  first_entries (earlier, empty, g) =
+      let keys = same_keys (get bytes_eq earlier.clients) quota uploads g.lanes g.taken.lanes_are in
+      g.clients_are ∙ ap (λ before. insert_all bytes_eq (map (λ entry. (entry.0, rested entry.1)) before) g.lanes) empty
+      ∙ insert_behind [] g.lanes (subst (IsDistinct bytes_eq) (sym keys) (distinct (clients_of uploads) g.is_round.clients))
+
+  pub all_prefixes : GathersFirst allows uploads quota gathered → AllZip (HasPrefix quota) uploads gathered.clients.entries
+  all_prefixes first =
+      let known = get bytes_eq first.0.clients in
+      subst (AllZip (HasPrefix quota) uploads) (sym (first_entries first))
+      (zip_weaker (IsLaneOf known quota) (HasPrefix quota)
+      (λ upload lane is. record {
+        client = is.client;
+        is_taken = subst (λ found. IsTaken (log_before quota upload found) (resumed upload found) lane.1) (ap (lookup (bytes_eq upload.client)) first.1) is.is_taken;
+      })
+      uploads first.2.lanes first.2.taken.lanes_are)
 
 -- ---- decisions leave the cases
 
@@ -129,20 +114,6 @@ opened_as : (dockets : List Docket) → map docket_of (new_books dockets) ≡ do
 opened_as [] = refl
 opened_as (docket ∷ dockets) = ap (λ rest. docket ∷ rest) (opened_as dockets)
 
--- ---- all together
-
-module _ {R : Type 0} (site : RepairedSite) where
-  pub still_dockets : (entries : List (List ℕ × LaneResult R)) (calls : List Decision)
-      → map docket_of (after_calls (new_books (map (docket_for site) entries)) calls) ≡ map (docket_for site) entries
-  still_dockets entries calls = calls_leave (new_books (map (docket_for site) entries)) calls ∙ opened_as (map (docket_for site) entries)
-
-module _ {R : Type 0} (quota : ℕ) (allows : ℕ → Bool → Type 0) (uploads : List (UploadState R)) (gathered : Gathered R) where
-  pub all_prefixes : GathersFirst allows uploads quota gathered → AllZip (HasPrefix quota) uploads gathered.clients.entries
-  all_prefixes (earlier, empty, g) =
-      let known = get bytes_eq earlier.clients in
-      let unknown : (client : List ℕ) → known client ≡ None = λ client. ap (lookup (bytes_eq client)) empty in
-      let keys = same_keys known quota unknown uploads g.lanes g.taken.lanes_are in
-      let once : IsDistinct bytes_eq (keys_of g.lanes) = subst (IsDistinct bytes_eq) (sym keys) (distinct (clients_of uploads) g.is_round.clients) in
-      let entries : gathered.clients.entries ≡ g.lanes =
-      g.clients_are ∙ ap (λ before. insert_all bytes_eq (map (λ entry. (entry.0, rested entry.1)) before) g.lanes) empty ∙ insert_behind [] g.lanes (none_yet g.lanes) once in
-      subst (AllZip (HasPrefix quota) uploads) (sym entries) (prefixes known quota unknown uploads g.lanes g.taken.lanes_are)
+pub replayed : {R : Type 0} (site : Site) (gathered : Gathered R) → AreReplayed (repaired_site site) gathered (site_settled site gathered)
+replayed site gathered =
+    let dockets = map (docket_for (repaired_site site)) gathered.clients.entries in calls_leave (new_books dockets) (site_decisions site) ∙ opened_as dockets

@@ -1,11 +1,11 @@
--- What stands before a lane stays as the input goes on: the site line, and the lines of the upload up to its hello. There is no other of either.
+-- What stands before a lane stays as the input goes on, up to the hello, and there is no other.
 use Rattle.std.proofs.Common.{◌≡◌, ℕ, zero, suc, ◌+◌, ◌≤◌, List, [], ◌∷◌, ◌++◌, length, take, drop, Bool, true, false, if◌then◌else◌, nat_lt, Option, Some, None, Result, Ok, Err, refl, ◌∙◌, ap, arith, append_assoc, length-append}
 use Rattle.std.specs.Prelude.{option_map, option_and_then}
+use Rattle.std.specs.Option.{option_map_or}
 use Rattle.std.proofs.lemmas.List.{take-append-le}
 use Rattle.byte_streams.specs.CompleteLines.{complete_lines, unended}
 use Rattle.byte_streams.specs.declared.fault.LineFault.{LineFault}
 use Rattle.byte_streams.specs.declared.fault.LineFault.TheVariants.{LineTooLong}
-use Rattle.byte_streams.proofs.CutLaws.{cut_longer}
 use Rattle.byte_streams.proofs.LineLaws.{complete_lines-more}
 use Rattle.upload_reader.specs.Front.{Passes, LinesEndBy, bytes_of_lines}
 use Rattle.upload_reader.specs.Greeting.{Greeting, IsGreetingOf, greeting_by, no_greeting, lines_length}
@@ -18,27 +18,17 @@ use Rattle.upload_reader.specs.declared.hello_fault.HelloFault.TheVariants.{Line
 use Rattle.upload_reader.specs.declared.lane_fault.LaneFault.{LaneFault}
 use Rattle.upload_reader.specs.declared.lane_fault.LaneFault.TheVariants.{LineTooLong as TooLong}
 use Rattle.upload_reader.proofs.FrontLaws.{taken_unique}
-use Rattle.site_line.specs.Site.{Site}
-use Rattle.warp_server.specs.program.Run.{max_site_bytes, behind, HasSite, Opening, OpensBy, lane_place}
 
 -- ---- greetings
 
 abbrev pub greets : ℕ → Result (List ℕ) HelloFault → Option Greeting
 greets lines said = Some (record { lines = lines; answer = said })
 
-abbrev lines_in : Option Greeting → ℕ
-lines_in None = 0
-lines_in (Some greeting) = greeting.lines
-
-abbrev answer_in : Option Greeting → Option (Result (List ℕ) HelloFault)
-answer_in None = None
-answer_in (Some greeting) = Some greeting.answer
-
 pub same_lines : (lines lines' : ℕ) (said said' : Result (List ℕ) HelloFault) → greets lines said ≡ greets lines' said' → lines ≡ lines'
-same_lines lines lines' said said' is = ap lines_in is
+same_lines lines lines' said said' is = ap (λ found. option_map_or (λ greeting. greeting.lines) found 0) is
 
 pub same_said : (lines lines' : ℕ) (said said' : Result (List ℕ) HelloFault) → greets lines said ≡ greets lines' said' → said ≡ said'
-same_said lines lines' said said' is = let same : Some said ≡ Some said' = ap answer_in is in cc
+same_said lines lines' said said' is = let same : Some said ≡ Some said' = ap (option_map (λ greeting. greeting.answer)) is in cc
 
 -- ---- there is one
 
@@ -114,23 +104,21 @@ hello_stays : (bytes more : List ℕ) (ending ending' : Option LineFault) (lines
 hello_stays bytes more ending ending' lines client (front, taken) =
     stays_by bytes more ending ending' lines client front taken.lines taken.split taken.passes taken.ends_by
 
--- ---- both
-
-pub site_stays : (input more : List ℕ) (ending ending' : Option LineFault) (line : List ℕ) (site : Site) → HasSite input ending line site
-    → HasSite (input ++ more) ending' line site
-site_stays input more ending ending' line site has =
-    record { cut_is = cut_longer max_site_bytes input more line ending ending' has.cut_is; site_is = has.site_is }
+-- ---- behind the site line
 
 drop_both : (n : ℕ) (xs ys : List ℕ) → (more : List ℕ) × (drop n (xs ++ ys) ≡ drop n xs ++ more)
 drop_both zero xs ys = (ys, refl)
 drop_both (suc n) [] ys = (drop (suc n) ys, refl)
 drop_both (suc n) (x ∷ xs) ys = drop_both n xs ys
 
-pub opens_stays : (input more : List ℕ) (ending ending' : Option LineFault) (opening : Opening) → OpensBy input ending opening
-    → OpensBy (input ++ more) ending' opening × (lane_place opening (input ++ more) ≡ lane_place opening input)
-opens_stays input more ending ending' opening opens =
-    let (later, same) = drop_both (length opening.line + 1) input more in
-    let (begins, lines) = hello_stays (behind opening.line input) later ending ending' opening.lines opening.client opens.begins in (
-      record { site_is = site_stays input more ending ending' opening.line opening.site opens.site_is; begins = rw same begins },
-      ap (λ n. length opening.line + 1 + n) (ap (lines_length opening.lines) same ∙ lines),
-    )
+-- how many bytes stand before the lane
+abbrev pub lane_place : List ℕ → ℕ → List ℕ → ℕ
+lane_place line lines input = length line + 1 + lines_length lines (drop (length line + 1) input)
+
+pub opens_stays : (input more : List ℕ) (ending ending' : Option LineFault) (line : List ℕ) (lines : ℕ) (client : List ℕ)
+    → IsGreetingOf (drop (length line + 1) input) ending (greets lines (Ok client))
+    → IsGreetingOf (drop (length line + 1) (input ++ more)) ending' (greets lines (Ok client)) × (lane_place line lines (input ++ more) ≡ lane_place line lines input)
+opens_stays input more ending ending' line lines client begins =
+    let (later, same) = drop_both (length line + 1) input more in
+    let (still, place) = hello_stays (drop (length line + 1) input) later ending ending' lines client begins in
+    (rw same still, ap (λ n. length line + 1 + n) (ap (lines_length lines) same ∙ place))

@@ -1,36 +1,43 @@
 -- What rounds leave of each client: the log after its own uploads, and an entry for each upload's client.
-use Rattle.std.specs.Prelude.{◌≡◌, ℕ, List, [], ◌∷◌, ◌++◌, map, take, filter, Bool, true, false, if◌then◌else◌, bytes_eq, Option, Some, None}
+use Rattle.std.specs.Prelude.{◌≡◌, ℕ, List, [], ◌∷◌, ◌++◌, map, take, filter, Bool, true, false, if◌then◌else◌, is_some, bytes_eq, slice_get, Option, Some, None, zero, suc}
 use Rattle.std.proofs.Common.{refl, sym, ap, subst, ◌∙◌, true≢false}
 use Rattle.std.specs.Map.{keys_of, lookup}
-use Rattle.std.specs.List.{AllByRecursion, AllZip, IsDistinct}
+use Rattle.std.specs.List.{AllByRecursion, AllZip, IsDistinct, list_any}
 use Rattle.std.specs.Option.{IsSome}
 use Rattle.std.specs.Cmp.Lexicographic.{nat_list_eq_equiv}
-use Rattle.std.proofs.lemmas.Bool.{cond-true, cond-false}
-use Rattle.std.proofs.lemmas.Map.{none_passes_from_lookup}
+use Rattle.std.proofs.lemmas.Bool.{cond-true, cond-false, or_left, or_right}
+use Rattle.std.proofs.lemmas.List.Folds.{list_any-append}
+use Rattle.std.proofs.lemmas.Map.Entries.{place_from_lookup}
+use Rattle.std.proofs.lemmas.Map.Keys.{IsDistinct-push}
+use Rattle.std.proofs.lemmas.Map.Made.{is_some-lookup}
 use Rattle.std.proofs.lemmas.Slice.Eq.{bytes_eq-Decides}
 use Rattle.indexmap.specs.IndexMap.{get, insert_all, insert_entry}
+use Rattle.indexmap.specs.IndexSet.{insert_key, insert_all as set_all}
+use Rattle.indexmap.proofs.SetLemmas.{keys_insert_entry, keys_insert_all}
 use Rattle.upload_reader.specs.Stream.{Costed}
 use Rattle.upload_reader.specs.Upload.{UploadState}
 use Rattle.client_log.specs.Client.{OfClient}
 use Rattle.client_log.specs.Log.{kept_log}
 use Rattle.upload_lanes.specs.Lane.{IsTaken}
-use Rattle.upload_lanes.specs.Round.{new_log, log_before, resumed, rested, clients_of}
+use Rattle.upload_lanes.specs.Round.{behind_log, new_log, log_before, resumed, rested, clients_of}
 use Rattle.upload_lanes.specs.Threads.{IsLaneOf}
 use Rattle.upload_lanes.specs.declared.gathered.Gathered.{Gathered}
 use Rattle.upload_lanes.specs.declared.gathered.LaneResult.{LaneResult}
-use Rattle.warp_server.specs.Rounds.{let_go, GathersRound, GathersRounds, behind_log, IsLogAfter, uploads_of, HasLog}
-use Rattle.warp_server.proofs.HeadlineLaws.{distinct}
+use Rattle.warp_server.specs.Rounds.{let_go, GathersRound, GathersRounds, IsLogAfter, uploads_of, HasLog}
+use Rattle.warp_server.proofs.HeadlineLaws.{distinct, same_keys}
+use Rattle.warp_server.proofs.RoundSteps.{all_weaker}
 
 -- ---- lists
 
 module _ {X : Type 0} where
-  all_weaker : (P Q : X → Type 0) → ((x : X) → P x → Q x) → (xs : List X) → AllByRecursion P xs → AllByRecursion Q xs
-  all_weaker P Q more [] all = tt
-  all_weaker P Q more (x ∷ xs) all = (more x all.0, all_weaker P Q more xs all.1)
-
   all_both : (P Q S : X → Type 0) → ((x : X) → P x → Q x → S x) → (xs : List X) → AllByRecursion P xs → AllByRecursion Q xs → AllByRecursion S xs
   all_both P Q S both [] all also = tt
   all_both P Q S both (x ∷ xs) all also = (both x all.0 also.0, all_both P Q S both xs all.1 also.1)
+
+  all_at : (P : X → Type 0) (xs : List X) (k : ℕ) (x : X) → AllByRecursion P xs → slice_get xs k ≡ Some x → P x
+  all_at P [] k x all at = cc
+  all_at P (y ∷ xs) zero x all at = let same : y ≡ x = cc in subst P same all.0
+  all_at P (y ∷ xs) (suc k) x all at = all_at P xs k x all.1 at
 
   none_passes : (test : X → Bool) (xs : List X) → AllByRecursion (λ x. test x ≡ false) xs → filter test xs ≡ []
   none_passes test [] none = refl
@@ -52,18 +59,48 @@ module _ {X Y : Type 0} where
   all_beside Z P Q goes (x ∷ xs) [] are all = absurd are
   all_beside Z P Q goes (x ∷ xs) (y ∷ ys) are all = (goes x y are.0 all.0, all_beside Z P Q goes xs ys are.1 all.1)
 
-  all_back : (Z : X → Y → Type 0) (P : X → Type 0) (Q : Y → Type 0) → ((x : X) (y : Y) → Z x y → Q y → P x) → (xs : List X) (ys : List Y)
-      → AllZip Z xs ys → AllByRecursion Q ys → AllByRecursion P xs
-  all_back Z P Q goes [] [] are all = tt
-  all_back Z P Q goes [] (y ∷ ys) are all = absurd are
-  all_back Z P Q goes (x ∷ xs) [] are all = absurd are
-  all_back Z P Q goes (x ∷ xs) (y ∷ ys) are all = (goes x y are.0 all.0, all_back Z P Q goes xs ys are.1 all.1)
-
 same_client : (client key : List ℕ) → bytes_eq client key ≡ true → client ≡ key
 same_client client key is = (bytes_eq-Decides client key).0 is
 
 itself : (client : List ℕ) → bytes_eq client client ≡ true
 itself client = (bytes_eq-Decides client client).1 refl
+
+-- ---- keys, as clients are put among them
+
+-- the client is among these
+abbrev Has : List ℕ → List (List ℕ) → Type 0
+Has client keys = list_any (bytes_eq client) keys ≡ true
+
+other_than : (client other : List ℕ) (keys : List (List ℕ)) (b : Bool) → bytes_eq client other ≡ b → list_any (bytes_eq client) keys ≡ false → Has other keys → b ≡ false
+other_than client other keys false is none has = refl
+other_than client other keys true is none has = absurd (true≢false (sym has ∙ ap (λ c. list_any (bytes_eq c) keys) (sym (same_client client other is)) ∙ none))
+
+module _ (keys : List (List ℕ)) (key : List ℕ) where
+  distinct_by : (b : Bool) → list_any (bytes_eq key) keys ≡ b → IsDistinct bytes_eq keys → IsDistinct bytes_eq (if b then keys else keys ++ key ∷ [])
+  distinct_by true is apart = apart
+  distinct_by false is apart = IsDistinct-push nat_list_eq_equiv keys key apart is
+
+  kept_by : (client : List ℕ) (b : Bool) → Has client keys → Has client (if b then keys else keys ++ key ∷ [])
+  kept_by client true has = has
+  kept_by client false has = list_any-append (bytes_eq client) keys (key ∷ []) ∙ or_left (list_any (bytes_eq client) keys) _ has
+
+  own_by : (b : Bool) → list_any (bytes_eq key) keys ≡ b → Has key (if b then keys else keys ++ key ∷ [])
+  own_by true is = is
+  own_by false is = list_any-append (bytes_eq key) keys (key ∷ []) ∙ or_right (list_any (bytes_eq key) keys) _ (or_left (bytes_eq key key) _ (itself key))
+
+distinct_all : (keys clients : List (List ℕ)) → IsDistinct bytes_eq keys → IsDistinct bytes_eq (set_all bytes_eq keys clients)
+distinct_all keys [] apart = apart
+distinct_all keys (client ∷ clients) apart = distinct_all (insert_key bytes_eq keys client) clients (distinct_by keys client (list_any (bytes_eq client) keys) refl apart)
+
+kept_all : (client : List ℕ) (keys clients : List (List ℕ)) → Has client keys → Has client (set_all bytes_eq keys clients)
+kept_all client keys [] has = has
+kept_all client keys (other ∷ clients) has = kept_all client (insert_key bytes_eq keys other) clients (kept_by keys other client (list_any (bytes_eq other) keys) has)
+
+own_all : (keys clients : List (List ℕ)) → AllByRecursion (λ client. Has client (set_all bytes_eq keys clients)) clients
+own_all keys [] = tt
+own_all keys (client ∷ clients) =
+    let put = insert_key bytes_eq keys client in
+    (kept_all client put clients (own_by keys client (list_any (bytes_eq client) keys) refl), own_all put clients)
 
 -- ---- entries, as lanes are put among them
 
@@ -82,19 +119,10 @@ module _ {X : Type 0} where
   keys_kept f [] = refl
   keys_kept f (e ∷ es) = ap (λ keys. e.0 ∷ keys) (keys_kept f es)
 
-  found_by : (P : Entry X → Type 0) (client : List ℕ) (x : X) (e : Entry X) (es : Entries X) (b : Bool) → bytes_eq client e.0 ≡ b → P e
-      → lookup (bytes_eq client) (e ∷ es) ≡ Some x → (lookup (bytes_eq client) es ≡ Some x → P (client, x)) → P (client, x)
-  found_by P client x e es true is own found rest =
-      let here : Some e.1 ≡ Some x = sym (cond-true (bytes_eq client e.0) (Some e.1) (lookup (bytes_eq client) es) is) ∙ found in
-      let value : e.1 ≡ x = cc in
-      subst (λ v. P (client, v)) value (subst (λ key. P (key, e.1)) (sym (same_client client e.0 is)) own)
-  found_by P client x e es false is own found rest = rest (sym (cond-false (bytes_eq client e.0) (Some e.1) (lookup (bytes_eq client) es) is) ∙ found)
-
-  found_has : (P : Entry X → Type 0) (client : List ℕ) (x : X) (es : Entries X) → AllByRecursion P es → lookup (bytes_eq client) es ≡ Some x
-      → P (client, x)
-  found_has P client x [] all found = cc
-  found_has P client x (e ∷ es) all found =
-      found_by P client x e es (bytes_eq client e.0) refl all.0 found (λ deeper. found_has P client x es all.1 deeper)
+  found_has : (P : Entry X → Type 0) (client : List ℕ) (x : X) (es : Entries X) → AllByRecursion P es → lookup (bytes_eq client) es ≡ Some x → P (client, x)
+  found_has P client x es all found =
+      let (k, key, at, same) = place_from_lookup (bytes_eq client) es x found in
+      subst (λ c. P (c, x)) (sym (same_client client key same)) (all_at P es k (key, x) all at)
 
   module _ (k : List ℕ) (x : X) where
     abbrev Put : Bool → Entry X → Entries X → Entries X
@@ -119,38 +147,9 @@ module _ {X : Type 0} where
     all_put P Q own other (e ∷ es) apart all =
         put_by P Q own other e es (bytes_eq k e.0) refl apart.0 all.0 all.1 (all_put P Q own other es apart.1 all.1)
 
-    keys_by : (P : List ℕ → Type 0) (e : Entry X) (es : Entries X) (b : Bool) → P e.0 → AllByRecursion P (keys_of es)
-        → AllByRecursion P (keys_of (insert_entry bytes_eq es k x))
-        → AllByRecursion P (keys_of (Put b e es))
-    keys_by P e es true here all rest = (here, all)
-    keys_by P e es false here all rest = (here, rest)
-
-    keys_put : (P : List ℕ → Type 0) → P k → (es : Entries X) → AllByRecursion P (keys_of es)
-        → AllByRecursion P (keys_of (insert_entry bytes_eq es k x))
-    keys_put P own [] all = (own, tt)
-    keys_put P own (e ∷ es) all = keys_by P e es (bytes_eq k e.0) all.0 all.1 (keys_put P own es all.1)
-
-    distinct_by : (e : Entry X) (es : Entries X) (b : Bool) → bytes_eq k e.0 ≡ b → AllByRecursion (λ y. bytes_eq e.0 y ≡ false) (keys_of es)
-        → IsDistinct bytes_eq (keys_of es)
-        → IsDistinct bytes_eq (keys_of (insert_entry bytes_eq es k x)) → IsDistinct bytes_eq (keys_of (Put b e es))
-    unfolding IsDistinct
-    distinct_by e es true is apart others rest = (apart, others)
-    distinct_by e es false is apart others rest = (keys_put (λ y. bytes_eq e.0 y ≡ false) (nat_list_eq_equiv.symm e.0 k ∙ is) es apart, rest)
-
-    distinct_put : (es : Entries X) → IsDistinct bytes_eq (keys_of es) → IsDistinct bytes_eq (keys_of (insert_entry bytes_eq es k x))
-    unfolding IsDistinct
-    distinct_put [] apart = (tt, tt)
-    distinct_put (e ∷ es) apart = distinct_by e es (bytes_eq k e.0) refl apart.0 apart.1 (distinct_put es apart.1)
-
-    lacks_by : (client : List ℕ) (e : Entry X) (es : Entries X) (b : Bool) → bytes_eq k e.0 ≡ b
-        → (Lacks client (insert_entry bytes_eq es k x) → Lacks client es × (bytes_eq client k ≡ false)) → Lacks client (Put b e es)
-        → Lacks client (e ∷ es) × (bytes_eq client k ≡ false)
-    lacks_by client e es true is rest lacks = ((lacks.0, lacks.1), subst (λ key. bytes_eq client key ≡ false) (sym (same_client k e.0 is)) lacks.0)
-    lacks_by client e es false is rest lacks = let both = rest lacks.1 in ((lacks.0, both.0), both.1)
-
-    lacks_put : (client : List ℕ) (es : Entries X) → Lacks client (insert_entry bytes_eq es k x) → Lacks client es × (bytes_eq client k ≡ false)
-    lacks_put client [] lacks = (tt, lacks.0)
-    lacks_put client (e ∷ es) lacks = lacks_by client e es (bytes_eq k e.0) refl (λ deeper. lacks_put client es deeper) lacks
+  distinct_put : (k : List ℕ) (x : X) (es : Entries X) → IsDistinct bytes_eq (keys_of es) → IsDistinct bytes_eq (keys_of (insert_entry bytes_eq es k x))
+  distinct_put k x es apart =
+      subst (IsDistinct bytes_eq) (sym (keys_insert_entry bytes_eq es k x)) (distinct_by (keys_of es) k (list_any (bytes_eq k) (keys_of es)) refl apart)
 
   all_among : (P : Entry X → Type 0) (es lanes : Entries X) → IsDistinct bytes_eq (keys_of es) → AllByRecursion P lanes
       → AllByRecursion (λ e. Lacks e.0 lanes → P e) es
@@ -163,17 +162,6 @@ module _ {X : Type 0} where
       has (nat_list_eq_equiv.symm e.0 lane.0 ∙ other, none) in
       all_among P (insert_entry bytes_eq es lane.0 lane.1) lanes (distinct_put lane.0 lane.1 es apart) own.1
       (all_put lane.0 lane.1 Now Then (λ none. own.0) stays es apart others)
-
-  distinct_among : (es lanes : Entries X) → IsDistinct bytes_eq (keys_of es) → IsDistinct bytes_eq (keys_of (insert_all bytes_eq es lanes))
-  distinct_among es [] apart = apart
-  distinct_among es (lane ∷ lanes) apart = distinct_among (insert_entry bytes_eq es lane.0 lane.1) lanes (distinct_put lane.0 lane.1 es apart)
-
-  lacks_among : (client : List ℕ) (es lanes : Entries X) → Lacks client (insert_all bytes_eq es lanes) → Lacks client es × Lacks client lanes
-  lacks_among client es [] lacks = (lacks, tt)
-  lacks_among client es (lane ∷ lanes) lacks =
-      let later = lacks_among client (insert_entry bytes_eq es lane.0 lane.1) lanes lacks in
-      let now = lacks_put lane.0 lane.1 client es later.0 in
-      (now.0, (now.1, later.1))
 
 abbrev Uploads : Type 0 → Type 0
 Uploads R = List (UploadState R)
@@ -247,19 +235,12 @@ module _ {R : Type 0} where
         all_both Other (Only uploads) (Only (upload ∷ uploads)) passed uploads others (only_own uploads apart.1),
       )
 
-  lanes_lack : (known : List ℕ → Option (LaneResult R)) (quota : ℕ) (client : List ℕ) (uploads : Uploads R) (lanes : Entries (LaneResult R))
-      → AllZip (IsLaneOf known quota) uploads lanes
-      → Lacks client lanes → AllByRecursion (λ upload. bytes_eq client upload.client ≡ false) uploads
-  lanes_lack known quota client uploads lanes are lacks =
-      all_back (IsLaneOf known quota) (λ upload. bytes_eq client upload.client ≡ false) (λ lane. bytes_eq client lane.0 ≡ false)
-      (λ upload lane is other. subst (λ key. bytes_eq client key ≡ false) is.client other) uploads lanes are lacks
-
   -- ---- which clients have an entry
 
   -- each client once, and those of all uploads
   record Knows (rounds : List (Uploads R)) (gathered : Gathered R) : Type 0 where
     apart : IsDistinct bytes_eq (keys_of gathered.clients.entries)
-    lacks : (client : List ℕ) → Lacks client gathered.clients.entries → NoneOf client rounds
+    has : AllByRecursion (AllByRecursion (λ upload. Has upload.client (keys_of gathered.clients.entries))) rounds
 
   module _ (quota : ℕ) (before : List (Uploads R)) (earlier : Gathered R) (uploads : Uploads R) (gathered : Gathered R) where
     abbrev stayed : Entries (LaneResult R)
@@ -274,18 +255,24 @@ module _ {R : Type 0} where
     stayed_apart : Knows before earlier → IsDistinct bytes_eq (keys_of stayed)
     stayed_apart knows = subst (IsDistinct bytes_eq) (sym (keys_kept rested earlier.clients.entries)) knows.apart
 
+    keys_after : (g : GathersRound quota earlier uploads gathered)
+        → keys_of gathered.clients.entries ≡ set_all bytes_eq (keys_of earlier.clients.entries) (clients_of uploads)
+    keys_after g =
+        ap keys_of (after_round g) ∙ keys_kept let_go (went g) ∙ keys_insert_all bytes_eq stayed g.gathers.lanes
+        ∙ ap (λ keys. set_all bytes_eq keys (keys_of g.gathers.lanes)) (keys_kept rested earlier.clients.entries)
+        ∙ ap (set_all bytes_eq (keys_of earlier.clients.entries)) (same_keys (get bytes_eq earlier.clients) quota uploads g.gathers.lanes g.gathers.taken.lanes_are)
+
     round_knows : Knows before earlier → GathersRound quota earlier uploads gathered → Knows (uploads ∷ before) gathered
-    round_knows knows g = record {
-      apart = subst (λ es. IsDistinct bytes_eq (keys_of es)) (sym (after_round g))
-          (subst (IsDistinct bytes_eq) (sym (keys_kept let_go (went g))) (distinct_among stayed g.gathers.lanes (stayed_apart knows)));
-      lacks = λ client lacks.
-          let now = subst (Lacks client) (after_round g) lacks in
-          let all = all_of_mapped (λ entry. (entry.0, let_go entry.1)) (λ e. bytes_eq client e.0 ≡ false) (went g) now in
-          let both = lacks_among client stayed g.gathers.lanes all in (
-            lanes_lack (get bytes_eq earlier.clients) quota client uploads g.gathers.lanes g.gathers.taken.lanes_are both.1,
-            knows.lacks client (all_of_mapped (λ entry. (entry.0, rested entry.1)) (λ e. bytes_eq client e.0 ≡ false) earlier.clients.entries both.0),
+    round_knows knows g =
+        let keys = keys_of earlier.clients.entries in let clients = clients_of uploads in
+        let Had : UploadState R → Type 0 = λ upload. Has upload.client keys in
+        let Have : UploadState R → Type 0 = λ upload. Has upload.client (set_all bytes_eq keys clients) in record {
+          apart = subst (IsDistinct bytes_eq) (sym (keys_after g)) (distinct_all keys clients knows.apart);
+          has = subst (λ now. AllByRecursion (AllByRecursion (λ upload. Has upload.client now)) (uploads ∷ before)) (sym (keys_after g)) (
+            all_of_mapped (λ upload. upload.client) (λ client. Has client (set_all bytes_eq keys clients)) uploads (own_all keys clients),
+            all_weaker (AllByRecursion Had) (AllByRecursion Have) (all_weaker Had Have (λ upload. kept_all upload.client keys clients)) before knows.has,
           );
-    }
+        }
 
     -- ---- what a round leaves of each client
 
@@ -297,8 +284,12 @@ module _ {R : Type 0} where
           → (messages : List Costed) × IsLogAfter quota upload.client (upload ∷ uploads_of upload.client before) messages lane.log
       log_on upload lane None is fresh taken =
           let begun = new_log quota upload.client in
-          let absent = none_passes_from_lookup (bytes_eq upload.client) earlier.clients.entries is in
-          let none = none_of_rounds upload.client before (knows.lacks upload.client absent) in
+          let keys = keys_of earlier.clients.entries in
+          let absent = sym (is_some-lookup (bytes_eq upload.client) earlier.clients.entries) ∙ ap is_some is in
+          let Had : UploadState R → Type 0 = λ other. Has other.client keys in
+          let Other : UploadState R → Type 0 = λ other. bytes_eq upload.client other.client ≡ false in
+          let none = none_of_rounds upload.client before (all_weaker (AllByRecursion Had) (AllByRecursion Other)
+          (all_weaker Had Other (λ other. other_than upload.client other.client keys (bytes_eq upload.client other.client) refl absent)) before knows.has) in
           let same : upload ≡ behind_log begun upload = ap (λ session. record upload { lane = record upload.lane { earlier = session } }) fresh in
           let now = subst (λ u. IsTaken begun u lane) same taken in
           let empty = subst (λ us. IsLogAfter quota upload.client us [] begun) (sym none) (refl, refl) in
@@ -320,7 +311,9 @@ module _ {R : Type 0} where
           → Lacks entry.0 g.gathers.lanes
           → HasLog quota (uploads ∷ before) (entry.0, rested entry.1)
       stays_has g entry has lacks =
-          let others = lanes_lack (get bytes_eq earlier.clients) quota entry.0 uploads g.gathers.lanes g.gathers.taken.lanes_are lacks in
+          let Other : List ℕ → Type 0 = λ client. bytes_eq entry.0 client ≡ false in
+          let keys = same_keys (get bytes_eq earlier.clients) quota uploads g.gathers.lanes g.gathers.taken.lanes_are in
+          let others = all_of_mapped (λ upload. upload.client) Other uploads (subst (AllByRecursion Other) keys (all_mapped (λ e. e.0) Other g.gathers.lanes lacks)) in
           let none = none_passes (λ upload. bytes_eq entry.0 upload.client) uploads others in
           record {
             messages = has.messages;
@@ -348,7 +341,7 @@ module _ {R : Type 0} where
 
   rounds_know : (quota : ℕ) (rounds : List (Uploads R)) (gathered : Gathered R) → GathersRounds quota rounds gathered → Knows rounds gathered
   unfolding IsDistinct
-  rounds_know quota [] gathered empty = record { apart = subst (λ es. IsDistinct bytes_eq (keys_of es)) (sym empty.0) tt; lacks = λ client lacks. tt }
+  rounds_know quota [] gathered empty = record { apart = subst (λ es. IsDistinct bytes_eq (keys_of es)) (sym empty.0) tt; has = tt }
   rounds_know quota (uploads ∷ before) gathered (earlier, gathers, g) =
       round_knows quota before earlier uploads gathered (rounds_know quota before earlier gathers) g
 
@@ -362,34 +355,11 @@ module _ {R : Type 0} where
       let had = rounds_have quota before earlier fresh.1 gathers in
       round_has quota before earlier uploads gathered knows had fresh.0 g
 
-  each_own : (N : List ℕ → Type 0) (Q : List ℕ → UploadState R → Type 0) (uploads : Uploads R)
-      → ((client : List ℕ) → N client → AllByRecursion (Q client) uploads)
-      → AllByRecursion (λ upload. N upload.client → Q upload.client upload) uploads
-  each_own N Q [] all = tt
-  each_own N Q (upload ∷ uploads) all = (λ n. (all upload.client n).0, each_own N Q uploads (λ client n. (all client n).1))
-
-  each_in_each : (N : List ℕ → Type 0) (Q : List ℕ → UploadState R → Type 0) (rounds : List (Uploads R))
-      → ((client : List ℕ) → N client → AllByRecursion (AllByRecursion (Q client)) rounds)
-      → AllByRecursion (AllByRecursion (λ upload. N upload.client → Q upload.client upload)) rounds
-  each_in_each N Q [] all = tt
-  each_in_each N Q (uploads ∷ rounds) all =
-      (each_own N Q uploads (λ client n. (all client n).0), each_in_each N Q rounds (λ client n. (all client n).1))
-
-  known_by : (gathered : Gathered R) (client : List ℕ) (known : Option (LaneResult R)) → get bytes_eq gathered.clients client ≡ known
-      → (Lacks client gathered.clients.entries → bytes_eq client client ≡ false) → IsSome known
-  known_by gathered client None is none =
-      absurd (true≢false (sym (itself client) ∙ none (none_passes_from_lookup (bytes_eq client) gathered.clients.entries is)))
-  known_by gathered client (Some lane) is none = refl
-
   -- the client of each upload has an entry
   pub uploads_known : (quota : ℕ) (rounds : List (List (UploadState R))) (gathered : Gathered R) → GathersRounds quota rounds gathered
       → AllByRecursion (AllByRecursion (λ upload. IsSome (get bytes_eq gathered.clients upload.client))) rounds
   uploads_known quota rounds gathered gathers =
-      let Own : UploadState R → Type 0 = λ upload. Lacks upload.client gathered.clients.entries → bytes_eq upload.client upload.client ≡ false in
+      let Had : UploadState R → Type 0 = λ upload. Has upload.client (keys_of gathered.clients.entries) in
       let Known : UploadState R → Type 0 = λ upload. IsSome (get bytes_eq gathered.clients upload.client) in
-      let known : (upload : UploadState R) → Own upload → Known upload = λ upload none.
-      known_by gathered upload.client (get bytes_eq gathered.clients upload.client) refl none in
-      let own : AllByRecursion (AllByRecursion Own) rounds =
-      each_in_each (λ client. Lacks client gathered.clients.entries) (λ client upload. bytes_eq client upload.client ≡ false) rounds
-      (rounds_know quota rounds gathered gathers).lacks in
-      all_weaker (AllByRecursion Own) (AllByRecursion Known) (all_weaker Own Known known) rounds own
+      all_weaker (AllByRecursion Had) (AllByRecursion Known)
+      (all_weaker Had Known (λ upload has. is_some-lookup (bytes_eq upload.client) gathered.clients.entries ∙ has)) rounds (rounds_know quota rounds gathered gathers).has

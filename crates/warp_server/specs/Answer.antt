@@ -30,11 +30,6 @@ site_of_table table patch = record { page_of = table_page table; signals = λ ad
 abbrev pub repaired_site : Site → RepairedSite
 repaired_site site = site_of_table (site_table site) (site_patch site)
 
-module _ {R : Type 0} (site : Site) where
-  -- replayed on the site
-  abbrev pub site_repaired : Gathered R → Repaired
-  site_repaired gathered = repaired_of (repaired_site site) gathered
-
-  -- with the site's decisions made
-  abbrev pub site_settled : Gathered R → Repaired
-  site_settled gathered = settled (site_decisions site) (site_repaired gathered)
+-- replayed on the site, with its decisions made
+abbrev pub site_settled : {R : Type 0} → Site → Gathered R → Repaired
+site_settled site gathered = settled (site_decisions site) (repaired_of (repaired_site site) gathered)

@@ -16,10 +16,7 @@ use Rattle.upload_lanes.specs.Lane.{IsTaken}
 use Rattle.upload_lanes.specs.Round.{new_log}
 use Rattle.upload_lanes.specs.declared.gathered.Gathered.{Gathered}
 use Rattle.upload_lanes.specs.declared.gathered.LaneResult.{LaneResult}
-use Rattle.site_line.specs.Reading.{site_quota}
-use Rattle.site_line.specs.declared.site.Site.{Site}
-use Rattle.warp_server.specs.Answer.{repaired_site}
-use Rattle.warp_server.specs.Repair.{dockets_for}
+use Rattle.warp_server.specs.Repair.{docket_for}
 use Rattle.warp_server.specs.Rounds.{GathersRounds, HasLog}
 use Rattle.warp_server.specs.declared.repaired.Repaired.{Repaired}
 
@@ -28,13 +25,9 @@ abbrev pub docket_of : List ℕ × Book → Docket
 docket_of entry = record { client = entry.0; cases = entry.1.cases }
 
 module _ {R : Type 0} where
-  -- the upload's client is among them
-  abbrev pub IsThere : Gathered R → UploadState R → Type 0
-  IsThere gathered upload = IsSome (get bytes_eq gathered.clients upload.client)
-
   -- each visit that is kept has the outcome that replaying it on that site gives
   abbrev pub AreReplayed : RepairedSite → Gathered R → Repaired → Type 0
-  AreReplayed site gathered repaired = map docket_of repaired.desk ≡ dockets_for site gathered.clients.entries
+  AreReplayed site gathered repaired = map docket_of repaired.desk ≡ map (docket_for site) gathered.clients.entries
 
 module _ {R : Type 0} (quota : ℕ) where
   -- The recorder has of the upload's client a prefix of the messages in its stream, each once and in order, and all of
@@ -61,11 +54,7 @@ module _ {R : Type 0} (site : RepairedSite) (quota : ℕ) where
     -- before, and all of it where its end is taken
     pub gathers : GathersRounds quota rounds gathered
     -- so each client that uploaded is there, and of each is recorded what its uploads gave, one after another
-    pub clients : AllByRecursion (AllByRecursion (IsThere gathered)) rounds
+    pub clients : AllByRecursion (AllByRecursion (λ one. IsSome (get bytes_eq gathered.clients one.client))) rounds
     pub has : AllByRecursion (HasLog quota rounds) gathered.clients.entries
     pub replayed : AreReplayed site gathered repaired
     pub leave : AllLeaveInOrder repaired.desk
-
--- of one round, on the site of that site line
-abbrev pub Promises : {R : Type 0} → Site → List (UploadState R) → Gathered R → Repaired → Type 0
-Promises site uploads gathered repaired = Headline (repaired_site site) (site_quota site) uploads gathered repaired

@@ -12,6 +12,7 @@ use Rattle.conflict_desk.specs.declared.docket.Case.{Case}
 use Rattle.conflict_desk.specs.declared.docket.Docket.{Docket}
 use Rattle.upload_lanes.specs.declared.gathered.Gathered.{Gathered}
 use Rattle.upload_lanes.specs.declared.gathered.LaneResult.{LaneResult}
+use Rattle.upload_lanes.specs.declared.gathered.Stop.{Stop}
 use Rattle.warp_server.specs.declared.repaired.ClientSummary.{ClientSummary}
 use Rattle.warp_server.specs.declared.repaired.Repaired.{Repaired}
 
@@ -27,27 +28,19 @@ summary_of entry = summary_by entry.0 entry.1.taken entry.1.end entry.1.log.log
 abbrev pub as_case : Visit × Outcome → Case
 as_case one = record { visit = one.0.number; parent = one.0.parent; outcome = one.1 }
 
-module _ (site : RepairedSite) where
-  -- each visit that a log keeps, with the outcome that it has behind those before it
-  abbrev pub cases_of : List Visit → List Case
-  cases_of visits = map as_case (zip visits (outcomes site visits))
+-- of these clients with these dockets, on which nothing is decided
+abbrev pub undecided : Stop → List ClientSummary → List Docket → Repaired
+undecided stop clients dockets = record { stop = stop; clients = clients; desk = new_books dockets; decided = [] }
 
+module _ (site : RepairedSite) where
+  -- each visit that the log keeps, with the outcome that it has behind those before it
   abbrev pub docket_by : List ℕ → Log → Docket
-  docket_by client log = record { client = client; cases = cases_of log.visits }
+  docket_by client log = record { client = client; cases = map as_case (zip log.visits (outcomes site log.visits)) }
 
   abbrev pub docket_for : {R : Type 0} → List ℕ × LaneResult R → Docket
   docket_for entry = docket_by entry.0 entry.1.log.log
 
-  abbrev pub dockets_for : {R : Type 0} → List (List ℕ × LaneResult R) → List Docket
-  dockets_for entries = map docket_for entries
-
-  -- a docket for each client, on which nothing is decided
+  -- a docket for each client
   abbrev pub repaired_of : {R : Type 0} → Gathered R → Repaired
   repaired_of gathered =
-      let entries = gathered.clients.entries in
-      record {
-        stop = gathered.stop;
-        clients = map summary_of entries;
-        desk = new_books (dockets_for entries);
-        decided = [];
-      }
+      undecided gathered.stop (map summary_of gathered.clients.entries) (map docket_for gathered.clients.entries)

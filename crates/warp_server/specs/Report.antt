@@ -1,13 +1,13 @@
 -- The text of a report: this project's own format.
 use Rattle.std.specs.Prelude.{◌≡◌, ℕ, List, [], ◌∷◌, ◌++◌, codes, decimal, Option, Some, None, Result, Ok, Err}
 use Rattle.std.specs.List.{flat_map, join_with_byte}
+use Rattle.std.specs.Option.{option_map_or}
 use Rattle.serde_json.specs.Data.{string}
 use Rattle.serde_json.specs.Written.{compact_text}
 use Rattle.byte_streams.specs.Writing.{CallWrites, Takes, TakesPart, WritesNothing}
 use Rattle.upload_reader.specs.LaneFaultCode.{lane_fault_code}
 use Rattle.upload_reader.specs.declared.ending.Ending.{Ending}
 use Rattle.upload_reader.specs.declared.ending.Ending.TheVariants.{Over, GaveUp}
-use Rattle.upload_reader.specs.declared.lane_fault.LaneEnd.{LaneEnd}
 use Rattle.upload_reader.specs.declared.lane_fault.LaneEnd.TheVariants.{Bye, Fault}
 use Rattle.visit_replay.specs.Conflict.{conflict_code}
 use Rattle.visit_replay.specs.declared.requests.Method.{Method}
@@ -39,19 +39,12 @@ use Rattle.warp_server.specs.declared.reporting.fault.ReportFault.TheVariants as
 abbrev pub report_line : List (List ℕ) → List ℕ
 report_line words = join_with_byte 32 words ++ 10 ∷ []
 
--- the text as a JSON string (RFC 8259, section 7), as `serde_json` writes it
-abbrev pub quoted : List ℕ → List ℕ
-quoted text = compact_text (string text)
-
 -- a fault stands at a line
-abbrev pub lane_word : LaneEnd → List ℕ
-lane_word Bye = codes "bye"
-lane_word (Fault line kind) = lane_fault_code kind ++ codes "@" ++ decimal line
-
 abbrev pub end_word : Option Ending → List ℕ
 end_word None = codes "none"
-end_word (Some (Over end)) = lane_word end
 end_word (Some GaveUp) = codes "gaveup"
+end_word (Some (Over Bye)) = codes "bye"
+end_word (Some (Over (Fault line kind))) = lane_fault_code kind ++ codes "@" ++ decimal line
 
 abbrev pub standing_word : Standing → List ℕ
 standing_word Untouched = codes "untouched"
@@ -62,28 +55,19 @@ standing_word Cancelled = codes "cancelled"
 
 -- why it is a conflict, and at which event; nothing of an outcome that is none
 abbrev pub conflict_words : Outcome → List (List ℕ)
-conflict_words outcome.Untouched = []
-conflict_words (outcome.Done requests) = []
 conflict_words (outcome.Conflict requests at kind) = conflict_code kind ∷ codes "at" ∷ decimal at ∷ []
+conflict_words other = []
 
 abbrev pub choice_word : Choice → List ℕ
 choice_word Cancel = codes "cancel"
 choice_word Keep = codes "keep"
 
-abbrev pub front_word : Option ℕ → List ℕ
-front_word None = codes "none"
-front_word (Some front) = decimal front
-
--- why a decision wasn't made; where that visit wasn't the front, with what was
-abbrev pub refusal_words : DeskFault → List (List ℕ)
-refusal_words (desk_fault.NotFront front) =
-    desk_fault_code (desk_fault.NotFront front) ∷ codes "front" ∷ front_word front ∷ []
-refusal_words desk_fault.NoClient = desk_fault_code desk_fault.NoClient ∷ []
-refusal_words desk_fault.NoMemory = desk_fault_code desk_fault.NoMemory ∷ []
-
+-- what a decision was answered; where that visit wasn't the front, with what was
 abbrev pub answer_words : Result (Unit {0}) DeskFault → List (List ℕ)
 answer_words (Ok made) = codes "ok" ∷ []
-answer_words (Err fault) = refusal_words fault
+answer_words (Err (desk_fault.NotFront front)) =
+    desk_fault_code (desk_fault.NotFront front) ∷ codes "front" ∷ option_map_or decimal front (codes "none") ∷ []
+answer_words (Err fault) = desk_fault_code fault ∷ []
 
 -- ---- lines
 
@@ -101,11 +85,14 @@ abbrev pub visit_line : ℕ → Standing → Outcome → List ℕ
 visit_line visit standing outcome =
     report_line (codes "visit" ∷ decimal visit ∷ standing_word standing ∷ conflict_words outcome)
 
--- the address and the pairs as JSON strings
 abbrev pub request_words : Method → List ℕ → List ℕ → List ℕ → List (List ℕ)
 request_words Load number address pairs = codes "load" ∷ number ∷ address ∷ []
 request_words Get number address pairs = codes "get" ∷ number ∷ address ∷ []
 request_words Post number address pairs = codes "post" ∷ number ∷ address ∷ pairs ∷ []
+
+-- a text as a JSON string (RFC 8259, section 7), as `serde_json` writes it
+abbrev pub quoted : List ℕ → List ℕ
+quoted text = compact_text (string text)
 
 abbrev pub request_line : Request → List ℕ
 request_line r = report_line (request_words r.method (decimal r.number) (quoted r.address) (quoted r.pairs))
@@ -127,20 +114,13 @@ visit_text book case =
 abbrev pub book_text : Book → List ℕ
 book_text book = flat_map (visit_text book) book.cases
 
-abbrev pub visits_text : Option Book → List ℕ
-visits_text None = []
-visits_text (Some book) = book_text book
-
 abbrev pub client_text : Books → ClientSummary → List ℕ
-client_text desk client = client_line client ++ visits_text (book_of client.client desk)
-
-abbrev pub clients_text : Books → List ClientSummary → List ℕ
-clients_text desk clients = flat_map (client_text desk) clients
+client_text desk client = client_line client ++ option_map_or book_text (book_of client.client desk) []
 
 abbrev pub report_text : Repaired → List ℕ
 report_text repaired =
-    stop_line repaired.stop
-    ++ (clients_text repaired.desk repaired.clients ++ flat_map decision_line repaired.decided)
+    let clients = flat_map (client_text repaired.desk) repaired.clients in
+    stop_line repaired.stop ++ (clients ++ flat_map decision_line repaired.decided)
 
 -- ---- the writing of it
 

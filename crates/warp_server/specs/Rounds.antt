@@ -6,7 +6,7 @@ use Rattle.upload_reader.specs.Upload.{UploadState}
 use Rattle.client_log.specs.Client.{OfClient}
 use Rattle.client_log.specs.Log.{kept_log}
 use Rattle.upload_lanes.specs.Lane.{IsTaken}
-use Rattle.upload_lanes.specs.Round.{new_log}
+use Rattle.upload_lanes.specs.Round.{new_log, behind_log}
 use Rattle.upload_lanes.specs.Threads.{Gathers}
 use Rattle.upload_lanes.specs.declared.gathered.Gathered.{Gathered}
 use Rattle.upload_lanes.specs.declared.gathered.LaneResult.{LaneResult}
@@ -38,10 +38,6 @@ module _ {R : Type 0} where
       (earlier : Gathered R) × GathersRounds quota before earlier × GathersRound quota earlier uploads gathered
 
   -- ---- client by client
-
-  -- the upload, behind the session of that log
-  abbrev pub behind_log : OfClient → UploadState R → UploadState R
-  behind_log log upload = record upload { lane = record upload.lane { earlier = log.session } }
 
   -- The client's log after these uploads of its, the last of them first, and the messages that were recorded: of each
   -- upload the first ones of its stream, behind the log that those before it left, each once and in order. How many of

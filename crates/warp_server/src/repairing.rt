@@ -7,7 +7,7 @@ ghost use Rattle.conflict_desk.specs.Docket.{AreAscending};
 ghost use Rattle.visit_replay.specs.RepairedSite.{site_by};
 ghost use Rattle.replay_workers.specs.Limits.{AreWorkers};
 ghost use Rattle.replay_workers.specs.declared.fault.PoolFault.TheVariants.{BadWorkers, NoMemory};
-ghost use Rattle.warp_server.specs.Repair.{as_case, summary_of, docket_by, dockets_for, repaired_of};
+ghost use Rattle.warp_server.specs.Repair.{as_case, summary_of, docket_by, docket_for, repaired_of};
 
 use crate::listed::Listed;
 use crate::repaired::{ClientSummary, Repaired};
@@ -92,7 +92,7 @@ fn replay_lanes<H: SiteHooks, R: Source, T: AllocGlobal + Threads + Sync>(
 ) -> Result<Vec<Docket>, NoMemory>
     requires workers { AreWorkers workers }
     ensures dockets { IfOk result (λ all. all.items ≡
-        dockets_for (site_by H.page_of H.signals hooks.now patch.now) clients.now.entries) }
+        map (docket_for (site_by H.page_of H.signals hooks.now patch.now)) clients.now.entries) }
     ensures for_desk { IfOk result (λ dockets. AreDockets dockets.items) }
 {
     let count = clients.len();

@@ -1,7 +1,8 @@
 //! The report of what was repaired.
-ghost use Rattle.std.specs.Prelude.{◌≡◌, ◌++◌, IfOk, OnOk, Some, slice_get, string_bytes};
+ghost use Rattle.std.specs.Prelude.{◌≡◌, ◌++◌, IfOk, OnOk, Some, Err, slice_get, string_bytes};
 ghost use Rattle.std.specs.List.{flat_map};
 ghost use Rattle.byte_streams.specs.Writing.{writes_of};
+ghost use Rattle.upload_reader.specs.declared.ending.Ending.TheVariants.{Over};
 ghost use Rattle.conflict_desk.specs.Book.{standing_in, standing_requests};
 ghost use Rattle.warp_server.specs.Report as plain;
 ghost use Rattle.warp_server.specs.Report.{WritesReport, report_text};
@@ -56,7 +57,8 @@ fn stop_line(stop: Stop) -> &'static str
 // ---- clients
 
 fn add_clients(text: &mut String, desk: &Desk, clients: &[ClientSummary]) -> Result<(), NoMemory>
-    ensures { OnOk result (string_bytes text.new ≡ string_bytes text.old ++ plain.clients_text desk.now clients.now) }
+    ensures { OnOk result (string_bytes text.new ≡ string_bytes text.old
+        ++ flat_map (plain.client_text desk.now) clients.now) }
 {
     for client in clients {
         add_client(text, desk, client)?;
@@ -97,7 +99,7 @@ fn add_end(text: &mut String, end: Option<Ending>) -> Result<(), NoMemory>
 }
 
 fn add_lane_end(text: &mut String, end: LaneEnd) -> Result<(), NoMemory>
-    ensures { OnOk result (string_bytes text.new ≡ string_bytes text.old ++ plain.lane_word end) }
+    ensures { OnOk result (string_bytes text.new ≡ string_bytes text.old ++ plain.end_word (Some (Over end))) }
 {
     match end {
         LaneEnd::Bye => text.push_str("bye"),
@@ -229,7 +231,8 @@ fn add_decision(text: &mut String, put: &PutDecision) -> Result<(), NoMemory>
 
 // Why a decision wasn't made, and the line's end.
 fn add_refusal(text: &mut String, fault: DeskFault) -> Result<(), NoMemory>
-    ensures { OnOk result (string_bytes text.new ≡ string_bytes text.old ++ plain.report_line (plain.refusal_words fault)) }
+    ensures { OnOk result (string_bytes text.new ≡ string_bytes text.old
+        ++ plain.report_line (plain.answer_words (Err fault))) }
 {
     match fault {
         DeskFault::NotFront(None) => write!(text, "{fault} front none\n"),

@@ -1,8 +1,9 @@
 //! Puts the administrator's decisions to the desk.
-ghost use Rattle.std.specs.Prelude.{◌≡◌, ◌+◌, ◌≤◌, ◌++◌, length, IfOk, OnOk, OnErr};
+ghost use Rattle.std.specs.Prelude.{◌≡◌, ◌+◌, ◌≤◌, ◌++◌, length, Ok, Err, IfOk, OnOk, OnErr};
+ghost use Rattle.std.specs.Option.{option_map_or};
 ghost use Rattle.std.specs.Vec.{vec_capacity};
 ghost use Rattle.conflict_desk.specs.Desk.{refusal, after_call, after_calls};
-ghost use Rattle.warp_server.specs.Settle.{answer_by, put_on, settled};
+ghost use Rattle.warp_server.specs.Settle.{put_on, settled};
 
 use crate::listed::Listed;
 use crate::repaired::{PutDecision, Repaired};
@@ -61,7 +62,7 @@ fn put_all(desk: &mut Desk, decided: Vec<PutDecision>, decisions: Vec<Decision>)
 fn put(desk: &mut Desk, decision: Decision) -> PutDecision
     ensures desk { desk.new ≡ after_call desk.old decision }
     ensures kept { result.decision ≡ decision }
-    ensures answer { result.answer ≡ answer_by (refusal decision.client decision.visit desk.old) }
+    ensures answer { result.answer ≡ option_map_or Err (refusal decision.client decision.visit desk.old) (Ok tt) }
 {
     let answer = desk.decide(&decision.client, decision.visit, decision.choice);
     PutDecision { decision, answer }

@@ -1,23 +1,18 @@
 -- The first fault of a text: what each step of the reading adds.
-use Rattle.std.proofs.Common.{◌≡◌, ℕ, suc, ◌+◌, ◌<◌, ◌≤◌, Bool, true, false, cond, nat_lt, eqb, List, [], ◌∷◌, length, drop, get_or, Ok, Err, Option, Some, None, refl, sym, ◌∙◌, ap, arith, add-one, lt-ltb, le-ltb}
+use Rattle.std.proofs.Common.{◌≡◌, ◌≢◌, ℕ, suc, ◌+◌, ◌<◌, ◌≤◌, Bool, true, false, cond, nat_lt, eqb, List, [], ◌∷◌, length, drop, get_or, Ok, Err, Option, Some, None, refl, sym, ◌∙◌, ap, arith, add-one, lt-ltb, le-ltb}
 use Rattle.std.proofs.lemmas.Bool.{eqb-false}
 use Rattle.std.specs.Option.{option_map_or}
 use Rattle.std.specs.List.{slice_split, onto_first}
 use Rattle.std.proofs.lemmas.List.{at_drop_more}
 use Rattle.std.proofs.lemmas.List.Splits.{length-slice_split}
-use Rattle.xpath_child.specs.Path.{max_steps}
+use Rattle.page_tree.specs.Limits.{max_depth}
 use Rattle.std.specs.Option.{option_or}
 use Rattle.page_tree.specs.FirstFault.{unless, ok_unless}
-use Rattle.xpath_child.specs.Fault.{fault_at, is_test, is_closed_index, test_part, index_part, text_fault, first_step_fault, PathFails}
+use Rattle.xpath_child.specs.Fault.{fault_at, is_test, is_closed_index, test_part, index_part, text_fault, first_step_fault}
 use Rattle.xpath_child.specs.declared.fault.PathFault.{PathFault}
-use Rattle.xpath_child.specs.declared.fault.PathFaultKind.{PathFaultKind}
-use Rattle.xpath_child.specs.declared.fault.PathFaultKind.TheVariants.{NotAbsolute, EmptyStep, BadName, BadIndex, TooManySteps, NoMemory}
+use Rattle.xpath_child.specs.declared.fault.PathFaultKind.TheVariants.{EmptyStep, BadName, BadIndex, TooManySteps, NoMemory}
 
 -- ---- tests that a result tells
-
-pub then_some : {A : Type 0} (b : Bool) (x y : A) → Some x ≡ cond b (Some y) None → b ≡ true
-then_some true x y h = refl
-then_some false x y h = cc
 
 pub else_none : {A : Type 0} (b : Bool) (y : A) → None ≡ cond b (Some y) None → b ≡ false
 else_none true y h = cc
@@ -52,13 +47,10 @@ unless_err (Some f) whole x y e same h =
     let is : f ≡ e = cc in
     ap (λ w. ok_unless w y) (same f refl) ∙ ap Err is
 
-pub fails_along : {A B : Type 0} (first whole : Option PathFault) (x : A) (y : B) (at : ℕ) (kind : PathFaultKind) → ((f : PathFault) → first ≡ Some f → whole ≡ Some f) → PathFails at kind (ok_unless first x) → PathFails at kind (ok_unless whole y)
-fails_along first whole x y at NotAbsolute same h = unless_err first whole x y _ same h
-fails_along first whole x y at EmptyStep same h = unless_err first whole x y _ same h
-fails_along first whole x y at BadName same h = unless_err first whole x y _ same h
-fails_along first whole x y at BadIndex same h = unless_err first whole x y _ same h
-fails_along first whole x y at TooManySteps same h = unless_err first whole x y _ same h
-fails_along first whole x y at NoMemory same h = h
+-- what an answer says of a part, it says of the whole
+pub fails_along : {A B : Type 0} (first whole : Option PathFault) (x : A) (y : B) (e : PathFault) → ((f : PathFault) → first ≡ Some f → whole ≡ Some f)
+    → (e.kind ≡ NoMemory → e.at ≡ 0) × (e.kind ≢ NoMemory → ok_unless first x ≡ Err e) → (e.kind ≡ NoMemory → e.at ≡ 0) × (e.kind ≢ NoMemory → ok_unless whole y ≡ Err e)
+fails_along first whole x y e same h = (h.0, λ real. unless_err first whole x y e same (h.1 real))
 
 -- ---- the bytes of the steps, each with one `/`
 
@@ -87,23 +79,20 @@ module _ (texts : List (List ℕ)) (k : ℕ) (text : List ℕ) (inside : k < len
   pub bytes_next : bytes_of (drop k texts) ≡ length text + 1 + bytes_of (drop (k + 1) texts)
   bytes_next = ap bytes_of drop_next
 
-  -- one step too many
-  pub too_many : (start : ℕ) → max_steps ≤ k → first_step_fault k start (drop k texts) ≡ Some (record { at = start; kind = TooManySteps })
-  too_many start h =
-      ap (first_step_fault k start) drop_next
-      ∙ ap (λ b. option_or (unless b (fault_at start TooManySteps) (text_fault start text)) (first_step_fault (suc k) (start + length text + 1) (drop (k + 1) texts))) (le-ltb k max_steps h)
-
   abbrev stepped : (start : ℕ) → Bool → Option PathFault → Option PathFault
-  stepped start b own = option_or (unless b (fault_at start TooManySteps) own) (first_step_fault (suc k) (start + length text + 1) (drop (k + 1) texts))
+  stepped start b own = unless b (fault_at start TooManySteps) (option_or own (first_step_fault (suc k) (start + length text + 1) (drop (k + 1) texts)))
 
-  within : (start : ℕ) → k < max_steps → first_step_fault k start (drop k texts) ≡ stepped start true (text_fault start text)
-  within start h = ap (first_step_fault k start) drop_next ∙ ap (λ b. stepped start b (text_fault start text)) (lt-ltb k max_steps h)
+  -- one step too many
+  pub too_many : (start : ℕ) → max_depth ≤ k → first_step_fault k start (drop k texts) ≡ Some (record { at = start; kind = TooManySteps })
+  too_many start h = ap (first_step_fault k start) drop_next ∙ ap (λ b. stepped start b (text_fault start text)) (le-ltb k max_depth h)
+
+  within : (start : ℕ) → k < max_depth → first_step_fault k start (drop k texts) ≡ stepped start true (text_fault start text)
+  within start h = ap (first_step_fault k start) drop_next ∙ ap (λ b. stepped start b (text_fault start text)) (lt-ltb k max_depth h)
 
   -- the step has a fault of its own
-  pub own_fault : (start : ℕ) → k < max_steps → (f : PathFault) → text_fault start text ≡ Some f → first_step_fault k start (drop k texts) ≡ Some f
+  pub own_fault : (start : ℕ) → k < max_depth → (f : PathFault) → text_fault start text ≡ Some f → first_step_fault k start (drop k texts) ≡ Some f
   own_fault start h f e = within start h ∙ ap (stepped start true) e
 
   -- the step has none
-  pub no_fault : (start : ℕ) → k < max_steps → text_fault start text ≡ None → first_step_fault k start (drop k texts) ≡ first_step_fault (k + 1) (start + length text + 1) (drop (k + 1) texts)
-  no_fault start h e =
-      within start h ∙ ap (stepped start true) e ∙ ap (λ n. first_step_fault n (start + length text + 1) (drop (k + 1) texts)) (sym (add-one k))
+  pub no_fault : (start : ℕ) → k < max_depth → text_fault start text ≡ None → first_step_fault k start (drop k texts) ≡ first_step_fault (k + 1) (start + length text + 1) (drop (k + 1) texts)
+  no_fault start h e = within start h ∙ ap (stepped start true) e ∙ ap (λ n. first_step_fault n (start + length text + 1) (drop (k + 1) texts)) (sym (add-one k))

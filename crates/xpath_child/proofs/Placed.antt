@@ -1,58 +1,31 @@
 -- The steps that stand in a text are those that its parts are read as.
-use Rattle.std.proofs.Common.{◌≡◌, ℕ, ◌+◌, ◌<◌, ◌≤◌, Bool, true, false, ◌||◌, ◌&&◌, nat_le, List, [], ◌∷◌, ◌++◌, map, length, take, drop, Option, Some, None, Ok, codes, refl, sym, subst, ◌∙◌, ap, arith, append_assoc, length-append, bytes_eq}
+use Rattle.std.proofs.Common.{◌≡◌, ℕ, ◌+◌, ◌<◌, ◌≤◌, true, ◌==◌, List, [], ◌∷◌, ◌++◌, map, length, take, drop, Option, Some, None, Ok, codes, sym, subst, ◌∙◌, ap, arith, append_assoc, length-append}
 use Rattle.std.specs.Option.{option_map_or}
-use Rattle.std.specs.List.{join_with_byte, list_all}
+use Rattle.std.specs.List.{join_with_byte}
 use Rattle.std.proofs.Math.Seq.{take-append_seam, drop-append-add}
 use Rattle.std.proofs.lemmas.Bool.{leb-true, and_parts}
 use Rattle.std.proofs.lemmas.List.{length-drop, drop-drop, append-nil}
 use Rattle.std.proofs.lemmas.List.Splits.{length-slice_split, join_with_byte-slice_split}
 use Rattle.std.proofs.lemmas.Slice.Eq.{bytes_eq-Decides}
-use Rattle.page_tree.specs.Name.{is_name, is_name_start, is_name_part}
+use Rattle.page_tree.specs.Name.{is_name}
 use Rattle.page_tree.proofs.FirstFault.{unless-none}
 use Rattle.page_tree.specs.FirstFault.{ok_unless}
-use Rattle.xpath_child.specs.Path.{Step as Plain}
-use Rattle.xpath_child.specs.Fault.{is_slash, is_test, is_closed_index, front, test_part, index_part, test_in, text_fault, step_in, first_step_fault, written_steps, path_in}
-use Rattle.xpath_child.specs.inside.Seen.{step_seen, steps_seen, AllStandIn}
-use Rattle.xpath_child.specs.inside.Placed.{step_at, placed_steps, IsTextOf}
+use Rattle.xpath_child.specs.Fault.{is_test, is_closed_index, front, test_part, index_part, test_in, text_fault, step_in, first_step_fault, written_steps, path_in}
+use Rattle.xpath_child.specs.inside.Placed.{step_seen, steps_seen, AllStandIn, step_at, placed_steps, IsTextOf}
 use Rattle.xpath_child.specs.declared.step.Step.{Step}
 use Rattle.xpath_child.proofs.Index.{index_parts}
 use Rattle.xpath_child.proofs.Faults.{unless_ok}
 use Rattle.xpath_child.proofs.Answered.{path_in-slash}
 use Rattle.xpath_child.proofs.Sound.{cut_is, path_in-sound}
--- The steps that stand in a text are those that its parts are read as.
-use Rattle.std.proofs.Common.{◌≡◌, ℕ, ◌+◌, ◌<◌, ◌≤◌, Bool, true, false, ◌||◌, List, [], ◌∷◌, ◌++◌, map, length, take, drop, Option, Some, None, codes, refl, sym, ◌∙◌, ap, arith, append_assoc, length-append, length-drop, bytes_eq}
-use Rattle.std.specs.Option.{option_map_or}
-use Rattle.std.specs.List.{join_with_byte}
-use Rattle.std.proofs.Math.Seq.{take-append_seam, drop-append-add}
-use Rattle.std.proofs.lemmas.Bool.{leb-true, and_parts}
-use Rattle.std.proofs.lemmas.List.{drop-drop, append-nil}
-use Rattle.std.proofs.lemmas.Slice.Eq.{bytes_eq-Decides}
-use Rattle.page_tree.specs.Name.{is_name}
-use Rattle.page_tree.proofs.FirstFault.{unless-none}
-use Rattle.xpath_child.specs.Fault.{is_test, is_closed_index, front, test_part, index_part, test_in, text_fault, step_in}
-use Rattle.xpath_child.specs.inside.Seen.{step_seen, steps_seen, AllStandIn}
-use Rattle.xpath_child.specs.inside.Placed.{step_at, placed_steps}
-use Rattle.xpath_child.specs.declared.step.Step.{Step}
-use Rattle.xpath_child.proofs.Index.{index_parts}
-use Rattle.xpath_child.proofs.Faults.{unless_ok}
-use Rattle.xpath_child.proofs.Answered.{path_in-slash}
-use Rattle.xpath_child.proofs.Sound.{cut_is}
 
 -- ---- how long a step is
 
 length_of_name : (name : List ℕ) → is_name name ≡ true → length name ≤ 64
 length_of_name [] h = cc
-length_of_name (c ∷ cs) h =
-    let first = and_parts (nat_le (length (c ∷ cs)) 64 && is_name_start c) (list_all is_name_part cs) h in
-    let few = and_parts (nat_le (length (c ∷ cs)) 64) (is_name_start c) first.0 in
-    leb-true _ _ few.0
+length_of_name (c ∷ cs) h = leb-true _ _ (and_parts _ _ (and_parts _ _ h).0).0
 
 pub length_of_test : (text : List ℕ) → is_test text ≡ true → length text ≤ 64
-length_of_test text h = by (bytes_eq text (codes "*")) refl h
-  where
-    by : (b : Bool) → bytes_eq text (codes "*") ≡ b → (b || is_name text) ≡ true → length text ≤ 64
-    by true e n = omega (arith, ap length ((bytes_eq-Decides text (codes "*")).0 e))
-    by false e n = length_of_name text n
+length_of_test text h = grind (arith, length_of_name text, (bytes_eq-Decides text (codes "*")).0)
 
 length_of_index : (rest : List ℕ) → is_closed_index rest ≡ true → length rest ≤ 10
 length_of_index rest h =
@@ -73,25 +46,22 @@ length_of_step start text h =
     let some = unless-none _ _ _ h in
     let name = unless-none _ _ _ some.1 in
     let index = unless-none _ _ _ name.1 in
-    omega (arith, ap length (cut_is text).whole, length-append (test_part text) (indexed (index_part text)), length_of_test (test_part text) name.0, length_of_indexed (index_part text) index.0)
+    omega (arith, ap length (cut_is text), length-append (test_part text) (indexed (index_part text)), length_of_test (test_part text) name.0, length_of_indexed (index_part text) index.0)
 
 -- ---- one step
-
-abbrev named_step : List ℕ → Option ℕ → Plain
-named_step name index = record { test = test_in name; index = index }
 
 module _ (text part tail : List ℕ) (start : ℕ) (stands : drop start text ≡ part ++ tail) where
   name_placed : take (length (test_part part)) (drop start text) ≡ test_part part
   name_placed =
       let name = test_part part in
       let rest = indexed (index_part part) in
-      ap (take (length name)) (stands ∙ ap (λ p. p ++ tail) (cut_is part).whole ∙ append_assoc name rest tail) ∙ take-append_seam name (rest ++ tail)
+      ap (take (length name)) (stands ∙ ap (λ p. p ++ tail) (cut_is part) ∙ append_assoc name rest tail) ∙ take-append_seam name (rest ++ tail)
 
   step_placed : step_seen text (step_at start part) ≡ step_in part
-  step_placed = ap (λ name. named_step name (step_in part).index) name_placed
+  step_placed = ap (λ name. record { test = test_in name; index = (step_in part).index }) name_placed
 
   step_stands : start ≤ length text → start + length (test_part part) ≤ length text
-  step_stands low = omega (arith, low, length-drop start text, ap length stands, length-append part tail, ap length (cut_is part).whole, length-append (test_part part) (indexed (index_part part)))
+  step_stands low = omega (arith, low, length-drop start text, ap length stands, length-append part tail, ap length (cut_is part), length-append (test_part part) (indexed (index_part part)))
 
 -- ---- all of them
 
@@ -118,7 +88,7 @@ pub read_here : (text rest : List ℕ) (steps : List Step) → text ≡ 47 ∷ r
 read_here text rest steps is read =
     let parts = written_steps rest in
     let found = unless_ok (first_step_fault 0 1 parts) (placed_steps 1 parts) steps read in
-    let some : 0 < length parts = omega (arith, length-slice_split is_slash rest) in
+    let some : 0 < length parts = omega (arith, length-slice_split (λ c. c == 47) rest) in
     let low : 1 ≤ length text = omega (arith, ap length is) in
     let all = steps_placed text 1 parts some low (ap (drop 1) is ∙ sym (join_with_byte-slice_split 47 rest)) in
     let seen = sym all.0 ∙ ap (steps_seen text) found.1 in

@@ -1,5 +1,6 @@
 -- One child more, and what stays once a search is settled.
-use Rattle.std.proofs.Common.{◌≡◌, ℕ, zero, suc, ◌+◌, ◌-◌, ◌≤◌, ◌⊎◌, inl, inr, Bool, true, false, true≢false, ◌&&◌, cond, eqb, List, [], ◌∷◌, ◌++◌, map, length, Option, Some, None, refl, sym, ◌∙◌, ap, arith, zero-add, add-zero, fold, filter, flat_map, count_by, leb-true, le-leb, ne_eqb}
+use Rattle.std.proofs.Common.{◌≡◌, ℕ, zero, suc, ◌+◌, ◌-◌, ◌≤◌, ◌⊎◌, inl, inr, Bool, true, false, true≢false, ◌&&◌, cond, eqb, List, [], ◌∷◌, ◌++◌, map, length, nat_le, Option, Some, None, refl, sym, ◌∙◌, ap, arith, zero-add, fold, filter, flat_map, count_by, leb-true, le-leb, ne_eqb}
+use Rattle.std.specs.Option.{option_map_or}
 use Rattle.std.specs.List.{range_with_len}
 use Rattle.std.proofs.lemmas.Bool.{and_right}
 use Rattle.std.proofs.lemmas.List.{append-nil}
@@ -10,130 +11,97 @@ use Rattle.std.proofs.lemmas.List.Sums.{fold-append, sum_by-append}
 use Rattle.page_tree.proofs.Numbers.{range-append}
 use Rattle.page_tree.specs.Tree.{Tree}
 use Rattle.page_tree.specs.Look.{name_at, child_count_at}
-use Rattle.xpath_child.specs.Path.{Test, Step}
-use Rattle.xpath_child.specs.Reaches.{matches, matches_at, matching_before}
-use Rattle.xpath_child.specs.Targets.{is_nth, selects, selected_positions, places_below, places, target_of, target_in}
-use Rattle.xpath_child.specs.inside.Search.{is_past, note}
+use Rattle.xpath_child.specs.Path.{Step}
+use Rattle.xpath_child.specs.Reaches.{matches, matching_before, is_nth, selects}
+use Rattle.xpath_child.specs.Targets.{selected_positions, places_below, places, target_of, target_in}
+use Rattle.xpath_child.specs.inside.Search.{note}
 use Rattle.xpath_child.specs.declared.path.Target.{Target}
-use Rattle.xpath_child.specs.declared.path.Target.TheVariants.{Missing, One, Several}
+use Rattle.xpath_child.specs.declared.path.Target.TheVariants.{Missing, Several}
 
 -- ---- one child more
 
-range_next : (i : ℕ) → range_with_len 0 (i + 1) ≡ range_with_len 0 i ++ i ∷ []
-range_next i = range-append 0 i 1 ∙ ap (λ k. range_with_len 0 i ++ k ∷ []) (zero-add i)
+range_split : (i n : ℕ) → range_with_len 0 (i + n) ≡ range_with_len 0 i ++ range_with_len i n
+range_split i n = range-append 0 i n ∙ ap (λ k. range_with_len 0 i ++ range_with_len k n) (zero-add i)
 
-pub matching_before_next : (page : Tree) (test : Test) (at : List ℕ) (i : ℕ) → matching_before page test at (i + 1) ≡ matching_before page test at i + cond (matches_at page test at i) 1 0
+matching_before_next : (page : Tree) (test : Option (List ℕ)) (at : List ℕ) (i : ℕ) → matching_before page test at (i + 1) ≡ matching_before page test at i + cond (matches test (name_at (at ++ i ∷ []) page)) 1 0
 matching_before_next page test at i =
-    ap (count_by (matches_at page test at)) (range_next i) ∙ sum_by-append (λ k. cond (matches_at page test at k) 1 0) (range_with_len 0 i) (i ∷ [])
-    ∙ ap (λ n. matching_before page test at i + n) (zero-add _)
+    ap (count_by (λ k. matches test (name_at (at ++ k ∷ []) page))) (range_split i 1)
+    ∙ sum_by-append (λ k. cond (matches test (name_at (at ++ k ∷ []) page)) 1 0) (range_with_len 0 i) (i ∷ []) ∙ ap (λ n. matching_before page test at i + n) (zero-add _)
 
-module _ (page : Tree) (step : Step) (at : List ℕ) where
+module _ (page : Tree) (step : Step) (rest : List Step) (at : List ℕ) where
+  -- the places that the step and the rest reach through the first n children
+  abbrev pub through : ℕ → List (List ℕ)
+  through n = flat_map (λ k. places_below page rest (at ++ k ∷ [])) (selected_positions page step at n)
+
+  abbrev later : ℕ → ℕ → List (List ℕ)
+  later i n = flat_map (λ k. places_below page rest (at ++ k ∷ [])) (filter (selects page step at) (range_with_len i n))
+
+  through_split : (i n : ℕ) → through (i + n) ≡ through i ++ later i n
+  through_split i n =
+      ap (λ ks. flat_map (λ k. places_below page rest (at ++ k ∷ [])) (filter (selects page step at) ks)) (range_split i n)
+      ∙ ap (flat_map (λ k. places_below page rest (at ++ k ∷ []))) (filter-append (selects page step at) (range_with_len 0 i) (range_with_len i n))
+      ∙ flat_map-append (λ k. places_below page rest (at ++ k ∷ [])) (selected_positions page step at i) (filter (selects page step at) (range_with_len i n))
+
+  noted_split : (found : Target) (i n : ℕ) → fold note found (through (i + n)) ≡ fold note (fold note found (through i)) (later i n)
+  noted_split found i n = ap (fold note found) (through_split i n) ∙ fold-append note found (through i) (later i n)
+
   flat_one : {Y : Type 0} (g : ℕ → List Y) (b : Bool) (i : ℕ) → flat_map g (cond b (i ∷ []) []) ≡ cond b (g i) []
   flat_one g true i = append-nil (g i)
   flat_one g false i = refl
 
-  pub places_next : (steps : List Step) (found : Target) (i : ℕ)
-      → fold note found (flat_map (λ k. places_below page steps (at ++ k ∷ [])) (selected_positions page step at (i + 1)))
-      ≡ fold note (fold note found (flat_map (λ k. places_below page steps (at ++ k ∷ [])) (selected_positions page step at i))) (cond (selects page step at i) (places_below page steps (at ++ i ∷ [])) [])
-  places_next steps found i =
-      let g : ℕ → List (List ℕ) = λ k. places_below page steps (at ++ k ∷ []) in
-      let chosen : selected_positions page step at (i + 1) ≡ selected_positions page step at i ++ cond (selects page step at i) (i ∷ []) [] =
-      ap (filter (selects page step at)) (range_next i) ∙ filter-append (selects page step at) (range_with_len 0 i) (i ∷ []) in
-      ap (λ ks. fold note found (flat_map g ks)) chosen
-      ∙ ap (fold note found) (flat_map-append g (selected_positions page step at i) (cond (selects page step at i) (i ∷ []) []) ∙ ap (λ ps. flat_map g (selected_positions page step at i) ++ ps) (flat_one g (selects page step at i) i))
-      ∙ fold-append note found (flat_map g (selected_positions page step at i)) (cond (selects page step at i) (g i) [])
+  pub through_next : (found : Target) (i : ℕ) → fold note found (through (i + 1)) ≡ fold note (fold note found (through i)) (cond (selects page step at i) (places_below page rest (at ++ i ∷ [])) [])
+  through_next found i = noted_split found i 1 ∙ ap (fold note (fold note found (through i))) (flat_one (λ k. places_below page rest (at ++ k ∷ [])) (selects page step at i) i)
 
   -- ---- a search that is settled
 
-  rest_of : (i n : ℕ) → i ≤ n → selected_positions page step at n ≡ selected_positions page step at i ++ filter (selects page step at) (range_with_len i (n - i))
-  rest_of i n h =
-      let whole : n ≡ i + (n - i) = omega arith in
-      ap (selected_positions page step at) whole ∙ ap (filter (selects page step at)) (range-append 0 i (n - i) ∙ ap (λ k. range_with_len 0 i ++ range_with_len k (n - i)) (zero-add i))
-      ∙ filter-append (selects page step at) (range_with_len 0 i) (range_with_len i (n - i))
+  several_stays : (found : Target) (i n : ℕ) → Several ≡ fold note found (through i) → Several ≡ fold note found (through (i + n))
+  several_stays found i n e = sym (noted_split found i n ∙ ap (λ t. fold note t (later i n)) (sym e) ∙ fold_stays note Several (λ x. refl) (later i n))
 
-  pub several_stays : (steps : List Step) (found : Target) (i n : ℕ) → i ≤ n → Several ≡ fold note found (flat_map (λ k. places_below page steps (at ++ k ∷ [])) (selected_positions page step at i))
-      → Several ≡ fold note found (flat_map (λ k. places_below page steps (at ++ k ∷ [])) (selected_positions page step at n))
-  several_stays steps found i n h e =
-      let g : ℕ → List (List ℕ) = λ k. places_below page steps (at ++ k ∷ []) in
-      let later = filter (selects page step at) (range_with_len i (n - i)) in
-      sym (ap (λ ks. fold note found (flat_map g ks)) (rest_of i n h)
-      ∙ ap (fold note found) (flat_map-append g (selected_positions page step at i) later)
-      ∙ fold-append note found (flat_map g (selected_positions page step at i)) (flat_map g later)
-      ∙ ap (λ t. fold note t (flat_map g later)) (sym e)
-      ∙ fold_stays note Several (λ x. refl) (flat_map g later))
-
-  past_next : (i : ℕ) → is_past step.index (matching_before page step.test at i) ≡ true → is_past step.index (matching_before page step.test at (i + 1)) ≡ true
-  past_next i h = by step.index h
-    where
-      by : (index : Option ℕ) → is_past index (matching_before page step.test at i) ≡ true → is_past index (matching_before page step.test at (i + 1)) ≡ true
-      by None h = h
-      by (Some n) h = let low = leb-true _ _ h in le-leb _ _ (omega (arith, low, matching_before_next page step.test at i))
-
-  past-nth : (index : Option ℕ) (before : ℕ) → is_past index before ≡ true → is_nth index before ≡ false
+  past-nth : (index : Option ℕ) (before : ℕ) → option_map_or (λ n. nat_le n before) index false ≡ true → is_nth index before ≡ false
   past-nth None before h = sym h
   past-nth (Some n) before h = let low = leb-true _ _ h in ne_eqb n (suc before) (λ e. omega (arith, low, e))
 
-  none_past : (i n : ℕ) → is_past step.index (matching_before page step.test at i) ≡ true → filter (selects page step at) (range_with_len i n) ≡ []
+  past_next : (index : Option ℕ) (i : ℕ) → option_map_or (λ n. nat_le n (matching_before page step.test at i)) index false ≡ true → option_map_or (λ n. nat_le n (matching_before page step.test at (i + 1))) index false ≡ true
+  past_next None i h = h
+  past_next (Some n) i h = let low = leb-true _ _ h in le-leb _ _ (omega (arith, low, matching_before_next page step.test at i))
+
+  none_past : (i n : ℕ) → option_map_or (λ m. nat_le m (matching_before page step.test at i)) step.index false ≡ true → filter (selects page step at) (range_with_len i n) ≡ []
   none_past i zero h = refl
   none_past i (suc n) h =
-      let no : selects page step at i ≡ false = and_right (matches_at page step.test at i) _ (past-nth step.index _ h) in
-      ap (λ b. cond b (i ∷ filter (selects page step at) (range_with_len (i + 1) n)) (filter (selects page step at) (range_with_len (i + 1) n))) no
-      ∙ none_past (i + 1) n (past_next i h)
+      ap (λ b. cond b (i ∷ filter (selects page step at) (range_with_len (i + 1) n)) (filter (selects page step at) (range_with_len (i + 1) n))) (and_right (matches step.test (name_at (at ++ i ∷ []) page)) _ (past-nth step.index _ h))
+      ∙ none_past (i + 1) n (past_next step.index i h)
 
-  pub past_stays : (i n : ℕ) → i ≤ n → is_past step.index (matching_before page step.test at i) ≡ true → selected_positions page step at n ≡ selected_positions page step at i
-  past_stays i n h past = rest_of i n h ∙ ap (λ ks. selected_positions page step at i ++ ks) (none_past i (n - i) past) ∙ append-nil (selected_positions page step at i)
+  past_stays : (i n : ℕ) → option_map_or (λ m. nat_le m (matching_before page step.test at i)) step.index false ≡ true → through (i + n) ≡ through i
+  past_stays i n past = through_split i n ∙ ap (λ ks. through i ++ flat_map (λ k. places_below page rest (at ++ k ∷ [])) ks) (none_past i n past) ∙ append-nil (through i)
 
--- ---- places noted one after another
+  -- ---- what the look at one child gives
 
--- from here on two or more
-note_two : (a b : List ℕ) (rest : List (List ℕ)) → fold note (One a) (b ∷ rest) ≡ Several
-note_two a b rest = fold_stays note Several (λ x. refl) rest
+  module _ (child : List ℕ) (i before : ℕ) (count : before ≡ matching_before page step.test at i) (there : child ≡ at ++ i ∷ []) where
+    pub counted : (m : Bool) → m ≡ matches step.test (name_at child page) → before + cond m 1 0 ≡ matching_before page step.test at (i + 1)
+    counted m matched = sym (matching_before_next page step.test at i ∙ ap (λ p. matching_before page step.test at i + cond (matches step.test (name_at p page)) 1 0) (sym there) ∙ rw (← matched, ← count) refl)
 
-pub fold_note : (ps : List (List ℕ)) → fold note Missing ps ≡ target_of ps
-fold_note [] = refl
-fold_note (p ∷ []) = refl
-fold_note (p ∷ q ∷ ps) = note_two p q ps
+    pub noted : (found now next : Target) → now ≡ fold note found (through i) → next ≡ fold note now (cond (matches step.test (name_at child page) && is_nth step.index before) (places_below page rest child) []) → next ≡ fold note found (through (i + 1))
+    noted found now next so_far e =
+        e ∙ ap (λ p. fold note now (cond (matches step.test (name_at p page) && is_nth step.index before) (places_below page rest p) [])) there
+        ∙ ap (λ n. fold note now (cond (matches step.test (name_at (at ++ i ∷ []) page) && is_nth step.index n) (places_below page rest (at ++ i ∷ [])) [])) count
+        ∙ ap (λ t. fold note t (cond (selects page step at i) (places_below page rest (at ++ i ∷ [])) [])) so_far ∙ sym (through_next found i)
 
--- ---- what the look at one child gives
-
-module _ (page : Tree) (test : Test) (at child : List ℕ) (i before : ℕ) (m : Bool) (count : before ≡ matching_before page test at i) (there : child ≡ at ++ i ∷ []) (matched : m ≡ matches test (name_at child page)) where
-  answer : m ≡ matches_at page test at i
-  answer = matched ∙ ap (λ p. matches test (name_at p page)) there
-
-  pub counted : m ≡ true → before + 1 ≡ matching_before page test at (i + 1)
-  counted h = sym (matching_before_next page test at i ∙ ap (λ b. matching_before page test at i + cond b 1 0) (sym answer ∙ h) ∙ ap (λ n. n + 1) (sym count))
-
-  pub not_counted : m ≡ false → before ≡ matching_before page test at (i + 1)
-  not_counted h = sym (matching_before_next page test at i ∙ ap (λ b. matching_before page test at i + cond b 1 0) (sym answer ∙ h) ∙ add-zero _ ∙ sym count)
-
-pub noted : (page : Tree) (step : Step) (rest : List Step) (at child : List ℕ) (i before : ℕ) (found now next : Target) → before ≡ matching_before page step.test at i → child ≡ at ++ i ∷ []
-    → now ≡ fold note found (flat_map (λ k. places_below page rest (at ++ k ∷ [])) (selected_positions page step at i))
-    → next ≡ fold note now (cond (matches step.test (name_at child page) && is_nth step.index before) (places_below page rest child) [])
-    → next ≡ fold note found (flat_map (λ k. places_below page rest (at ++ k ∷ [])) (selected_positions page step at (i + 1)))
-noted page step rest at child i before found now next count there so_far e =
-    e ∙ ap (λ p. fold note now (cond (matches step.test (name_at p page) && is_nth step.index before) (places_below page rest p) [])) there
-    ∙ ap (λ n. fold note now (cond (matches_at page step.test at i && is_nth step.index n) (places_below page rest (at ++ i ∷ [])) [])) count
-    ∙ ap (λ t. fold note t (cond (selects page step at i) (places_below page rest (at ++ i ∷ [])) [])) so_far
-    ∙ sym (places_next page step at rest found i)
-
--- ---- a search that stops before the last child
-
-module _ (page : Tree) (step : Step) (rest path : List Step) (at : List ℕ) (found now : Target) (i n before : ℕ) (is : path ≡ step ∷ rest) (all : n ≡ child_count_at at page) (h : i ≤ n) (count : before ≡ matching_before page step.test at i)
-    (so_far : now ≡ fold note found (flat_map (λ k. places_below page rest (at ++ k ∷ [])) (selected_positions page step at i))) where
-  whole : fold note found (flat_map (λ k. places_below page rest (at ++ k ∷ [])) (selected_positions page step at n)) ≡ fold note found (places_below page path at)
-  whole = ap (λ m. fold note found (flat_map (λ k. places_below page rest (at ++ k ∷ [])) (selected_positions page step at m))) all ∙ sym (ap (λ p. fold note found (places_below page p at)) is)
-
-  pub settled : (now ≡ Several) ⊎ (is_past step.index before ≡ true) → now ≡ fold note found (places_below page path at)
-  settled (inl several) = several ∙ several_stays page step at rest found i n h (sym several ∙ so_far) ∙ whole
-  settled (inr past) =
-      so_far ∙ ap (λ ks. fold note found (flat_map (λ k. places_below page rest (at ++ k ∷ [])) ks)) (sym (past_stays page step at i n h (ap (is_past step.index) (sym count) ∙ past)))
-      ∙ whole
+  -- a search that stops before the last child
+  pub settled : (path : List Step) (found now : Target) (i n before : ℕ) → path ≡ step ∷ rest → n ≡ child_count_at at page → i ≤ n → before ≡ matching_before page step.test at i → now ≡ fold note found (through i)
+      → (now ≡ Several) ⊎ (option_map_or (λ m. nat_le m before) step.index false ≡ true) → now ≡ fold note found (places_below page path at)
+  settled path found now i n before is all h count so_far why =
+      let split : i + (n - i) ≡ child_count_at at page = omega (arith, all) in
+      let whole = ap (λ m. fold note found (through m)) split ∙ sym (ap (λ p. fold note found (places_below page p at)) is) in
+      elim why [
+        | inl several ↦ several ∙ several_stays found i (n - i) (sym several ∙ so_far) ∙ whole
+        | inr past ↦ so_far ∙ ap (fold note found) (sym (past_stays i (n - i) (ap (λ b. option_map_or (λ m. nat_le m b) step.index false) (sym count) ∙ past))) ∙ whole
+      ]
 
 -- ---- a child without children, from which further steps reach nothing
 
 none_below : {A : Type 0} (f : A → Step) (page : Tree) (steps : List A) (at : List ℕ) → eqb (length steps) 0 ≡ false → child_count_at at page ≡ 0 → places_below page (map f steps) at ≡ []
 none_below f page [] at more none = absurd (true≢false more)
-none_below f page (step ∷ steps) at more none = ap (λ n. flat_map (λ i. places_below page (map f steps) (at ++ i ∷ [])) (selected_positions page (f step) at n)) none
+none_below f page (step ∷ steps) at more none = ap (through page (f step) (map f steps) at) none
 
 pub nothing_noted : {A : Type 0} (f : A → Step) (page : Tree) (steps : List A) (at : List ℕ) (found : Target) (b : Bool) → eqb (length steps) 0 ≡ false → child_count_at at page ≡ 0
     → found ≡ fold note found (cond b (places_below page (map f steps) at) [])
@@ -141,6 +109,11 @@ nothing_noted f page steps at found true more none = sym (ap (fold note found) (
 nothing_noted f page steps at found false more none = refl
 
 -- ---- a whole path
+
+fold_note : (ps : List (List ℕ)) → fold note Missing ps ≡ target_of ps
+fold_note [] = refl
+fold_note (p ∷ []) = refl
+fold_note (p ∷ q ∷ ps) = fold_stays note Several (λ x. refl) ps
 
 pub found_target : (page : Tree) (step : Step) (rest path : List Step) (root : List ℕ) (found : Target) → path ≡ step ∷ rest → root ≡ []
     → found ≡ fold note Missing (cond (matches step.test (name_at root page) && is_nth step.index 0) (places_below page rest root) []) → found ≡ target_in path page

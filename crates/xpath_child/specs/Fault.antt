@@ -8,8 +8,9 @@ use Rattle.std.specs.Char.{is_ascii_digit}
 use Rattle.std.specs.Str.{bytes_eq}
 use Rattle.std.specs.Str.Parse.{digits_value}
 use Rattle.page_tree.specs.Name.{is_name}
+use Rattle.page_tree.specs.Limits.{max_depth}
 use Rattle.page_tree.specs.FirstFault.{unless, ok_unless}
-use Rattle.xpath_child.specs.Path.{Test, any, named, Step, max_steps, max_index_digits}
+use Rattle.xpath_child.specs.Path.{Step, max_index_digits}
 use Rattle.xpath_child.specs.declared.fault.PathFault.{PathFault}
 use Rattle.xpath_child.specs.declared.fault.PathFaultKind.{PathFaultKind}
 use Rattle.xpath_child.specs.declared.fault.PathFaultKind.TheVariants.{NotAbsolute, EmptyStep, BadName, BadIndex, TooManySteps, NoMemory}
@@ -19,19 +20,13 @@ fault_at at kind = record { at = at; kind = kind }
 
 -- ---- one step as it is written
 
-abbrev pub is_slash : ℕ → Bool
-is_slash c = c == 47
-
-abbrev pub is_bracket : ℕ → Bool
-is_bracket c = c == 91
-
 -- the part up to the first `[`, or to the end
 abbrev pub test_part : List ℕ → List ℕ
-test_part text = before_first is_bracket text
+test_part text = before_first (λ c. c == 91) text
 
 -- what stands after the first `[`, if there is one
 abbrev pub index_part : List ℕ → Option (List ℕ)
-index_part text = option_map (λ i. drop (i + 1) text) (position is_bracket text)
+index_part text = option_map (λ i. drop (i + 1) text) (position (λ c. c == 91) text)
 
 abbrev pub is_test : List ℕ → Bool
 is_test text = bytes_eq text (codes "*") || is_name text
@@ -58,55 +53,41 @@ text_fault start text =
     (unless (option_map_or is_closed_index (index_part text) true)
     (fault_at (start + length (test_part text)) BadIndex) None))
 
--- the fault of a step before which so many stand; X5 of one too many
-abbrev pub step_fault : ℕ → ℕ → List ℕ → Option PathFault
-step_fault before start text = unless (nat_lt before max_steps) (fault_at start TooManySteps) (text_fault start text)
-
 -- ---- a text
 
--- the first fault of steps, of which so many stand before them and the first begins at that byte
+-- the first fault of steps, before which so many stand and of which the first begins at that byte; X5 of one too many
 abbrev pub first_step_fault : ℕ → ℕ → List (List ℕ) → Option PathFault
 first_step_fault before start [] = None
 first_step_fault before start (text ∷ rest) =
-    option_or (step_fault before start text) (first_step_fault (suc before) (start + length text + 1) rest)
+    unless (nat_lt before max_depth) (fault_at start TooManySteps)
+    (option_or (text_fault start text) (first_step_fault (suc before) (start + length text + 1) rest))
 
 -- what stands after a `/`, cut at each further one
 abbrev pub written_steps : List ℕ → List (List ℕ)
-written_steps rest = slice_split is_slash rest
+written_steps rest = slice_split (λ c. c == 47) rest
 
 -- the fault of a text that no path has; X1 where it doesn't begin with `/`
 abbrev pub path_fault : List ℕ → Option PathFault
 path_fault [] = Some (fault_at 0 NotAbsolute)
-path_fault (c ∷ rest) = unless (is_slash c) (fault_at 0 NotAbsolute) (first_step_fault 0 1 (written_steps rest))
+path_fault (c ∷ rest) = unless (c == 47) (fault_at 0 NotAbsolute) (first_step_fault 0 1 (written_steps rest))
 
 -- ---- the path that a text without a fault has
 
-abbrev pub test_in : List ℕ → Test
-test_in text = if bytes_eq text (codes "*") then any else named text
+abbrev pub test_in : List ℕ → Option (List ℕ)
+test_in text = if bytes_eq text (codes "*") then None else Some text
 
 abbrev pub step_in : List ℕ → Step
-step_in text = record {
-  test = test_in (test_part text);
-  index = option_map (λ rest. digits_value 10 (front rest)) (index_part text);
-}
+step_in text =
+    record { test = test_in (test_part text); index = option_map (λ r. digits_value 10 (front r)) (index_part text) }
 
 abbrev pub path_in : List ℕ → Result (List Step) PathFault
 path_in text = ok_unless (path_fault text) (map step_in (written_steps (drop 1 text)))
 
 -- ---- what the code answers: that, or want of memory, which stands at 0
 
--- the text has no fault, or this one
-abbrev pub TellsFault : List ℕ → Result (List Step) PathFault → Type 0
-TellsFault text read =
-    MatchResult read (λ _. path_fault text ≡ None) (λ e. e.kind ≢ NoMemory → path_fault text ≡ Some e)
-
-abbrev pub PathFails : {A : Type 0} → ℕ → PathFaultKind → Result A PathFault → Type 0
-PathFails at NoMemory read = at ≡ 0
-PathFails at kind read = read ≡ Err (fault_at at kind)
-
 abbrev pub GivesPath : {X Y : Type 0} → (X → Y) → Result X PathFault → Result Y PathFault → Type 0
-GivesPath view (Ok x) read = read ≡ Ok (view x)
-GivesPath view (Err e) read = PathFails e.at e.kind read
+GivesPath view given read = MatchResult given (λ x. read ≡ Ok (view x))
+    (λ e. (e.kind ≡ NoMemory → e.at ≡ 0) × (e.kind ≢ NoMemory → read ≡ Err e))
 
 -- ---- its code
 

@@ -2,5 +2,4 @@ pub mod Path
 pub mod Fault
 pub mod Reaches
 pub mod Targets
-pub mod Found
 pub mod inside

@@ -1,19 +1,15 @@
 -- The places that a path reaches, as a list in document order, and its target as a function of path and page.
-use Rattle.std.specs.Prelude.{ℕ, suc, List, [], ◌∷◌, ◌++◌, Bool, true, ◌&&◌, ◌==◌, if◌then◌else◌, Option, Some, None, flat_map, filter}
-use Rattle.std.specs.Option.{option_map_or}
+use Rattle.std.specs.Prelude.{ℕ, List, [], ◌∷◌, ◌++◌, ◌&&◌, if◌then◌else◌, Option, Some, None, flat_map, filter}
 use Rattle.std.specs.List.{range_with_len}
 use Rattle.page_tree.specs.Tree.{Tree}
 use Rattle.page_tree.specs.Look.{name_at, child_count_at}
 use Rattle.xpath_child.specs.Path.{Step}
-use Rattle.xpath_child.specs.Reaches.{matches, matches_at, matching_before}
+use Rattle.xpath_child.specs.Reaches.{matches, is_nth, selects}
+use Rattle.page_tree.specs.Number.{place_numbered}
+use Rattle.xpath_child.specs.declared.path.Found.{Found}
+use Rattle.xpath_child.specs.declared.path.Found.TheVariants as found
 use Rattle.xpath_child.specs.declared.path.Target.{Target}
 use Rattle.xpath_child.specs.declared.path.Target.TheVariants.{Missing, One, Several}
-
-abbrev pub is_nth : Option ℕ → ℕ → Bool
-is_nth index before = option_map_or (λ n. n == suc before) index true
-
-abbrev pub selects : Tree → Step → List ℕ → ℕ → Bool
-selects page step at i = matches_at page step.test at i && is_nth step.index (matching_before page step.test at i)
 
 -- the positions that the step selects among the first so many children
 abbrev pub selected_positions : Tree → Step → List ℕ → ℕ → List ℕ
@@ -43,3 +39,9 @@ target_in path page = target_of (places path page)
 abbrev pub only_place : Target → Option (List ℕ)
 only_place (One place) = Some place
 only_place other = None
+
+-- the target that a node's number stands for
+abbrev pub place_found : Tree → Found → Target
+place_found page found.Missing = Missing
+place_found page (found.One number) = One (place_numbered number page)
+place_found page found.Several = Several

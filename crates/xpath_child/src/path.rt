@@ -1,15 +1,14 @@
 //! Paths, and what they select on a page.
-ghost use Rattle.std.specs.Prelude.{◌≡◌, ◌≢◌, ◌↔◌, ◌<◌, ℕ, List, IsTrue, IfOk, IfErr, option_map};
+ghost use Rattle.std.specs.Prelude.{◌≡◌, ◌≢◌, ◌↔◌, ◌<◌, ℕ, List, IsTrue, Some, None, IfOk, IfErr, option_map};
 ghost use Rattle.page_tree.specs.Tree.{Tree};
 ghost use Rattle.page_tree.specs.Limits.{nodes};
 ghost use Rattle.page_tree.specs.Look.{name_at};
 ghost use Rattle.page_tree.specs.Number.{place_numbered};
-ghost use Rattle.xpath_child.specs.Path.{Step as Plain, IsPath, HasNoPath, path_text};
-ghost use Rattle.xpath_child.specs.Fault.{path_in, test_in, GivesPath, TellsFault};
-ghost use Rattle.xpath_child.specs.inside.Seen.{AllStandIn};
+ghost use Rattle.xpath_child.specs.Path.{Step as Plain, IsPath, path_text};
+ghost use Rattle.xpath_child.specs.Fault.{path_in, path_fault, test_in, GivesPath};
+ghost use Rattle.xpath_child.specs.inside.Placed.{AllStandIn};
 ghost use Rattle.xpath_child.specs.Reaches.{IsTarget, matches};
-ghost use Rattle.xpath_child.specs.Targets.{target_in, only_place};
-ghost use Rattle.xpath_child.specs.Found.{place_found};
+ghost use Rattle.xpath_child.specs.Targets.{target_in, only_place, place_found};
 ghost use Rattle.xpath_child.specs.declared.fault.PathFaultKind.TheVariants.{NoMemory};
 ghost use Rattle.xpath_child.specs.inside.Search.{note, Notes, hits_from, hits_at};
 
@@ -38,8 +37,7 @@ struct Written {
 impl Model for Path {
     ghost use Rattle.std.specs.Prelude.{List};
     ghost use Rattle.xpath_child.specs.Path.{Step};
-    ghost use Rattle.xpath_child.specs.inside.Seen.{steps_seen};
-    ghost use Rattle.xpath_child.specs.inside.Placed.{IsTextOf};
+    ghost use Rattle.xpath_child.specs.inside.Placed.{steps_seen, IsTextOf};
 
     ghost Value = { List Step };
 
@@ -56,8 +54,9 @@ impl Path {
         ensures only { IfOk result (λ path. (other : List Plain) → IsPath other → path_text other ≡ text.now → other ≡ path) }
 
         // Where none has, and only there: the first fault.
-        ensures refused { IfErr result (λ e. e.kind ≢ NoMemory → HasNoPath text.now) }
-        ensures fault { TellsFault text.now result }
+        ensures refused { IfErr result (λ e. e.kind ≢ NoMemory → (p : List Plain) → IsPath p → path_text p ≢ text.now) }
+        ensures no_fault { IfOk result (λ _. path_fault text.now ≡ None) }
+        ensures fault { IfErr result (λ e. e.kind ≢ NoMemory → path_fault text.now ≡ Some e) }
         ensures memory { IfErr result (λ e. e.kind ≡ NoMemory → e.at ≡ 0) }
 
         // The same as a function of the text.

@@ -1,15 +1,13 @@
 //! The steps of a path: where they stand in its text, how they are read, and which nodes they match.
-ghost use Rattle.std.specs.Prelude.{◌≡◌, ◌+◌, ◌^◌, ◌<◌, length, option_map, if◌then◌else◌, Some, None};
+ghost use Rattle.std.specs.Prelude.{◌≡◌, ◌+◌, ◌^◌, ◌<◌, ◌≤◌, length, option_map, if◌then◌else◌, nat_le, false, Some, None};
 ghost use Rattle.std.specs.List.{list_all};
 ghost use Rattle.std.specs.Char.{is_ascii_digit};
-ghost use Rattle.std.specs.Str.Parse.{digits_value};
 ghost use Rattle.page_tree.specs.FirstFault.{ok_unless};
-ghost use Rattle.xpath_child.specs.Fault.{test_part, index_part, test_in, is_test, is_index, is_closed_index, front, text_fault, GivesPath};
-ghost use Rattle.xpath_child.specs.inside.Seen.{StandsIn, test_seen};
-ghost use Rattle.xpath_child.specs.Reaches.{matches};
-ghost use Rattle.xpath_child.specs.Targets.{is_nth};
-ghost use Rattle.xpath_child.specs.inside.Search.{is_past};
-ghost use Rattle.xpath_child.specs.inside.Placed.{step_at, steps_or_fault};
+ghost use Rattle.xpath_child.specs.Fault.{test_part, index_part, test_in, is_test, is_index, is_closed_index, front, text_fault, first_step_fault, written_steps, GivesPath};
+ghost use Rattle.xpath_child.specs.inside.Placed.{step_seen, step_at, placed_steps};
+ghost use Rattle.xpath_child.specs.Reaches.{matches, is_nth};
+ghost use Rattle.std.specs.Option.{option_map_or};
+ghost use Rattle.std.specs.Str.Parse.{digits_value};
 
 use crate::fault::{PathFault, PathFaultKind};
 use crate::limits::{MAX_INDEX_DIGITS, MAX_STEPS};
@@ -27,8 +25,8 @@ pub(crate) struct Step {
 impl Step {
     /// Its test, as it stands in the text: a name, or `*`.
     pub(crate) fn test<'a>(&self, text: &'a [u8]) -> &'a [u8]
-        requires { StandsIn text.now self.now }
-        ensures { test_in result.now ≡ test_seen text.now self.now }
+        requires { self.now.start + self.now.len ≤ length text.now }
+        ensures { test_in result.now ≡ (step_seen text.now self.now).test }
     {
         let start = usize::from(self.start);
         &text[start..start + usize::from(self.len)]
@@ -46,7 +44,7 @@ impl Step {
 
     /// Whether the index picks none of the matches before which so many or more stand.
     pub(crate) fn is_past(&self, before: u32) -> bool
-        ensures { result ≡ is_past self.now.index before }
+        ensures { result ≡ option_map_or (λ n. nat_le n before) self.now.index false }
     {
         match self.index {
             None => false,
@@ -68,7 +66,8 @@ pub(crate) fn matches(test: &[u8], name: Option<&str>) -> bool
 /// The steps of what stands after the first `/` of a text; X5 where there are too many.
 pub(crate) fn read_steps(alloc: Global, rest: &str) -> Result<Vec<Step>, PathFault>
     requires { length rest.now + 1 < 2 ^ 64 }
-    ensures { GivesPath (λ steps. steps.items) result (steps_or_fault rest.now) }
+    ensures { GivesPath (λ steps. steps.items) result
+        (ok_unless (first_step_fault 0 1 (written_steps rest.now)) (placed_steps 1 (written_steps rest.now))) }
 {
     let mut steps = Vec::new(alloc);
     let mut slash = 0;

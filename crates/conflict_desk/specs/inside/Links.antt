@@ -1,6 +1,5 @@
 -- What is kept of each case's way up its chain of parents.
-use Rattle.std.specs.Prelude.{◌≡◌, ℕ, ◌<◌, ◌≤◌, List, Bool, false, Some, IfSome, slice_get, option_and_then, ◌⊎◌}
-use Rattle.std.specs.List.{slice_index_or}
+use Rattle.std.specs.Prelude.{◌≡◌, ℕ, ◌<◌, ◌≤◌, List, Bool, false, Some, IfSome, slice_get, option_and_then}
 use Rattle.std.specs.Option.{option_map_or}
 use Rattle.conflict_desk.specs.Docket.{parent_of}
 use Rattle.conflict_desk.specs.declared.docket.Case.{Case}
@@ -15,30 +14,18 @@ Follows from links said =
 abbrev pub LeadsTo : List Link → ℕ → ℕ → Type 0
 LeadsTo links k j = (j < k) × ((from : ℕ) (said : ℕ → Bool) → Follows from links said → from ≤ j → said k ≡ said j)
 
--- its parent, where it has one, stands before that place
-abbrev pub IsParentBelow : ℕ → Link → Type 0
-IsParentBelow k link = IfSome link.parent (λ p. p < k)
+-- it leads to places before its own, and by the chain of parents
+abbrev pub LeadsBack : List Link → ℕ → Link → Type 0
+LeadsBack links k link = IfSome link.parent (λ p. p < k) × IfSome link.jump (LeadsTo links k)
 
--- its parent's flag, and false of one that has none
-abbrev pub flag_above : List Bool → Link → Bool
-flag_above flags link = option_map_or (λ p. slice_index_or flags p false) link.parent false
+abbrev pub AllLeadBack : List Link → Type 0
+AllLeadBack links = (k : ℕ) (link : Link) → slice_get links k ≡ Some link → LeadsBack links k link
 
 pub record IsLink (cases : List Case) (links : List Link) (k : ℕ) (link : Link) : Type 0 where
   pub case : Case
   pub at : slice_get cases k ≡ Some case
   pub parent : parent_of cases case ≡ option_and_then (slice_get cases) link.parent
-  pub before : IsParentBelow k link
-  pub jump : IfSome link.jump (LeadsTo links k)
+  pub back : LeadsBack links k link
 
 abbrev pub AreLinks : List Case → List Link → Type 0
 AreLinks cases links = (k : ℕ) (link : Link) → slice_get links k ≡ Some link → IsLink cases links k link
-
-abbrev pub HaveJumps : List Link → Type 0
-HaveJumps links = (k : ℕ) (link : Link) → slice_get links k ≡ Some link → IfSome link.jump (LeadsTo links k)
-
-abbrev pub HaveParents : List Link → Type 0
-HaveParents links = (k : ℕ) (link : Link) → slice_get links k ≡ Some link → IsParentBelow k link
-
--- that place, or one further up
-abbrev pub IsUp : List Link → ℕ → ℕ → Type 0
-IsUp links k j = (j ≡ k) ⊎ LeadsTo links k j

@@ -10,16 +10,11 @@ use Rattle.conflict_desk.specs.declared.links.Link.{Link}
 abbrev pub Tell : (ℕ → Bool) → ℕ → List Bool → Type 0
 Tell said to flags = (k : ℕ) → k < to → slice_index_or flags k false ≡ said k
 
--- of the conflicts from there to there it is said
-abbrev pub AllSaid : (ℕ → Bool) → List Case → ℕ → ℕ → Type 0
-AllSaid said cases from to =
-    (k : ℕ) (case : Case) → from ≤ k → k < to → slice_get cases k ≡ Some case
-    → is_conflict case.outcome ≡ true → said k ≡ true
-
 -- the first conflict from there on of which it isn't said is at that place, or there is none and that place is the end
 pub record IsSettled (said : ℕ → Bool) (cases : List Case) (from to : ℕ) (flags : List Bool) : Type 0 where
   pub tell : Tell said to flags
-  pub passed : AllSaid said cases from to
+  pub passed : (k : ℕ) (case : Case) → from ≤ k → k < to → slice_get cases k ≡ Some case
+      → is_conflict case.outcome ≡ true → said k ≡ true
   pub stops : (case : Case) → slice_get cases to ≡ Some case → (is_conflict case.outcome ≡ true) × (said to ≡ false)
 
 -- so it goes on from the flags before to those after, whatever follows the links and is said by the flags before

@@ -2,17 +2,16 @@
 use Rattle.std.specs.Prelude.{ℕ, suc, ◌≡◌, List, Option, if◌then◌else◌, unwrap_or}
 use Rattle.std.specs.BTreeMap.{BTreeMap, get_by}
 use Rattle.std.specs.Cmp.Lexicographic.{slice_cmp}
-use Rattle.std.specs.Option.{option_map_or}
 use Rattle.std.specs.Ordering.{nat_cmp}
 use Rattle.std.specs.Str.{bytes_eq}
 use denote.Ref.{Bor}
 use Rattle.page_tree.specs.Tree.{Tree, Trees, tree}
 use Rattle.page_tree.specs.Seen.{all_seen}
+use Rattle.page_tree.specs.declared.tree.Tree as code
 use Rattle.page_tree.specs.Limits.{is_element, nodes_of_all}
 use Rattle.page_tree.specs.Look.{name_of, count}
 use Rattle.page_tree.specs.Number.{count_of, is_named}
-use Rattle.page_tree.specs.inside.Table.{same_name_before}
-use Rattle.page_tree.specs.declared.tree.Tree as code
+use Rattle.page_tree.specs.inside.Table.{spot_behind}
 use Rattle.page_tree.specs.declared.siblings.Siblings.{Siblings}
 use Rattle.page_tree.specs.declared.table.Spot.{Spot}
 
@@ -32,21 +31,10 @@ pub record Passed (before : Trees) (siblings : Siblings) : Type 0 where
   pub elements : siblings.elements ≡ count_of is_element before
   pub names : (name : List ℕ) → name_count siblings.names name ≡ count_of (is_named name) before
 
--- a node behind these siblings, the nearest first, stands there
-pub record IsSpot (spot : Spot) (before : Trees) (t : Tree) : Type 0 where
-  pub position : spot.position ≡ count before
-  pub elements : spot.elements_before ≡ option_map_or (λ _. count_of is_element before) (name_of t) 0
-  pub same : spot.same_before ≡ same_name_before before t
-
--- an element of that name, or a text, behind the siblings that were passed, stands there
-abbrev pub StandsBehind : Siblings → Option (List ℕ) → Spot → Type 0
-StandsBehind siblings name spot =
-    (before : Trees) (t : Tree) → name_of t ≡ name → Passed before siblings → IsSpot spot before t
-
--- it was passed too
-abbrev pub PassesOne : Siblings → Option (List ℕ) → Siblings → Type 0
-PassesOne siblings name passes =
-    (before : Trees) (t : Tree) → name_of t ≡ name → Passed before siblings → Passed (tree t before) passes
+-- one more was passed, an element of that name or a text, which stands there
+abbrev pub PassesOne : ℕ → Siblings → Option (List ℕ) → Spot → Siblings → Type 0
+PassesOne parent siblings name spot passes = (before : Trees) → Passed before siblings
+    → (spot ≡ spot_behind parent before name) × ((t : Tree) → name_of t ≡ name → Passed (tree t before) passes)
 
 -- how many nodes some trees of the code have
 abbrev pub nodes_in : List code.Tree → ℕ

@@ -1,18 +1,9 @@
--- What a `Page` keeps: the table of a tree that is a page. And what its code looks at besides: the parts of a node that
--- no contract of a caller names.
-use Rattle.std.specs.Prelude.{◌≡◌, ℕ, List, [], Option, option_and_then}
+-- What the code looks at besides: the parts of a node that no contract of a caller names.
+use Rattle.std.specs.Prelude.{ℕ, List, []}
 use Rattle.std.specs.Option.{option_map_or}
 use Rattle.page_tree.specs.Tree.{Attribute, Tree, Trees, no_trees}
-use Rattle.page_tree.specs.Look.{node_at, attributes_of, children_of}
+use Rattle.page_tree.specs.Look.{node_at, attributes_of, children_of, words_of}
 use Rattle.page_tree.specs.Control.{start_text}
-use Rattle.page_tree.specs.inside.Rows.{words_of}
-use Rattle.page_tree.specs.Limits.{IsPage}
-use Rattle.page_tree.specs.inside.Table.{Line, lines, tree_of_lines}
-
--- it is the table of the tree that it stands for, and that is a page
-pub record IsTable (ls : List Line) : Type 0 where
-  pub lines : ls ≡ lines (tree_of_lines ls)
-  pub page : IsPage (tree_of_lines ls)
 
 -- the attributes of the node there; none where no node is
 abbrev pub attributes_at : List ℕ → Tree → List Attribute
@@ -26,6 +17,6 @@ children_at place t = option_map_or children_of (node_at place t) no_trees
 abbrev pub named_start_text : List ℕ → List ℕ → Tree → List ℕ
 named_start_text name place t = start_text name (attributes_at place t) (children_at place t)
 
--- the text there; none of an element, or where no node is
-abbrev pub words_at : List ℕ → Tree → Option (List ℕ)
-words_at place t = option_and_then words_of (node_at place t)
+-- the text there; empty for an element, or where no node is
+abbrev pub words_at : List ℕ → Tree → List ℕ
+words_at place t = option_map_or words_of (node_at place t) []

@@ -1,42 +1,46 @@
--- What reading a JSON value adds to a table, beside the walk over the value.
-use Rattle.std.specs.Prelude.{◌≡◌, ℕ, ◌≤◌, List, ◌++◌, length, Result, Ok, Err}
+-- What reading a JSON value or a tree says of its faults, and what reading a value adds to a table.
+use Rattle.std.specs.Prelude.{◌≡◌, ◌≢◌, ℕ, ◌≤◌, List, ◌++◌, length, Bool, true, false, Option, Some, Result, Ok, Err}
+use Rattle.std.specs.Option.{option_map_or}
 use Rattle.serde_json.specs.Data.{Data, Items}
 use Rattle.page_tree.specs.Tree.{Tree, Trees, no_trees, tree}
-use Rattle.page_tree.specs.Seen.{trees_of}
 use Rattle.page_tree.specs.Limits.{max_nodes}
-use Rattle.page_tree.specs.Look.{count}
-use Rattle.page_tree.specs.Fault.{PageFails}
-use Rattle.page_tree.specs.inside.Table.{Line, lines, lines_of, lines_from}
+use Rattle.page_tree.specs.Look.{count, name_of}
+use Rattle.page_tree.specs.Value.{StandsFor, AllStandFor}
+use Rattle.page_tree.specs.Fault.{first_fault}
+use Rattle.page_tree.specs.inside.Table.{Line, spot_behind, lines_of, lines_from}
 use Rattle.page_tree.specs.inside.Building.{Passed}
-use Rattle.page_tree.specs.inside.Walk.{Walk, walk_all}
 use Rattle.page_tree.specs.declared.siblings.Siblings.{Siblings}
 use Rattle.page_tree.specs.declared.fault.PageFault.{PageFault}
+use Rattle.page_tree.specs.declared.fault.PageFault.TheVariants.{NoMemory}
+
+-- Of nodes with these faults, behind so many others: either none has one, and so many nodes stand before a later one;
+-- or the first fault was said.
+abbrev pub Judges : {X : Type 0} → (X → ℕ) → Result X PageFault → ℕ → List (Option PageFault) → Type 0
+Judges count (Ok x) before faults =
+    (later : List (Option PageFault)) → first_fault before (faults ++ later) ≡ first_fault (count x) later
+Judges count (Err fault) before faults =
+    fault ≢ NoMemory → (later : List (Option PageFault)) → first_fault before (faults ++ later) ≡ Some fault
+
+-- a part of an element was read, which passes a test; or its fault was said
+abbrev pub ReadsPart : {X Y : Type 0} → (X → Y) → (Y → Bool) → PageFault → Option Y → Result X PageFault → Type 0
+ReadsPart view test fault given (Ok x) = (given ≡ Some (view x)) × (test (view x) ≡ true)
+ReadsPart view test fault given (Err e) = e ≢ NoMemory → (e ≡ fault) × (option_map_or test given false ≡ false)
 
 -- no more siblings were passed than nodes were read
 abbrev pub HasPassed : Siblings → ℕ → Type 0
 HasPassed siblings many = (before : Trees) × Passed before siblings × (count before ≤ many)
 
--- a node was added, behind the siblings that were passed before
-pub record Adds (parent : ℕ) (siblings passes : Siblings) (old new : List Line) (t : Tree) : Type 0 where
-  pub lines : (before : Trees) → Passed before siblings → new ≡ old ++ lines_of parent before (length old) t
-  pub passed : (before : Trees) → Passed before siblings → Passed (tree t before) passes
+-- the node that a value stands for was added, behind the siblings that were passed before
+pub record Adds (d : Data) (parent : ℕ) (siblings passes : Siblings) (old new : List Line) : Type 0 where
+  pub added : Tree
+  pub stands : StandsFor d added
+  pub lines : (before : Trees) → Passed before siblings
+      → (new ≡ old ++ lines_of (spot_behind parent before (name_of added)) (length old) added)
+      × Passed (tree added before) passes
   pub few : length new ≤ max_nodes
 
--- the tree that the walk over the value gives was added, or the fault is the walk's
-abbrev pub ReadsNode :
-    Walk → Data → ℕ → Siblings → Siblings → List Line → List Line → Result (Unit {0}) PageFault → Type 0
-ReadsNode walk d parent siblings passes old new (Ok _) =
-    (t : Tree) × (walk (length old) d ≡ Ok (t, length new)) × Adds parent siblings passes old new t
-ReadsNode walk d parent siblings passes old new (Err fault) = PageFails fault (walk (length old) d)
-
--- the same of the children of that parent
-abbrev pub ReadsChildren : Walk → Items → ℕ → List Line → List Line → Result (Unit {0}) PageFault → Type 0
-ReadsChildren walk ds parent old new (Ok _) =
-    (ts : List Tree) × (walk_all walk (length old) ds ≡ Ok (ts, length new))
-    × (new ≡ old ++ lines_from parent no_trees (length old) (trees_of ts)) × (length new ≤ max_nodes)
-ReadsChildren walk ds parent old new (Err fault) = PageFails fault (walk_all walk (length old) ds)
-
--- the table of the tree that was walked
-abbrev pub ReadsPage : {T : Type 0} → (T → List Line) → Result T PageFault → Result Tree PageFault → Type 0
-ReadsPage view (Ok table) walked = (t : Tree) × (walked ≡ Ok t) × (view table ≡ lines t)
-ReadsPage view (Err fault) walked = PageFails fault walked
+-- those that some values stand for were added, the children of that parent
+abbrev pub AddsAll : Items → ℕ → List Line → List Line → Type 0
+AddsAll ds parent old new =
+    (ts : Trees) × AllStandFor ds ts × (new ≡ old ++ lines_from parent no_trees (length old) ts)
+    × (length new ≤ max_nodes)

@@ -1,10 +1,12 @@
 -- Steps of a round of lanes.
-use Rattle.std.specs.Prelude.{◌≡◌, ℕ, map, Bool, ◌+◌, ◌≤◌, List, [], ◌∷◌, zero, suc, length, ◌==◌, if◌then◌else◌, slice_get, Option, Some, None}
-use Rattle.std.specs.List.{AllByRecursion}
+use Rattle.std.specs.Prelude.{◌≡◌, ℕ, map, Bool, ◌+◌, ◌≤◌, List, length, ◌==◌, if◌then◌else◌, slice_get, Option, Some, None}
+use Rattle.std.specs.List.{AllByRecursion, AllZip}
+use Rattle.round_robin.specs.Dealt.{every}
 use Rattle.upload_reader.specs.Upload.{UploadState, IsUntouched}
 use Rattle.client_log.specs.Client.{OfClient}
-use Rattle.upload_lanes.specs.Round.{log_before, resumed, rested, IsRound, AreTakenInTurn, IsFollowed}
-use Rattle.upload_lanes.specs.Threads.{AreTaken}
+use Rattle.upload_lanes.specs.Lane.{IsTaken}
+use Rattle.upload_lanes.specs.Round.{log_before, resumed, AreTakenInTurn, IsFollowed}
+use Rattle.upload_lanes.specs.Threads.{recorders_of, stop_of, Stops}
 use Rattle.upload_lanes.specs.declared.gathered.LaneResult.{LaneResult}
 use Rattle.upload_lanes.specs.declared.gathered.Stop.{Stop}
 
@@ -24,53 +26,41 @@ module _ {R : Type 0} where
   abbrev pub new_lane : OfClient → UploadState R → LaneResult R
   new_lane log upload = record { log = log; taken = 0; end = None; upload = Some upload }
 
-  -- of a client of which this is known
-  abbrev pub begun_behind : ℕ → UploadState R → Option (LaneResult R) → LaneResult R
-  begun_behind quota upload known = new_lane (log_before quota upload known) (resumed upload known)
-
+  -- that of an upload, where this is known of clients
   abbrev pub begun_lane : (List ℕ → Option (LaneResult R)) → ℕ → UploadState R → List ℕ × LaneResult R
-  begun_lane known quota upload = (upload.client, begun_behind quota upload (known upload.client))
+  begun_lane known quota upload =
+      let lane = known upload.client in (upload.client, new_lane (log_before quota upload lane) (resumed upload lane))
 
-  -- what recorders take of lanes that begin behind what is known, whatever that is
-  abbrev pub TakeBegun : (ℕ → Bool → Type 0) → List (List ℕ × LaneResult R) → List (List ℕ × LaneResult R) → Stop
-      → Type 0
-  TakeBegun allows begun lanes stop =
-      (known : List ℕ → Option (LaneResult R)) (quota : ℕ) (uploads : List (UploadState R))
-      → begun ≡ map (begun_lane known quota) uploads → AreTaken allows known quota uploads lanes stop
+  -- ---- lanes on threads
 
-  -- what is taken of them in turn, as a schedule says
-  abbrev pub FollowBegun : List ℕ → List (List ℕ × LaneResult R) → List (List ℕ × LaneResult R) → Stop → Type 0
-  FollowBegun schedule begun lanes stop =
-      (known : List ℕ → Option (LaneResult R)) (quota : ℕ) (uploads : List (UploadState R))
-      → AllByRecursion IsUntouched uploads → begun ≡ map (begun_lane known quota) uploads
-      → IsFollowed known quota uploads schedule lanes stop
+  -- nothing was taken of it
+  pub record IsBegun (lane : LaneResult R) : Type 0 where
+    pub taken : lane.taken ≡ 0
+    pub end : lane.end ≡ None
 
-  -- a round begins with these lanes, for which there is that much room
-  abbrev pub BeginsRound : (List ℕ → Option (LaneResult R)) → ℕ → List (UploadState R) → ℕ
-      → List (List ℕ × LaneResult R) → Type 0
-  BeginsRound known quota uploads room lanes =
-      IsRound uploads × (lanes ≡ map (begun_lane known quota) uploads) × (length lanes ≤ room)
+  -- a lane with its upload, of which nothing was taken
+  pub record IsFreshLane (lane : List ℕ × LaneResult R) : Type 0 where
+    pub upload : UploadState R
+    pub upload_is : lane.1.upload ≡ Some upload
+    pub untouched : IsUntouched upload
+    pub begun : IsBegun lane.1
 
-  -- and these were taken
-  abbrev pub TakesRound : (ℕ → Bool → Type 0) → (List ℕ → Option (LaneResult R)) → ℕ → List (UploadState R) → ℕ
-      → List (List ℕ × LaneResult R) × Stop → Type 0
-  TakesRound allows known quota uploads room taken =
-      IsRound uploads × AreTaken allows known quota uploads taken.0 taken.1 × (length taken.0 ≤ room)
+  -- what was taken of such a lane
+  pub record TakesLane (fresh lane : List ℕ × LaneResult R) : Type 0 where
+    pub client : lane.0 ≡ fresh.0
+    pub is_taken : (begun : UploadState R) → fresh.1.upload ≡ Some begun → IsTaken fresh.1.log begun lane.1
 
-  -- Of lanes that were asked so often none gave more than was recorded; once lane k was asked again, what is said of
-  -- that holds where it was taken ..
-  abbrev pub AsksLane : (Type 0 → Type 0) → ℕ → List (List ℕ × LaneResult R) → List (List ℕ × LaneResult R) → Type 0
-  AsksLane Taken k old new =
-      (known : List ℕ → Option (LaneResult R)) (quota : ℕ) (uploads : List (UploadState R)) (asked : ℕ → ℕ)
-      → AreTakenInTurn known quota uploads asked none old
-      → Taken (AreTakenInTurn known quota uploads (one_more k asked) none new)
+  -- What was taken of such lanes, lane k by recorder k modulo their number, and why each stopped.
+  pub record TakeLanes (allows : ℕ → Bool → Type 0) (fresh lanes : List (List ℕ × LaneResult R))
+      (stop : Stop) : Type 0 where
+    pub lanes_are : AllZip TakesLane fresh lanes
+    pub stops : List Stop
+    pub count : length stops ≡ recorders_of (length fresh)
+    pub each : (recorder : ℕ) (one : Stop) → slice_get stops recorder ≡ Some one
+        → Stops allows (every (length stops) recorder lanes) one
+    pub stop_is : stop ≡ stop_of stops
 
-  -- .. or where its message could not be recorded
-  abbrev pub RefusesLane : (Type 0 → Type 0) → ℕ → List (List ℕ × LaneResult R) → List (List ℕ × LaneResult R) → Type 0
-  RefusesLane Refused k old new =
-      (known : List ℕ → Option (LaneResult R)) (quota : ℕ) (uploads : List (UploadState R)) (asked : ℕ → ℕ)
-      → AreTakenInTurn known quota uploads asked none old
-      → Refused (AreTakenInTurn known quota uploads asked (only k) new)
+  -- ---- lanes in turn
 
   -- no more were taken than its upload gave
   abbrev pub HasFewTaken : LaneResult R → Type 0
@@ -79,8 +69,16 @@ module _ {R : Type 0} where
   abbrev pub HaveFewTaken : List (List ℕ × LaneResult R) → Type 0
   HaveFewTaken lanes = (k : ℕ) (lane : List ℕ × LaneResult R) → slice_get lanes k ≡ Some lane → HasFewTaken lane.1
 
-  -- the entry at that place rests
-  abbrev pub rested_at : ℕ → List (List ℕ × LaneResult R) → List (List ℕ × LaneResult R)
-  rested_at k [] = []
-  rested_at zero (entry ∷ entries) = (entry.0, rested entry.1) ∷ entries
-  rested_at (suc k) (entry ∷ entries) = entry ∷ rested_at k entries
+  -- whatever lanes these are, each was then asked so often, and gave so many messages more than were recorded
+  abbrev pub AskLanes : ((ℕ → ℕ) → ℕ → ℕ) → (ℕ → ℕ) → List (List ℕ × LaneResult R) → List (List ℕ × LaneResult R)
+      → Type 0
+  AskLanes further ahead old new =
+      (known : List ℕ → Option (LaneResult R)) (quota : ℕ) (uploads : List (UploadState R)) (asked : ℕ → ℕ)
+      → AreTakenInTurn known quota uploads asked none old → AreTakenInTurn known quota uploads (further asked) ahead new
+
+  -- what is taken in turn of lanes of which nothing was taken, whatever is known of their clients
+  abbrev pub FollowsSchedule : List ℕ → List (List ℕ × LaneResult R) → List (List ℕ × LaneResult R) → Stop → Type 0
+  FollowsSchedule schedule old new stop =
+      (known : List ℕ → Option (LaneResult R)) (quota : ℕ) (uploads : List (UploadState R))
+      → AllByRecursion IsUntouched uploads → old ≡ map (begun_lane known quota) uploads
+      → IsFollowed known quota uploads schedule new stop

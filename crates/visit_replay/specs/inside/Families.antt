@@ -12,14 +12,11 @@ pair_at visits outcomes j =
     option_and_then (λ visit. option_map (λ outcome. (visit, outcome)) (slice_get outcomes j)) (slice_get visits j)
 
 -- which of its requests go elsewhere, where that was looked up
-abbrev pub IsKnown : Visit → Outcome → Option (BTreeMap ℕ Bool) → Type 0
-IsKnown visit outcome slot = IfSome slot (Knows visit outcome (length visit.events))
-
 abbrev pub AreKnown : List Visit → List Outcome → List (Option (BTreeMap ℕ Bool)) → Type 0
 AreKnown visits outcomes slots =
     (j : ℕ) (visit : Visit) (outcome : Outcome) (slot : Option (BTreeMap ℕ Bool)) → slice_get visits j ≡ Some visit
     → slice_get outcomes j ≡ Some outcome → slice_get slots j ≡ Some slot
-    → IsKnown visit outcome slot
+    → IfSome slot (Knows visit outcome visit.events)
 
 -- The first visits with their outcomes are these; the map has the place of the last one with each number.
 pub record Stands (visits : List Visit) (outcomes : List Outcome) (places : ℕ → Option ℕ)
@@ -27,11 +24,6 @@ pub record Stands (visits : List Visit) (outcomes : List Outcome) (places : ℕ 
   pub pairs : (j : ℕ) → j < length before → slice_get before j ≡ pair_at visits outcomes j
   pub places_are : (number : ℕ) → option_and_then (slice_get before) (places number) ≡ last_numbered number before
   pub within : (number : ℕ) → IfSome (places number) (λ j. j < length before)
-
--- the map's places lie within each of these lists
-abbrev pub ArePlaces : {A B C : Type 0} → (ℕ → Option ℕ) → List A → List B → List C → Type 0
-ArePlaces places xs ys zs =
-    (number : ℕ) → IfSome (places number) (λ j. (j < length xs) × (j < length ys) × (j < length zs))
 
 -- whether the visit's parent leads elsewhere now
 abbrev pub TellsElsewhere : List Visit → List Outcome → (ℕ → Option ℕ) → Visit → Bool → Type 0

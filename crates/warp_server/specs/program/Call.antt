@@ -1,5 +1,5 @@
 -- How the program may be called, and what is answered to another call: this project's own rule.
-use Rattle.std.specs.Prelude.{ℕ, List, [], ◌∷◌, length, ◌&&◌, if◌then◌else◌, nat_lt, nat_le, Bool, Option, Some, None, option_map, Result, Ok, Err, codes, bytes_eq}
+use Rattle.std.specs.Prelude.{ℕ, List, [], ◌∷◌, length, drop, ◌&&◌, if◌then◌else◌, nat_lt, nat_le, Bool, Option, Some, None, option_map, Result, Ok, Err, codes, bytes_eq}
 use Rattle.std.specs.Option.{option_and_then, ok_or}
 use Rattle.std.specs.List.{list_all}
 use Rattle.std.specs.Char.{is_ascii_digit}
@@ -27,13 +27,10 @@ max_rounds = 1000
 abbrev pub is_number : List ℕ → Bool
 is_number word = nat_lt 0 (length word) && nat_le (length word) 5 && list_all is_ascii_digit word
 
-abbrev pub is_between : ℕ → ℕ → ℕ → Bool
-is_between low high n = nat_le low n && nat_le n high
-
 -- what the word writes, if it is a number within these limits
 abbrev pub number_of_word : ℕ → ℕ → List ℕ → Option ℕ
 number_of_word low high word =
-    if is_number word && is_between low high (digits_value 10 word) then Some (digits_value 10 word) else None
+    let n = digits_value 10 word in if is_number word && nat_le low n && nat_le n high then Some n else None
 
 -- ---- words
 
@@ -60,8 +57,7 @@ named_call (word ∷ words) =
 
 -- all its words; its own name may be absent
 abbrev pub call_by : List (List ℕ) → Result Call CallFault
-call_by [] = Ok Run
-call_by (name ∷ words) = named_call words
+call_by words = named_call (drop 1 words)
 
 -- as many lanes as a round may have, where it listens
 abbrev pub MayListen : Call → Type 0

@@ -1,5 +1,5 @@
 //! What becomes of any number of uploads: they are taken, replayed, decided and reported.
-ghost use Rattle.std.specs.Prelude.{ℕ, Bool, false, ◌≡◌, ◌≤◌, ◌^◌, IfOk, IfErr};
+ghost use Rattle.std.specs.Prelude.{◌≡◌, IfOk, IfErr};
 ghost use Rattle.std.specs.List.{AllByRecursion};
 ghost use Rattle.upload_reader.specs.Upload.{IsUntouched};
 ghost use Rattle.site_hooks.specs.Closures.{AtAddresses, AtPages, MakesBy, TellsBy};
@@ -9,9 +9,9 @@ ghost use Rattle.byte_streams.specs.Writing.{WritesNothing, writes_of};
 ghost use Rattle.upload_lanes.specs.Round.{IsNoRound};
 ghost use Rattle.upload_lanes.specs.Threads.{Gathers, GathersFirst};
 ghost use Rattle.site_line.specs.Reading.{site_patch, site_quota};
-ghost use Rattle.warp_server.specs.Answer.{never, IsNoAnswer, repaired_site, site_of_table, site_repaired, site_settled};
+ghost use Rattle.warp_server.specs.Answer.{never, IsNoAnswer, repaired_site, site_of_table, site_settled};
 ghost use Rattle.warp_server.specs.declared.program.answering.AnswerFault.TheVariants.{Round, NoMemory};
-ghost use Rattle.warp_server.specs.Headline.{Promises, AreReplayed};
+ghost use Rattle.warp_server.specs.Headline.{Headline};
 ghost use Rattle.warp_server.specs.Repair.{repaired_of};
 ghost use Rattle.warp_server.specs.Report.{WritesReport, report_text};
 
@@ -84,7 +84,8 @@ pub fn answer<R: Source + Drop + Send, W: Sink, T: AllocGlobal + Threads + Wait 
     requires untouched { AllByRecursion IsUntouched uploads.items }
 
     // What the server promises of each client, whatever the threads do.
-    ensures headline { IfOk result (λ answered. Promises site.now uploads.items answered.gathered answered.repaired) }
+    ensures headline { IfOk result (λ answered. Headline (repaired_site site.now) (site_quota site.now)
+        uploads.items answered.gathered answered.repaired) }
 
     // The same to the letter: what each step made of what the one before gave.
     ensures gathered { IfOk result (λ answered. GathersFirst never uploads.items (site_quota site.now) answered.gathered) }
@@ -97,7 +98,7 @@ pub fn answer<R: Source + Drop + Send, W: Sink, T: AllocGlobal + Threads + Wait 
     ensures nothing { IfErr result (λ _. WritesNothing (writes_of W.puts W.contents writer.old writer.new)) }
 {
     let none = Gathered::new(rt.alloc());
-    let gathered = take_to_ends(rt, none, uploads, site.quota(), &|_items: u64| false)?;
+    let gathered = take_to_ends(rt, none, uploads, site.quota())?;
     let Concluded { repaired, report } = conclude(rt, site, &gathered, writer)?;
     Ok(Answered {
         gathered,
@@ -122,7 +123,6 @@ pub(crate) fn conclude<R: Source, W: Sink, T: AllocGlobal + Threads + Sync>(
     writer: &mut W,
 ) -> Result<Concluded, NoMemory>
     ensures repaired { IfOk result (λ concluded. concluded.repaired ≡ site_settled site.now gathered.now) }
-    ensures replayed { IfOk result (λ concluded. AreReplayed (repaired_site site.now) gathered.now concluded.repaired) }
     ensures leave { IfOk result (λ concluded. AllLeaveInOrder concluded.repaired.desk) }
     ensures report { IfOk result (λ concluded. WritesReport (writes_of W.puts W.contents writer.old writer.new)
         (report_text concluded.repaired) concluded.report) }
@@ -134,25 +134,18 @@ pub(crate) fn conclude<R: Source, W: Sink, T: AllocGlobal + Threads + Sync>(
 }
 
 /// Takes the uploads to their ends, behind what was gathered before: the question whether to stop is never answered by true.
-pub(crate) fn take_to_ends<
-    H: Fn(u64) -> bool + Sync,
-    R: Source + Drop + Send,
-    T: AllocGlobal + Threads + Wait + Sync,
->(
+pub(crate) fn take_to_ends<R: Source + Drop + Send, T: AllocGlobal + Threads + Wait + Sync>(
     rt: &T,
     earlier: Gathered<R>,
     uploads: Vec<Upload<R>>,
     quota: Quota,
-    halt: &H,
 ) -> Result<Gathered<R>, GatherFault>
     requires untouched { AllByRecursion IsUntouched uploads.items }
-    requires callable { (n : ℕ) → n ≤ 2 ^ 61 → H.pre halt.now n }
-    requires never { (n : ℕ) (answer : Bool) → H.post halt.now n answer → answer ≡ false }
     ensures ok { IfOk result (Gathers never earlier uploads.items quota) }
     ensures refused { IfErr result (IsNoRound uploads.items) }
 {
     let room = room_for(uploads.len());
-    match gather_again(rt, earlier, uploads, quota, room, halt) {
+    match gather_again(rt, earlier, uploads, quota, room, &|_items: u64| false) {
         Ok(gathered) => Ok(gathered),
         Err(again) => Err(again.fault),
     }
@@ -191,7 +184,7 @@ fn repair_site<R: Source, T: AllocGlobal + Threads + Sync>(
     site: &Site,
     gathered: &Gathered<R>,
 ) -> Result<Repaired, NoMemory>
-    ensures repaired { IfOk result (λ repaired. repaired ≡ site_repaired site.now gathered.now) }
+    ensures repaired { IfOk result (λ repaired. repaired ≡ repaired_of (repaired_site site.now) gathered.now) }
     ensures leave { IfOk result (λ repaired. IsInOrder repaired.desk) }
 {
     let table = site.table();

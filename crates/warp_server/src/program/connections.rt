@@ -4,13 +4,20 @@ ghost use Rattle.std.specs.Prelude.{⊤, IfSome, IfNone};
 use crate::program::callers::Callers;
 use byte_streams::Fed;
 use std::io::Read;
+use std::marker::Model;
 use std::net::OpenListener;
 
-/// The connections that a listener accepts. Of these std's trait says nothing, so neither do the relations. A connection is closed where it is taken
-/// back.
+/// The connections that a listener accepts. Of these std's trait says nothing, so neither do the relations, nor do contracts see anything of the listener. A
+/// connection is closed where it is taken back.
 #[derive(Drop)]
 pub(crate) struct Connections<'a, L> {
     pub listener: &'a L,
+}
+
+impl<'a, L> Model for Connections<'a, L> {
+    ghost Value = { Unit {0} };
+
+    ghost view = { λ _. tt };
 }
 
 impl<S: Read + Send + Drop, L: OpenListener<Stream = S>> Callers for Connections<'_, L> {

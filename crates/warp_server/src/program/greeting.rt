@@ -1,15 +1,16 @@
 //! The uploads of a round: so many callers come, and then the hello of each is read, in that order.
-ghost use Rattle.std.specs.Prelude.{IfOk, IfErr};
+ghost use Rattle.std.specs.Prelude.{◌≡◌, ◌≢◌, length, map, IfOk, IfErr};
+ghost use Rattle.std.specs.List.{AllByRecursion};
 ghost use Rattle.byte_streams.specs.Reading.{WasRead};
-ghost use Rattle.warp_server.specs.program.Callers.{sayings, CameWith, NoUploads};
-ghost use Rattle.warp_server.specs.inside.Serving.{BringsAll, IsUnaccepted, IsGreetedOf, AreGreetedOf, IsUngreeted, AreUngreeted};
+ghost use Rattle.upload_reader.specs.declared.hello_fault.HelloFault.TheVariants.{NoMemory};
+ghost use Rattle.warp_server.specs.program.Callers.{sayings, OneByOne, IsGreeted, BeginsBadly, OneBeginsBadly, CameWith, RoundFails};
 
 use crate::program::callers::Callers;
 use crate::program::intake::no_hello;
 use crate::program::status::Status;
 use byte_streams::{Lines, Source};
 use std::alloc::Global;
-use upload_reader::Upload;
+use upload_reader::{HelloFault, Upload};
 
 /// The uploads of so many callers, in the order in which they came, each behind its hello.
 pub(crate) fn accept_uploads<R: Source + Drop + Send, C: Callers<Reader = R>>(
@@ -20,12 +21,15 @@ pub(crate) fn accept_uploads<R: Source + Drop + Send, C: Callers<Reader = R>>(
     ensures ok { IfOk result (λ uploads. CameWith
         (sayings (WasRead R.answers R.remaining) C.brings C.brings_none C.takes_back)
         lanes callers.old uploads.items callers.new) }
-    ensures refused { IfErr result (NoUploads
+    ensures refused { IfErr result (RoundFails
         (sayings (WasRead R.answers R.remaining) C.brings C.brings_none C.takes_back)
         lanes callers.old callers.new) }
 {
     let readers = accept_all(alloc, callers, lanes)?;
-    greet_all(alloc, readers)
+    match greet_all(alloc, readers) {
+        Ok(uploads) => Ok(uploads),
+        Err(fault) => Err(no_hello(fault)),
+    }
 }
 
 fn accept_all<R: Source + Drop + Send, C: Callers<Reader = R>>(
@@ -33,10 +37,9 @@ fn accept_all<R: Source + Drop + Send, C: Callers<Reader = R>>(
     callers: &mut C,
     lanes: u32,
 ) -> Result<Vec<R>, Status>
-    ensures ok { IfOk result (λ readers. BringsAll
-        (sayings (WasRead R.answers R.remaining) C.brings C.brings_none C.takes_back)
-        lanes callers.old readers.items callers.new) }
-    ensures refused { IfErr result (IsUnaccepted
+    ensures count { IfOk result (λ readers. length readers.items ≡ lanes) }
+    ensures brought { IfOk result (λ readers. OneByOne C.brings callers.old readers.items callers.new) }
+    ensures refused { IfErr result (RoundFails
         (sayings (WasRead R.answers R.remaining) C.brings C.brings_none C.takes_back)
         lanes callers.old callers.new) }
 {
@@ -52,35 +55,40 @@ fn accept_all<R: Source + Drop + Send, C: Callers<Reader = R>>(
     Ok(readers)
 }
 
-fn greet_all<R: Source + Drop>(alloc: Global, readers: Vec<R>) -> Result<Vec<Upload<R>>, Status>
-    ensures ok { IfOk result (λ uploads. AreGreetedOf readers.items uploads.items) }
-    ensures refused { IfErr result (AreUngreeted (WasRead R.answers R.remaining) readers.items) }
+// The upload of each source, in their order.
+fn greet_all<R: Source + Drop>(alloc: Global, readers: Vec<R>) -> Result<Vec<Upload<R>>, HelloFault>
+    ensures count { IfOk result (λ uploads. length uploads.items ≡ length readers.items) }
+    ensures greeted { IfOk result (λ uploads. AllByRecursion IsGreeted uploads.items) }
+    ensures sources { IfOk result (λ uploads. map (λ upload. upload.lines.first) uploads.items ≡ readers.items) }
+    ensures refused { IfErr result (λ fault. fault ≢ NoMemory
+        → OneBeginsBadly (WasRead R.answers R.remaining) readers.items) }
 {
     let Ok(mut uploads) = Vec::with_capacity(alloc, readers.len()) else {
-        return Err(Status::OutOfMemory);
+        return Err(HelloFault::NoMemory);
     };
     for reader in readers {
         match greet(alloc, reader) {
             Ok(upload) => uploads.push_reserved(upload),
-            Err(status) => return Err(status),
+            Err(fault) => return Err(fault),
         }
     }
     Ok(uploads)
 }
 
 // The upload behind the hello that the source begins with.
-fn greet<R: Source + Drop>(alloc: Global, reader: R) -> Result<Upload<R>, Status>
-    ensures ok { IfOk result (IsGreetedOf reader) }
-    ensures refused { IfErr result (IsUngreeted (WasRead R.answers R.remaining) reader) }
+fn greet<R: Source + Drop>(alloc: Global, reader: R) -> Result<Upload<R>, HelloFault>
+    ensures greeted { IfOk result IsGreeted }
+    ensures source { IfOk result (λ upload. upload.lines.first ≡ reader) }
+    ensures refused { IfErr result (λ fault. fault ≢ NoMemory → BeginsBadly (WasRead R.answers R.remaining) reader) }
 {
     let Ok(lines) = Lines::over(alloc, reader) else {
-        return Err(Status::OutOfMemory);
+        return Err(HelloFault::NoMemory);
     };
     match Upload::hello(alloc, lines) {
         Ok(upload) => Ok(upload),
         Err(refused) => {
             let _reader = refused.lines.into_reader();
-            Err(no_hello(refused.fault))
+            Err(refused.fault)
         }
     }
 }

@@ -1,12 +1,12 @@
 //! The site and the upload behind it, read from the lines of a source.
 ghost use Rattle.std.specs.Prelude.{◌≡◌, IfOk, IfErr};
 ghost use Rattle.byte_streams.specs.Cutting.{ending_of};
-ghost use Rattle.byte_streams.specs.Reading.{input, ReadsWhile, NoLineYet, reads_of};
-ghost use Rattle.warp_server.specs.program.Run.{max_site_bytes, ReadWhileUndecided};
+ghost use Rattle.byte_streams.specs.Reading.{input, WasRead, ReadsWhile, NoLineYet};
+ghost use Rattle.byte_streams.specs.Writing.{CallWrites, WritesNothing};
 ghost use Rattle.upload_reader.specs.Upload.{Begins};
-ghost use Rattle.warp_server.specs.inside.Answering.{IsOpened, HasNoInput};
-ghost use Rattle.warp_server.specs.program.Connection.{IsUnreadLines};
-ghost use Rattle.warp_server.specs.inside.Intake.{IsBehindSite, IsRefused, IsUnopened, no_site, bad_site, no_hello};
+ghost use Rattle.warp_server.specs.program.Run.{max_site_bytes, ReadWhileUndecided, Meets};
+ghost use Rattle.warp_server.specs.program.Callers.{unread, IsUnopened};
+ghost use Rattle.warp_server.specs.inside.Intake.{IsBehindSite, IsOpened, IsRefused, no_site, bad_site, no_hello};
 
 use crate::program::status::Status;
 use byte_streams::{LineFault, Lines, Source};
@@ -29,10 +29,12 @@ pub(crate) fn read_input<R: Source>(
     alloc: Global,
     lines: Lines<R>,
 ) -> Result<(Site, Upload<R>), NoInput<R>>
-    requires fresh { IsUnreadLines lines }
-    ensures ok { IfOk result (λ both. IsOpened lines both.0 both.1) }
+    requires fresh { lines ≡ unread lines.first }
+    ensures ok { IfOk result (λ both. IsOpened both.0 both.1) }
+    ensures first { IfOk result (λ both. both.1.lines.first ≡ lines.first) }
     ensures same { IfErr result (λ none. R.lender none.reader ≡ R.lender lines.first) }
-    ensures none { IfErr result (λ none. HasNoInput (reads_of R.answers R.remaining lines.first none.reader) none.status) }
+    ensures none { IfErr result (λ none. (writes : CallWrites) → WritesNothing writes
+        → Meets (WasRead R.answers R.remaining lines.first none.reader) writes none.status) }
 {
     let mut lines = lines;
     match read_site(alloc, &mut lines) {
@@ -57,7 +59,8 @@ fn read_hello<R: Source>(
     requires behind { IsBehindSite lines site.now }
     ensures ok { IfOk result (λ upload. Begins lines upload) }
     ensures same { IfErr result (λ none. R.lender none.reader ≡ R.lender lines.first) }
-    ensures none { IfErr result (λ none. HasNoInput (reads_of R.answers R.remaining lines.first none.reader) none.status) }
+    ensures none { IfErr result (λ none. (writes : CallWrites) → WritesNothing writes
+        → Meets (WasRead R.answers R.remaining lines.first none.reader) writes none.status) }
 {
     match Upload::hello(alloc, lines) {
         Ok(upload) => Ok(upload),
@@ -71,7 +74,7 @@ fn read_hello<R: Source>(
 
 /// The site that the first line says; status 3 where it says none, 6 where a read failed.
 pub(crate) fn read_site<R: Source>(alloc: Global, lines: &mut Lines<R>) -> Result<Site, Status>
-    requires fresh { IsUnreadLines lines.old }
+    requires fresh { lines.old ≡ unread lines.old.first }
     ensures reads { ReadsWhile (NoLineYet max_site_bytes lines.old.place) lines.old lines.new }
     ensures site { IfOk result (IsBehindSite lines.new) }
     ensures refused { IfErr result (λ status. IsRefused status (input lines.new) (ending_of lines.new.answers)) }

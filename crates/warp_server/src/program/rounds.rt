@@ -1,19 +1,18 @@
 //! Rounds of uploads, one after another.
-ghost use Rattle.std.specs.Prelude.{ℕ, Bool, false, ◌≡◌, ◌≢◌, ◌≤◌, ◌^◌, length, map, true, IfOk, IfErr};
+ghost use Rattle.std.specs.Prelude.{ℕ, List, [], ◌∷◌, false, ◌≡◌, ◌≢◌, length, map, slice_get, true, Some, IfOk, IfErr};
 ghost use Rattle.std.specs.List.{AllByRecursion};
+ghost use Rattle.indexmap.specs.IndexMap.{set_value_at};
 ghost use Rattle.lane_queue.specs.Limits.{AreLanes};
-ghost use Rattle.upload_reader.specs.Upload.{IsUntouched};
+ghost use Rattle.upload_reader.specs.Upload.{UploadState, IsUntouched};
 ghost use Rattle.byte_streams.specs.Reading.{WasRead};
 ghost use Rattle.site_line.specs.Reading.{site_quota};
 ghost use Rattle.upload_lanes.specs.Round.{has_twice, clients_of};
 ghost use Rattle.upload_lanes.specs.Threads.{Gathers};
 ghost use Rattle.warp_server.specs.Answer.{never};
 ghost use Rattle.warp_server.specs.Rounds.{let_go};
-ghost use Rattle.warp_server.specs.program.Callers.{sayings, uploads_in, RoundFails, NoFurtherRound};
-ghost use Rattle.warp_server.specs.program.Serve.{serving};
+ghost use Rattle.warp_server.specs.program.Callers.{sayings, OneByOne, uploads_in, GivesBack, RoundFails, MakesRound, NoFurtherRound, MakesAll};
 ghost use Rattle.warp_server.specs.program.Shortage.{status_of};
 ghost use Rattle.warp_server.specs.declared.program.status.Status.TheVariants.{Done, OutOfMemory};
-ghost use Rattle.warp_server.specs.inside.Serving.{GivesAllBack, let_go_at, uploads_at, MakesAll, MakesOne};
 
 use crate::program::answering::take_to_ends;
 use crate::program::callers::Callers;
@@ -38,10 +37,10 @@ pub(crate) fn gather_rounds<
     requires lanes { AreLanes lanes }
     ensures ok { IfOk result (λ gathered. MakesAll
         (sayings (WasRead R.answers R.remaining) C.brings C.brings_none C.takes_back)
-        (serving site.now lanes rounds) callers.old gathered callers.new) }
+        site.now lanes rounds callers.old gathered callers.new) }
     ensures refused { IfErr result (NoFurtherRound
         (sayings (WasRead R.answers R.remaining) C.brings C.brings_none C.takes_back)
-        (serving site.now lanes rounds) callers.old callers.new) }
+        site.now lanes rounds callers.old callers.new) }
 {
     let mut gathered = Gathered::new(rt.alloc());
     for _ in 0..rounds {
@@ -78,9 +77,9 @@ fn gather_round<
 ) -> Result<Gathered<R>, Status>
     requires lanes { AreLanes lanes }
     requires whole { status_of earlier ≡ Done }
-    ensures ok { IfOk result (λ gathered. MakesOne
+    ensures ok { IfOk result (λ gathered. (uploads : List (UploadState R)) × MakesRound
         (sayings (WasRead R.answers R.remaining) C.brings C.brings_none C.takes_back)
-        (site_quota site.now) lanes callers.old earlier gathered callers.new) }
+        (site_quota site.now) lanes callers.old earlier uploads gathered callers.new) }
     ensures refused { IfErr result (RoundFails
         (sayings (WasRead R.answers R.remaining) C.brings C.brings_none C.takes_back)
         lanes callers.old callers.new) }
@@ -90,33 +89,26 @@ fn gather_round<
         give_back(callers, uploads);
         return Err(Status::BadHello);
     }
-    match take_behind(rt, earlier, uploads, site.quota(), &|_items: u64| false) {
+    match take_behind(rt, earlier, uploads, site.quota()) {
         Ok(round) => Ok(give_back_all(callers, round)),
         Err(status) => Err(status),
     }
 }
 
 // The same of a round of these lanes: only memory may be wanting.
-fn take_behind<
-    H: Fn(u64) -> bool + Sync,
-    R: Source + Drop + Send,
-    T: AllocGlobal + Threads + Wait + Sync,
->(
+fn take_behind<R: Source + Drop + Send, T: AllocGlobal + Threads + Wait + Sync>(
     rt: &T,
     earlier: Gathered<R>,
     uploads: Vec<Upload<R>>,
     quota: Quota,
-    halt: &H,
 ) -> Result<Gathered<R>, Status>
     requires untouched { AllByRecursion IsUntouched uploads.items }
     requires lanes { AreLanes (length uploads.items) }
     requires apart { has_twice (clients_of uploads.items) ≡ false }
-    requires callable { (n : ℕ) → n ≤ 2 ^ 61 → H.pre halt.now n }
-    requires never { (n : ℕ) (answer : Bool) → H.post halt.now n answer → answer ≡ false }
     ensures ok { IfOk result (Gathers never earlier uploads.items quota) }
     ensures refused { IfErr result (λ status. status ≡ OutOfMemory) }
 {
-    match take_to_ends(rt, earlier, uploads, quota, halt) {
+    match take_to_ends(rt, earlier, uploads, quota) {
         Ok(gathered) => Ok(gathered),
         Err(fault) => match fault {
             GatherFault::BadLanes => unreachable!(),
@@ -131,8 +123,8 @@ fn give_back<R: Source + Drop + Send, C: Callers<Reader = R>>(
     callers: &mut C,
     uploads: Vec<Upload<R>>,
 )
-    ensures { GivesAllBack
-        (sayings (WasRead R.answers R.remaining) C.brings C.brings_none C.takes_back)
+    ensures { OneByOne
+        (GivesBack (sayings (WasRead R.answers R.remaining) C.brings C.brings_none C.takes_back))
         callers.old uploads.items callers.new }
 {
     for upload in uploads {
@@ -147,8 +139,8 @@ fn give_back_all<R: Source + Drop + Send, C: Callers<Reader = R>>(
 ) -> Gathered<R>
     ensures clients { result.clients.entries ≡ map (λ entry. (entry.0, let_go entry.1)) round.clients.entries }
     ensures stop { result.stop ≡ round.stop }
-    ensures back { GivesAllBack
-        (sayings (WasRead R.answers R.remaining) C.brings C.brings_none C.takes_back)
+    ensures back { OneByOne
+        (GivesBack (sayings (WasRead R.answers R.remaining) C.brings C.brings_none C.takes_back))
         callers.old (uploads_in round.clients.entries) callers.new }
 {
     let mut round = round;
@@ -158,15 +150,17 @@ fn give_back_all<R: Source + Drop + Send, C: Callers<Reader = R>>(
     round
 }
 
+// The same of the entry at that place.
 fn give_back_at<R: Source + Drop + Send, C: Callers<Reader = R>>(
     callers: &mut C,
     clients: &mut IndexMap<Client, LaneResult<R>>,
     k: usize,
 )
-    ensures clients { clients.new.entries ≡ let_go_at k clients.old.entries }
-    ensures back { GivesAllBack
-        (sayings (WasRead R.answers R.remaining) C.brings C.brings_none C.takes_back)
-        callers.old (uploads_at k clients.old.entries) callers.new }
+    ensures clients { (entry : List ℕ × LaneResult R) → slice_get clients.old.entries k ≡ Some entry
+        → clients.new.entries ≡ set_value_at clients.old.entries k (let_go entry.1) }
+    ensures back { (entry : List ℕ × LaneResult R) → slice_get clients.old.entries k ≡ Some entry → OneByOne
+        (GivesBack (sayings (WasRead R.answers R.remaining) C.brings C.brings_none C.takes_back))
+        callers.old (uploads_in (entry ∷ [])) callers.new }
 {
     if let Some(lane) = clients.get_index_mut(k) {
         if let Some(upload) = lane.upload.take() {

@@ -1,11 +1,11 @@
 //! One run: the site line and one upload in, the report out.
 ghost use Rattle.std.specs.Prelude.{◌≡◌, [], ◌∷◌, IfSome, IfNone, IfOk, Some};
-ghost use Rattle.byte_streams.specs.Reading.{Reading, WasRead, reads_of};
+ghost use Rattle.byte_streams.specs.Reading.{WasRead};
 ghost use Rattle.byte_streams.specs.Writing.{WritesNothing, writes_of};
-ghost use Rattle.upload_reader.specs.Upload.{IsUntouched};
 ghost use Rattle.warp_server.specs.program.Run.{Meets};
-ghost use Rattle.warp_server.specs.inside.Answering.{IsOpened, HasOnlyUpload, IsReaderOf};
-ghost use Rattle.warp_server.specs.program.Connection.{IsUnreadLines};
+ghost use Rattle.warp_server.specs.program.Callers.{unread, IsReadOf};
+ghost use Rattle.warp_server.specs.inside.Answering.{HasOnlyUpload};
+ghost use Rattle.warp_server.specs.inside.Intake.{IsOpened};
 
 use crate::program::answering::answer;
 use crate::program::ending::{status_of, written_status};
@@ -30,7 +30,7 @@ pub fn run<T: AllocGlobal + Threads + Wait + Sync, R: Source + Send, W: Sink>(
     reader: &mut R,
     writer: &mut W,
 ) -> Status
-    ensures { Meets (reads_of R.answers R.remaining reader.old reader.new)
+    ensures { Meets (WasRead R.answers R.remaining reader.old reader.new)
         (writes_of W.puts W.contents writer.old writer.new) result }
 {
     let Ok(lines) = Lines::over(rt.alloc(), &mut *reader) else {
@@ -49,9 +49,9 @@ fn run_lines<R: Source + Drop + Send, W: Sink, T: AllocGlobal + Threads + Wait +
     lines: Lines<R>,
     writer: &mut W,
 ) -> Option<(R, Status)>
-    requires fresh { IsUnreadLines lines }
+    requires fresh { lines ≡ unread lines.first }
     ensures same { IfSome result (λ both. R.lender both.0 ≡ R.lender lines.first) }
-    ensures met { IfSome result (λ both. Meets (reads_of R.answers R.remaining lines.first both.0)
+    ensures met { IfSome result (λ both. Meets (WasRead R.answers R.remaining lines.first both.0)
         (writes_of W.puts W.contents writer.old writer.new) both.1) }
     ensures nothing { IfNone result (WritesNothing (writes_of W.puts W.contents writer.old writer.new)) }
 {
@@ -68,11 +68,9 @@ fn run_upload<R: Source + Drop + Send, W: Sink, T: AllocGlobal + Threads + Wait 
     upload: Upload<R>,
     writer: &mut W,
 ) -> Option<(R, Status)>
-    requires untouched { IsUntouched upload }
-    ensures same { (fresh : Reading R) → IsOpened fresh site.now upload
-        → IfSome result (λ both. R.lender both.0 ≡ R.lender fresh.first) }
-    ensures met { (fresh : Reading R) → IsOpened fresh site.now upload → IfSome result (λ both.
-        Meets (reads_of R.answers R.remaining fresh.first both.0)
+    requires opened { IsOpened site.now upload }
+    ensures same { IfSome result (λ both. R.lender both.0 ≡ R.lender upload.lines.first) }
+    ensures met { IfSome result (λ both. Meets (WasRead R.answers R.remaining upload.lines.first both.0)
         (writes_of W.puts W.contents writer.old writer.new) both.1) }
     ensures nothing { IfNone result (WritesNothing (writes_of W.puts W.contents writer.old writer.new)) }
 {
@@ -99,7 +97,9 @@ fn only<R: Source + Drop>(alloc: Global, upload: Upload<R>) -> Result<Vec<Upload
 // The reader of the only lane.
 fn take_reader<R: Source + Drop>(gathered: Gathered<R>) -> R
     requires { HasOnlyUpload gathered }
-    ensures { (has : HasOnlyUpload gathered) → IsReaderOf R.lender (WasRead R.answers R.remaining) has.now.lines result }
+    ensures same { (has : HasOnlyUpload gathered) → R.lender result ≡ R.lender has.now.lines.first }
+    ensures read { (has : HasOnlyUpload gathered)
+        → IsReadOf (WasRead R.answers R.remaining) has.now.lines.first result has.now.lines.answers }
 {
     let mut clients = gathered.clients;
     let Some((_, lane)) = clients.pop() else {

@@ -1,13 +1,11 @@
 //! Rounds of uploads are taken, from callers or over connections, and one report is written.
-ghost use Rattle.std.specs.Prelude.{◌≡◌, IfErr};
+ghost use Rattle.std.specs.Prelude.{◌≡◌, None, IfErr};
+ghost use Rattle.byte_streams.specs.Streams.{fed_reader, fed_answers};
 ghost use Rattle.byte_streams.specs.declared.source.Fed.{Fed};
 ghost use Rattle.lane_queue.specs.Limits.{AreLanes};
 ghost use Rattle.byte_streams.specs.Reading.{WasRead};
 ghost use Rattle.byte_streams.specs.Writing.{writes_of};
-ghost use Rattle.warp_server.specs.program.Callers.{sayings, Serves, ServesSilent, Listens};
-ghost use Rattle.warp_server.specs.program.Serve.{serving};
-ghost use Rattle.warp_server.specs.inside.Intake.{IsUnopened};
-ghost use Rattle.warp_server.specs.inside.Serving.{unopened_status};
+ghost use Rattle.warp_server.specs.program.Callers.{sayings, silent, Serves, IsUnopened, Listens};
 
 use crate::program::answering::conclude;
 use crate::program::call::Listening;
@@ -44,7 +42,7 @@ pub fn serve_callers<
     requires lanes { AreLanes lanes }
     ensures { Serves
         (sayings (WasRead R.answers R.remaining) C.brings C.brings_none C.takes_back)
-        (serving site.now lanes rounds) callers.old callers.new (writes_of W.puts W.contents writer.old writer.new) result }
+        site.now lanes rounds callers.old callers.new (writes_of W.puts W.contents writer.old writer.new) result }
 {
     let gathered = match gather_rounds(rt, callers, lanes, rounds, site) {
         Ok(gathered) => gathered,
@@ -65,8 +63,8 @@ pub fn serve<
     T: AllocGlobal + Threads + Wait + Sync,
 >(rt: &T, listener: &L, lanes: u32, rounds: u32, site: &Site, writer: &mut W) -> Status
     requires lanes { AreLanes lanes }
-    ensures { ServesSilent (Fed S) (serving site.now lanes rounds)
-        (writes_of W.puts W.contents writer.old writer.new) result }
+    ensures { Serves (silent (WasRead fed_answers (λ fed. S.remaining (fed_reader fed))))
+        site.now lanes rounds tt tt (writes_of W.puts W.contents writer.old writer.new) result }
 {
     let mut connections = Connections { listener };
     serve_callers(rt, &mut connections, lanes, rounds, site, writer)
@@ -83,7 +81,7 @@ pub fn listen<
         + Sync,
 >(rt: &T, listening: &Listening, writer: &mut W) -> Status
     requires lanes { AreLanes listening.now.lanes }
-    ensures { Listens (Fed TcpStream) listening.now.lanes listening.now.rounds
+    ensures { Listens (WasRead {R = Fed TcpStream} fed_answers (λ _. None)) listening.now.lanes listening.now.rounds
         (writes_of W.puts W.contents writer.old writer.new) result }
 {
     let site = match site_of_file(rt.alloc(), fs::open(rt, listening.site_file.as_str())) {
@@ -125,7 +123,7 @@ fn read_site_alone<F: Read + Send + Drop>(alloc: Global, file: F) -> Result<Site
 
 // How it ends where a file can't be opened, or no listener made.
 fn unopened_status(kind: ErrorKind) -> Status
-    ensures { result ≡ unopened_status kind }
+    ensures { IsUnopened result }
 {
     match kind {
         ErrorKind::OutOfMemory => Status::OutOfMemory,

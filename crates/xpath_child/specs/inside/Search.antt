@@ -1,14 +1,12 @@
 -- The search for a target in the code: what it has found so far, and which children it need not look at.
-use Rattle.std.specs.Prelude.{◌≡◌, ℕ, List, [], Bool, false, ◌&&◌, if◌then◌else◌, nat_le, Option, fold}
-use Rattle.std.specs.Option.{option_map_or}
+use Rattle.std.specs.Prelude.{◌≡◌, ℕ, List, [], ◌&&◌, if◌then◌else◌, fold}
 use Rattle.page_tree.specs.Tree.{Tree}
 use Rattle.page_tree.specs.Look.{name_at}
 use Rattle.page_tree.specs.Number.{place_numbered}
 use Rattle.xpath_child.specs.Fault.{test_in}
-use Rattle.xpath_child.specs.Reaches.{matches}
-use Rattle.xpath_child.specs.Targets.{is_nth, places_below}
-use Rattle.xpath_child.specs.Found.{place_found}
-use Rattle.xpath_child.specs.inside.Seen.{steps_seen}
+use Rattle.xpath_child.specs.Reaches.{matches, is_nth}
+use Rattle.xpath_child.specs.Targets.{places_below, place_found}
+use Rattle.xpath_child.specs.inside.Placed.{steps_seen}
 use Rattle.xpath_child.specs.declared.step.Step.{Step}
 use Rattle.xpath_child.specs.declared.path.Found.{Found}
 use Rattle.xpath_child.specs.declared.path.Target.{Target}
@@ -18,10 +16,6 @@ use Rattle.xpath_child.specs.declared.path.Target.TheVariants.{Missing, One, Sev
 abbrev pub note : Target → List ℕ → Target
 note Missing place = One place
 note other place = Several
-
--- no match before which so many or more stand is the n-th
-abbrev pub is_past : Option ℕ → ℕ → Bool
-is_past index before = option_map_or (λ n. nat_le n before) index false
 
 -- these places were noted, one after another
 abbrev pub Notes : Tree → Found → Found → List (List ℕ) → Type 0

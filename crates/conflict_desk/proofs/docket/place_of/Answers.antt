@@ -2,8 +2,8 @@ use Rattle.std.proofs.Common.{◌≡◌, nat_lt, Some, slice_get, ap, sym, subst
 use Rattle.std.specs.Option.{IsSome}
 use Rattle.std.proofs.lemmas.Bool.{false≢true}
 use Rattle.std.proofs.lemmas.Option.{slice_get-get_or}
-use Rattle.std.proofs.lemmas.List.Sorted.{IsPartitionPoint-from_clause}
-use Rattle.conflict_desk.proofs.Places.{case_at, parted, not_there}
+use Rattle.std.proofs.lemmas.List.Sorted.{IsPartitionPoint-from_clause, IsPartitionedBy-ltb}
+use Rattle.conflict_desk.proofs.Places.{case_at, non_decreasing, not_there}
 use Rattle.conflict_desk.proofs.docket.place_of.Goals as goal
 
 pub returns-in-Some-clause-place : goal.returns-in-Some-clause-place
@@ -15,10 +15,12 @@ returns-in-Some-clause-place c =
 
 pub returns-in_default-clause-place : goal.returns-in_default-clause-place
 returns-in_default-clause-place c =
-    let point = IsPartitionPoint-from_clause (λ v. nat_lt v.visit c.args.visit) c.args.cases.now _ c.partition_point-place.ensures.partitioned (parted _ c.requires _) (λ a r f called. search rules) in
+    let point = IsPartitionPoint-from_clause (λ v. nat_lt v.visit c.args.visit) c.args.cases.now _ c.partition_point-place.ensures.partitioned
+    (IsPartitionedBy-ltb (λ v. v.visit) _ c.args.visit (non_decreasing _ c.requires)) (λ a r f called. search rules) in
     sym (not_there _ _ _ c.requires point (λ _ d here. c.if-case-visit.false (ap (λ v. v.visit) (c.in-Some.ensures.lookup.3.1 d) ∙ here)))
 
 pub returns-in_default-2-clause-place : goal.returns-in_default-2-clause-place
 returns-in_default-2-clause-place c =
-    let point = IsPartitionPoint-from_clause (λ v. nat_lt v.visit c.args.visit) c.args.cases.now _ c.partition_point-place.ensures.partitioned (parted _ c.requires _) (λ a r f called. search rules) in
+    let point = IsPartitionPoint-from_clause (λ v. nat_lt v.visit c.args.visit) c.args.cases.now _ c.partition_point-place.ensures.partitioned
+    (IsPartitionedBy-ltb (λ v. v.visit) _ c.args.visit (non_decreasing _ c.requires)) (λ a r f called. search rules) in
     sym (not_there _ _ _ c.requires point (λ within d here. absurd (false≢true (subst IsSome c.in_default.is (c.get.ensures.lookup.2 within)))))

@@ -11,8 +11,7 @@ add_children-loop-child-preserved t c =
     let split = seen_next c.args.children.now c.loop-child.child-index c.child-item.result inside c.child-item.is in
     adding_next c.args.table.now c.loop-child.table c.add_node.new.table c.args.parent c.loop-child.siblings c.pass.new.self (all_seen c.args.children.now)
     (all_seen (drop (c.loop-child.child-index + 1) c.args.children.now)) (seen c.child-item.result) c.in_ok-spot.spot
-    c.in_ok-spot.ensures.parent (λ before. c.in_ok-spot.ensures.spot before (seen c.child-item.result) (sym c.name.ensures))
-    (λ before. c.in_ok-spot.ensures.passed before (seen c.child-item.result) (sym c.name.ensures)) c.in_ok-add_node.ensures (rw split at c.loop-child.invariant)
+    (rw c.name.ensures at c.in_ok-spot.ensures) c.in_ok-add_node.ensures (rw split at c.loop-child.invariant)
 
 pub add_node-overflow_cast-as_slice : goal.add_node-overflow_cast-as_slice
 add_node-overflow_cast-as_slice t c =
@@ -32,12 +31,10 @@ add_node-end-requires-clause-few t c =
     )
 
 pub add_node-returns-in_ok-add_children-in-Element : goal.add_node-returns-in_ok-add_children-in-Element
-add_node-returns-in_ok-add_children-in-Element t c before s =
-    c.end.ensures
-    ∙ element_built c.in-Element.name c.in-Element.attributes (all_seen c.in-Element.children.items) c.args.spot (length c.as_slice-in-Element.result.now) c.len-number.result
-    c.args.table.now c.push_element.new.self c.add_children.new.table
-    (ap seen c.in-Element.is ∙ seen-Element c.in-Element.name c.in-Element.attributes c.in-Element.children)
+add_node-returns-in_ok-add_children-in-Element t c =
+    rw (ap seen c.in-Element.is ∙ seen-Element c.in-Element.name c.in-Element.attributes c.in-Element.children)
+    (c.end.ensures ∙ element_built c.in-Element.name c.in-Element.attributes (all_seen c.in-Element.children.items) c.args.spot (length c.as_slice-in-Element.result.now)
+    c.len-number.result c.args.table.now c.push_element.new.self c.add_children.new.table
     (ap length c.as_slice-in-Element.ensures.value ∙ sym (count-all_seen c.in-Element.children.items)) c.len-number.ensures
     (rw (c.as_str-in-Element.ensures, c.as_slice.ensures) at c.in_ok-push_element-in-Element.ensures)
-    (rw c.as_slice-in-Element-2.ensures.value at c.in_ok-add_children-in-Element.ensures)
-    before s
+    (rw c.as_slice-in-Element-2.ensures.value at c.in_ok-add_children-in-Element.ensures))

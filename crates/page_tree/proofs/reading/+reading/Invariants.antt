@@ -1,6 +1,5 @@
 use Rattle.std.proofs.Common.{◌+◌, ◌*◌, drop}
 use Rattle.serde_json.specs.View.{items_view}
-use Rattle.page_tree.specs.inside.Walk.{walk}
 use Rattle.page_tree.proofs.ReadingLaws.{ReadSoFar}
 use Rattle.page_tree.proofs.reading.+reading.Given as goal
 
@@ -10,11 +9,8 @@ decreases-read_node l = 5 * l.levels + 2
 abbrev pub decreases-read_object : goal.decreases-read_object
 decreases-read_object l = 5 * l.levels + 1
 
-abbrev pub decreases-read_element : goal.decreases-read_element
-decreases-read_element l = 5 * l.levels + 5
-
 abbrev pub decreases-read_items : goal.decreases-read_items
 decreases-read_items l = 5 * l.levels + 3
 
 abbrev pub invariant-read_items-loop-item : goal.invariant-read_items-loop-item
-invariant-read_items-loop-item l = ReadSoFar (walk l.levels) l.parent l.initial.table l.table l.siblings (items_view l.items) (items_view (drop l.item-index l.items))
+invariant-read_items-loop-item l = ReadSoFar l.levels l.parent l.initial.table l.table l.siblings (items_view l.items) (items_view (drop l.item-index l.items))

@@ -14,5 +14,5 @@ returns c =
 
 pub loop-name-preserved : goal.loop-name-preserved
 loop-name-preserved c =
-    texts_next c.loop-name.pairs.items _ c.in_ok-read_attribute.field-0 c.in-Some-2.name.now c.as_str.result.now c.in-Some-2.text.now c.loop-name.name-iterator c.next.new.self _ c.in_ok-push.ensures.items
-    c.as_str.ensures.value c.in_ok-read_attribute.ensures c.in-Some-2.ensures.steps c.loop-name.invariant
+    texts_next c.loop-name.pairs.items _ c.in_ok-read_attribute.field-0 c.in-Some-2.name.now c.in-Some-2.text.now c.loop-name.name-iterator c.next.new.self _
+    c.in_ok-push.ensures.items (c.in_ok-read_attribute.ensures.name ∙ c.as_str.ensures.value) c.in_ok-read_attribute.ensures.value.0 c.in-Some-2.ensures.steps c.loop-name.invariant

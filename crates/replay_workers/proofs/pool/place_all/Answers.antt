@@ -1,11 +1,12 @@
-use Rattle.std.proofs.Common.{◌≡◌, ◌<◌, ◌++◌, ◌∷◌, [], length, true, All, IfOk, option_to_list, refl, subst, sym, ap, ◌∙◌, arith}
+use Rattle.std.proofs.Common.{◌≡◌, ◌<◌, ◌++◌, ◌∷◌, [], length, true, All, IfOk, option_to_list, subst, sym, ap, ◌∙◌, arith}
 use Rattle.std.proofs.lemmas.List.{length-append}
 use Rattle.std.proofs.lemmas.List.Elements.{All-push}
-use Rattle.replay_workers.specs.Draws.{IsSeatOf, is_spent}
-use Rattle.replay_workers.specs.inside.Shares.{HasAll, IsWorked, IsPlaced}
+use Rattle.replay_workers.specs.Draws.{IsSeatOf, is_spent, fresh_seat}
+use Rattle.replay_workers.specs.Work.{HasDrawn, IsShare}
+use Rattle.replay_workers.specs.inside.Shares.{IsPlaced}
 use Rattle.replay_workers.specs.declared.share.Done.{Done}
 use Rattle.replay_workers.specs.declared.share.Share.{Share}
-use Rattle.replay_workers.proofs.Placing.{all_back, all_front, front_all, more_placed, of_ok}
+use Rattle.replay_workers.proofs.Placing.{all_front, front_all, more_placed}
 use Rattle.replay_workers.proofs.pool.place_all.Goals as goal
 
 pub loop-share-preserved : goal.loop-share-preserved
@@ -27,8 +28,9 @@ loop-share-preserved c =
       within = subst (λ n. All (λ (s : Share). IfOk s.done (λ d. All (λ (one : Done). one.number < n) d.items)) rest) (sym c.place.auto.all) inside;
       stands = λ own claims sizes all.
           let before = way.stands own claims sizes all in
-          let shares = front_all (IsWorked own claims) rest share (subst (All (IsWorked own claims)) split before.0) in
-          let worked : HasAll own claims share.seat done.items = of_ok (λ d. d.items) (λ d. HasAll own claims share.seat d.items) share.done done c.in_ok-done.was shares.1.done in (
+          let shares = front_all (IsShare own claims (fresh_seat claims)) rest share (subst (All (IsShare own claims (fresh_seat claims))) split before.0) in
+          let worked : HasDrawn own (fresh_seat claims) share.seat done.items =
+          subst (λ d. IfOk d (λ some. HasDrawn own (fresh_seat claims) share.seat some.items)) c.in_ok-done.was shares.1.done in (
             shares.0,
             subst (All (IsSeatOf claims)) (sym c.push_reserved.ensures.items) (All-push (IsSeatOf claims) seats share.seat before.1 shares.1.of),
             subst (All (λ seat. is_spent seat ≡ true)) (sym c.push_reserved.ensures.items) (All-push (λ seat. is_spent seat ≡ true) seats share.seat before.2 shares.1.spent),
@@ -39,7 +41,5 @@ loop-share-preserved c =
 
 pub returns : goal.returns
 returns c = λ own claims sizes all.
-    let way = c.loop-share.invariant in
-    let before = way.stands own claims sizes all in
-    let none : length c.loop-share.shares.items ≡ 0 = omega (arith, c.in_default.ensures.cases.0) in
-    all_back own c.loop-share.all claims (length c.loop-share.shares.items) (length c.loop-share.seats.items) (length c.args.shares.items) c.loop-share.seats.items none way.count refl before.1 before.2 before.3
+    let (_, of, spent, placed) = c.loop-share.invariant.stands own claims sizes all in
+    (record { count_is = omega (arith, c.in_default.ensures.cases.0, c.loop-share.invariant.count); of = of; spent = spent }, placed)

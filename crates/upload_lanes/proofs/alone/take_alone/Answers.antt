@@ -1,6 +1,6 @@
 use Rattle.std.proofs.Common.{◌≡◌, true, false, subst, sym, ◌∙◌}
 use Rattle.std.specs.Result.{is_err}
-use Rattle.upload_lanes.proofs.AloneLaws.{few, few_items, goes_on, has_upload, sets_out, stops_asked, stops_none, stops_refused, taken_so}
+use Rattle.upload_lanes.proofs.AloneLaws.{few, few_items, goes_on, has_upload, sets_out, stops_asked, stops_none, stops_refused, takes_so}
 use Rattle.upload_lanes.proofs.LaneSteps.{when_err, when_ok}
 use Rattle.upload_lanes.proofs.RecorderLaws.{fits_more}
 use Rattle.upload_lanes.proofs.alone.take_alone.Goals as goal
@@ -8,13 +8,10 @@ use Rattle.upload_lanes.proofs.alone.take_alone.Goals as goal
 pub loop-init : goal.loop-init
 loop-init g c = (tt, tt, sets_out (g.H.Halt.allows c.args.halt.now) c.args.lane.now c.requires.fresh)
 
-pub returns-then-is_some-clause-client : goal.returns-then-is_some-clause-client
-returns-then-is_some-clause-client g c = c.loop.invariant.2.client
-
 pub returns-then-is_some-clause-taken : goal.returns-then-is_some-clause-taken
 returns-then-is_some-clause-taken g c =
     let way = c.loop.invariant.2 in
-    taken_so (g.H.Halt.allows c.args.halt.now) c.args.lane.now c.loop.lane c.loop.items way c.loop.lane.1 way.in_turn.is_taken
+    takes_so (g.H.Halt.allows c.args.halt.now) c.args.lane.now c.loop.lane c.loop.items way c.loop.lane.1 way.in_turn.is_taken
 
 pub returns-then-is_some-clause-stops : goal.returns-then-is_some-clause-stops
 returns-then-is_some-clause-stops g c = stops_none (g.H.Halt.allows c.args.halt.now) c.args.lane.now c.loop.lane c.loop.items c.loop.invariant.2 (sym c.is_some.ensures ∙ c.if-is_some.true)
@@ -22,13 +19,10 @@ returns-then-is_some-clause-stops g c = stops_none (g.H.Halt.allows c.args.halt.
 pub ask-requires : goal.ask-requires
 ask-requires g c = c.requires.halt c.loop.items (few_items (g.H.Halt.allows c.args.halt.now) c.args.lane.now c.loop.lane c.loop.items c.loop.invariant.2)
 
-pub returns-then-ask-clause-client : goal.returns-then-ask-clause-client
-returns-then-ask-clause-client g c = c.loop.invariant.2.client
-
 pub returns-then-ask-clause-taken : goal.returns-then-ask-clause-taken
 returns-then-ask-clause-taken g c =
     let way = c.loop.invariant.2 in
-    taken_so (g.H.Halt.allows c.args.halt.now) c.args.lane.now c.loop.lane c.loop.items way c.loop.lane.1 way.in_turn.is_taken
+    takes_so (g.H.Halt.allows c.args.halt.now) c.args.lane.now c.loop.lane c.loop.items way c.loop.lane.1 way.in_turn.is_taken
 
 pub returns-then-ask-clause-stops : goal.returns-then-ask-clause-stops
 returns-then-ask-clause-stops g c =
@@ -38,15 +32,12 @@ returns-then-ask-clause-stops g c =
 pub take_next-requires-clause-few : goal.take_next-requires-clause-few
 take_next-requires-clause-few g c = λ κs within. few (g.H.Halt.allows c.args.halt.now) c.args.lane.now c.loop.lane c.loop.items c.loop.invariant.2
 
-pub returns-then-is_err-clause-client : goal.returns-then-is_err-clause-client
-returns-then-is_err-clause-client g c = c.loop.invariant.2.client
-
 pub returns-then-is_err-clause-taken : goal.returns-then-is_err-clause-taken
 returns-then-is_err-clause-taken g c =
     let err : is_err c.take_next.result ≡ true = sym c.is_err.ensures.value ∙ c.if-is_err.true in
     let way = c.loop.invariant.2 in
     let turn = when_err c.take_next.result _ err (c.take_next.ensures.refused c.args.lane.now.1.log way.begun c.loop.items way.in_turn) in
-    taken_so (g.H.Halt.allows c.args.halt.now) c.args.lane.now c.loop.lane c.loop.items way c.take_next.new.self turn.is_taken
+    takes_so (g.H.Halt.allows c.args.halt.now) c.args.lane.now c.loop.lane c.loop.items way c.take_next.new.self turn.is_taken
 
 pub returns-then-is_err-clause-stops : goal.returns-then-is_err-clause-stops
 returns-then-is_err-clause-stops g c =

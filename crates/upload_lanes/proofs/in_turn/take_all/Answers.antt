@@ -14,7 +14,7 @@ returns-then-is_err g c = λ known quota uploads untouched is. record {
   lanes_are =
       let seen = entries_of (take c.loop-k.k-index c.args.schedule.now) in
       lanes_asked known quota uploads seen seen _ _ c.take_at.new.lanes (λ j. refl) (only_there c.args.schedule.now c.loop-k.k-index c.loop-k-test.true)
-      (when_err c.take_at.result _ (sym c.is_err.ensures.value ∙ c.if-is_err.true) (c.take_at.ensures.refused known quota uploads _ (c.loop-k.invariant.lanes known quota uploads untouched is)));
+      (when_err c.take_at.result _ (sym c.is_err.ensures.value ∙ c.if-is_err.true) c.take_at.ensures.refused known quota uploads _ (c.loop-k.invariant.lanes known quota uploads untouched is));
   stop_is = c.loop-k-test.true;
 }
 
@@ -23,7 +23,7 @@ loop-k-preserved g c = record {
   few = c.take_at.ensures.few;
   lanes = λ known quota uploads untouched is.
       lanes_asked known quota uploads _ (entries_of (take (c.loop-k.k-index + 1) c.args.schedule.now)) none none c.take_at.new.lanes (entries_more c.args.schedule.now c.loop-k.k-index c.loop-k-test.true) (λ j. refl)
-      (when_ok c.take_at.result _ (sym c.is_err.ensures.value ∙ c.if-is_err.false) (c.take_at.ensures.goes known quota uploads _ (c.loop-k.invariant.lanes known quota uploads untouched is)));
+      (when_ok c.take_at.result _ (sym c.is_err.ensures.value ∙ c.if-is_err.false) c.take_at.ensures.goes known quota uploads _ (c.loop-k.invariant.lanes known quota uploads untouched is));
 }
 
 pub returns-then-have_ended : goal.returns-then-have_ended

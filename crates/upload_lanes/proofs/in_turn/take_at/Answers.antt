@@ -14,11 +14,11 @@ pub returns-clause-few : goal.returns-clause-few
 returns-clause-few g c = few_set c.args.lanes.now c.args.k _ c.if-k-lanes.false c.requires.few c.take_next.ensures.few
 
 pub returns-clause-goes : goal.returns-clause-goes
-returns-clause-goes g c = λ known quota uploads asked are.
+returns-clause-goes g c =
     let at = slice_get-get_or c.args.lanes.now c.args.k c.index-lanes-k.result c.if-k-lanes.false in
-    on_ok c.take_next.result _ (λ ok. lanes_more known quota uploads asked c.args.lanes.now c.args.k _ c.take_next.new.self at are (λ before begun was. ok _ (c.take_next.ensures.goes before begun (asked c.args.k) was)))
+    on_ok c.take_next.result _ (λ ok known quota uploads asked are. lanes_more known quota uploads asked c.args.lanes.now c.args.k _ c.take_next.new.self at are (λ before begun was. ok _ (c.take_next.ensures.goes before begun (asked c.args.k) was)))
 
 pub returns-clause-refused : goal.returns-clause-refused
-returns-clause-refused g c = λ known quota uploads asked are.
+returns-clause-refused g c =
     let at = slice_get-get_or c.args.lanes.now c.args.k c.index-lanes-k.result c.if-k-lanes.false in
-    on_err c.take_next.result _ (λ err. lanes_refused known quota uploads asked c.args.lanes.now c.args.k _ c.take_next.new.self at are (λ before begun was. err _ (c.take_next.ensures.refused before begun (asked c.args.k) was)))
+    on_err c.take_next.result _ (λ err known quota uploads asked are. lanes_refused known quota uploads asked c.args.lanes.now c.args.k _ c.take_next.new.self at are (λ before begun was. err _ (c.take_next.ensures.refused before begun (asked c.args.k) was)))

@@ -8,7 +8,7 @@ use Rattle.upload_lanes.proofs.Crossing.{upload_send}
 use Rattle.upload_lanes.proofs.uploader.start_upload.Goals as goal
 
 pub spawn_with-requires-send-F : goal.spawn_with-requires-send-F
-spawn_with-requires-send-F g c κs within = search (sendable, crosses, sent.the_send, putter.the_send, queue.the_sync, gate.the_sync, upload_send) depth 40 fits 20000
+spawn_with-requires-send-F g c κs within = search (sendable, crosses, sent.the_send, putter.the_send, queue.the_send, queue.the_sync, gate.the_sync, upload_send) depth 40 fits 20000
 
 pub spawn_with-requires-send-T : goal.spawn_with-requires-send-T
 spawn_with-requires-send-T g c κs within = search (sendable, crosses, sent.the_send, putter.the_send, upload_send) depth 40 fits 20000

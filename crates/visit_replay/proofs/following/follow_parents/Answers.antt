@@ -1,4 +1,4 @@
-use Rattle.std.proofs.Common.{◌≡◌, ◌+◌, ◌++◌, ◌∷◌, [], None, get_or, length, subst, sym, ap, ◌∙◌, arith}
+use Rattle.std.proofs.Common.{◌≡◌, ◌+◌, ◌==◌, ◌++◌, ◌∷◌, [], ℕ, if◌then◌else◌, Some, None, get_or, length, subst, sym, ap, ◌∙◌, arith, rules}
 use Rattle.std.specs.BTreeMap.{get}
 use Rattle.std.specs.Ordering.{nat_cmp}
 use Rattle.std.specs.Vec.{vec_capacity}
@@ -25,10 +25,11 @@ loop-k-preserved c =
     let settled = c.in_ok-settle.ensures.settled (behind visits own k) visit mine way.stands at given in
     let back = written_back new c.loop-k.outcomes.items c.loop-k.outcomes.len (omega (arith, c.loop-k.outcomes.ok)) (c.settle.auto.outcomes ∙ ap length value) in
     let slots_back = written_back c.settle.new.slots c.loop-k.slots.items c.loop-k.slots.len (omega (arith, c.loop-k.slots.ok)) (c.settle.auto.slots ∙ ap length slots_value) in
+    let put : (number : ℕ) → get nat_cmp c.insert.new.self number ≡ (if visit.number == number then Some k else get nat_cmp c.loop-k.places number) = λ number. search (rules, c.in_ok-insert.ensures.updates.0 number) in
     let next = goes_on visits own k outcomes (get nat_cmp c.loop-k.places) slots (vec_capacity c.loop-k.slots) way visit mine at given
-    new (get nat_cmp c.put_place.new.places) c.settle.new.slots c.push_reserved.new.self.items (vec_capacity c.push_reserved.new.self)
-    c.settle.auto.outcomes c.in_ok-settle.ensures.others settled c.in_ok-put_place.ensures (c.settle.auto.slots ∙ way.slots_many) c.in_ok-settle.ensures.known (c.push_reserved.ensures.items ∙ ap (λ them. them ++ None ∷ []) slots_back) c.push_reserved.ensures.capacity in
-    subst (λ them. IsOnItsWay visits own (k + 1) them (get nat_cmp c.put_place.new.places) c.push_reserved.new.self.items (vec_capacity c.push_reserved.new.self)) (sym back) next
+    new (get nat_cmp c.insert.new.self) c.settle.new.slots c.push_reserved.new.self.items (vec_capacity c.push_reserved.new.self)
+    c.settle.auto.outcomes c.in_ok-settle.ensures.others settled put (c.settle.auto.slots ∙ way.slots_many) c.in_ok-settle.ensures.known (c.push_reserved.ensures.items ∙ ap (λ them. them ++ None ∷ []) slots_back) c.push_reserved.ensures.capacity in
+    subst (λ them. IsOnItsWay visits own (k + 1) them (get nat_cmp c.insert.new.self) c.push_reserved.new.self.items (vec_capacity c.push_reserved.new.self)) (sym back) next
 
 pub returns : goal.returns
 returns c =

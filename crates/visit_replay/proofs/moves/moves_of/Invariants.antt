@@ -6,5 +6,5 @@ use Rattle.visit_replay.proofs.moves.moves_of.Given as goal
 abbrev pub invariant-loop-k : goal.invariant-loop-k
 invariant-loop-k l = record {
   kept : Keeps l.fields l.visit.page (take l.k l.visit.events);
-  knows : Knows l.visit l.outcome l.k l.moves;
+  knows : Knows l.visit l.outcome (take l.k l.visit.events) l.moves;
 }

@@ -1,11 +1,11 @@
-use Rattle.std.proofs.Common.{◌≡◌, ◌+◌, ◌*◌, ◌≤◌, ◌<◌, [], ◌∷◌, ◌++◌, length, fold, flat_map}
+use Rattle.std.proofs.Common.{◌≡◌, ◌+◌, ◌*◌, ◌≤◌, ◌<◌, [], ◌∷◌, ◌++◌, length, fold}
 use Rattle.page_tree.specs.Look.{child_count_at}
 use Rattle.page_tree.specs.Number.{place_numbered}
-use Rattle.xpath_child.specs.inside.Seen.{step_seen, steps_seen}
+use Rattle.xpath_child.specs.inside.Placed.{step_seen, steps_seen}
 use Rattle.xpath_child.specs.Reaches.{matching_before}
-use Rattle.xpath_child.specs.Targets.{selected_positions, places_below}
-use Rattle.xpath_child.specs.Found.{place_found}
+use Rattle.xpath_child.specs.Targets.{place_found}
 use Rattle.xpath_child.specs.inside.Search.{note}
+use Rattle.xpath_child.proofs.Steps.{through}
 use Rattle.xpath_child.proofs.path.+visit.Given as goal
 
 abbrev pub decreases-visit : goal.decreases-visit
@@ -22,5 +22,5 @@ invariant-visit-loop-i l =
       few : l.before ≤ l.i;
       count : l.before ≡ matching_before page (step_seen l.text l.step).test at l.i;
       child : l.i < child_count_at at page → place_numbered l.child page ≡ at ++ l.i ∷ [];
-      found : place_found page l.found ≡ fold note (place_found page l.initial.found) (flat_map (λ k. places_below page (steps_seen l.text l.rest) (at ++ k ∷ [])) (selected_positions page (step_seen l.text l.step) at l.i));
+      found : place_found page l.found ≡ fold note (place_found page l.initial.found) (through page (step_seen l.text l.step) (steps_seen l.text l.rest) at l.i);
     }

@@ -1,11 +1,11 @@
-use Rattle.std.proofs.Common.{◌≡◌, ◌+◌, ◌<◌, [], ◌∷◌, ◌++◌, Ok, length, drop, arith, ap, sym, ◌∙◌, lit<, refl, append_assoc}
+use Rattle.std.proofs.Common.{◌≡◌, ◌+◌, ◌==◌, ◌<◌, [], ◌∷◌, ◌++◌, Ok, length, drop, arith, ap, sym, ◌∙◌, lit<, refl, append_assoc}
 use Rattle.std.proofs.lemmas.Iterator.Splits.{YieldsList-from_str_split}
 use Rattle.std.proofs.lemmas.Iterator.Consumers.{YieldsList-turn, YieldsList-end}
 use Rattle.std.proofs.lemmas.Result.{err_from_is_err_and}
 use Rattle.std.proofs.lemmas.List.{append-nil, length_push, at_drop_all}
-use Rattle.xpath_child.specs.Path.{max_steps}
+use Rattle.page_tree.specs.Limits.{max_depth}
 use Rattle.page_tree.specs.FirstFault.{ok_unless}
-use Rattle.xpath_child.specs.Fault.{is_slash, text_fault, first_step_fault, written_steps}
+use Rattle.xpath_child.specs.Fault.{text_fault, first_step_fault, written_steps}
 use Rattle.xpath_child.specs.inside.Placed.{step_at, placed_steps}
 use Rattle.xpath_child.proofs.Faults.{bytes_of, bytes_of-slice_split, too_many, drop_next, bytes_next, own_fault, no_fault, unless_ok, fails_along}
 use Rattle.xpath_child.proofs.Placed.{length_of_step}
@@ -18,14 +18,14 @@ loop-text-init c = record {
   low = omega arith;
   steps = ap (λ ss. ss ++ placed_steps 1 (written_steps c.args.rest.now)) c.new-steps.ensures.items;
   fault = refl;
-  room = omega (arith, bytes_of-slice_split is_slash c.args.rest.now);
+  room = omega (arith, bytes_of-slice_split (λ c. c == 47) c.args.rest.now);
 }
 
 pub returns-then-len-eq-MAX_STEPS : goal.returns-then-len-eq-MAX_STEPS
 returns-then-len-eq-MAX_STEPS c =
     let t = YieldsList-turn (YieldsList-from_str_split 47 c.args.rest.now (lit< tt) (cc) (cc) (cc)) c.loop-text.yielded _ c.loop-text.yielded_by _ _ c.in-Some.text c.in-Some.is c.next.ensures.steps in
     let all = written_steps c.args.rest.now in
-    rw c.at.ensures (ap (λ f. ok_unless f (placed_steps 1 all)) (sym c.loop-text.invariant.fault ∙ too_many all (length c.loop-text.yielded) c.in-Some.text.now t.0 t.1 (c.loop-text.slash + 1) (omega arith)))
+    rw c.at.ensures (λ same. cc, λ real. ap (λ f. ok_unless f (placed_steps 1 all)) (sym c.loop-text.invariant.fault ∙ too_many all (length c.loop-text.yielded) c.in-Some.text.now t.0 t.1 (c.loop-text.slash + 1) (omega arith)))
 
 pub read_step-requires : goal.read_step-requires
 read_step-requires c =
@@ -40,9 +40,9 @@ returns-in_err-read_step c =
     let t = YieldsList-turn (YieldsList-from_str_split 47 c.args.rest.now (lit< tt) (cc) (cc) (cc)) c.loop-text.yielded _ c.loop-text.yielded_by _ _ c.in-Some.text c.in-Some.is c.next.ensures.steps in
     let all = written_steps c.args.rest.now in
     let start = c.loop-text.slash + 1 in
-    let few : length c.loop-text.yielded < max_steps = omega arith in
+    let few : length c.loop-text.yielded < max_depth = omega arith in
     let p = err_from_is_err_and c.from_residual.result c.from_residual.ensures.1 in
-    rw (p.1, p.2) (fails_along (text_fault start c.in-Some.text.now) (first_step_fault 0 1 all) (step_at start c.in-Some.text.now) (placed_steps 1 all) _ _
+    rw (p.1, p.2) (fails_along (text_fault start c.in-Some.text.now) (first_step_fault 0 1 all) (step_at start c.in-Some.text.now) (placed_steps 1 all) _
     (λ f h. sym c.loop-text.invariant.fault ∙ own_fault all (length c.loop-text.yielded) c.in-Some.text.now t.0 t.1 start few f h) c.in_err-read_step.ensures)
 
 pub overflow_add-slash : goal.overflow_add-slash
@@ -59,7 +59,7 @@ loop-text-preserved c =
     let step = c.in_ok-read_step.field-0 in
     let start = c.loop-text.slash + 1 in
     let past = start + length text + 1 in
-    let few : k < max_steps = omega arith in
+    let few : k < max_depth = omega arith in
     let next : length (c.loop-text.yielded ++ c.in-Some.text ∷ []) ≡ k + 1 = length_push c.loop-text.yielded c.in-Some.text in
     let read = unless_ok (text_fault start text) (step_at start text) step c.in_ok-read_step.ensures in
     let before = c.loop-text.steps.items in

@@ -1,5 +1,8 @@
 -- The body is empty: the reference is opened, and closed at a list with one answer more, the slice's bytes.
-use Rattle.byte_streams.proofs.Steps.{[], ◌∷◌, ◌++◌, Some, refl, proved, id⊢, ftrue, flft, named, vunit, ‵, ◌⊛◌, ◌$◌, ◌∵◌, !, qed, done, move, keep, use1, split, join, fsplit3, feq_i, suffices, frame, group, enter, of_opd, unit_lit, returns, alloc_all, pass_all, free_all, look_at, sets, u8, yes, MutRef, mut_vals, mut_Tells, ShrSlice, shr_slice_vals, shr_slice_Tells, plain, opens, closes, Stays, walk_of, says, stay_ref, Goes-ref, stay_none_slice, Goes-none_slice, ends_at}
+use denote.Builtin.{u8}
+use denote.Exit.{yes}
+use denote.Slice.{ShrSlice, shr_slice_vals, shr_slice_Tells}
+use Rattle.byte_streams.proofs.Steps.{[], ◌∷◌, ◌++◌, Some, refl, proved, id⊢, ftrue, flft, named, vunit, ‵, ◌⊛◌, ◌$◌, ◌∵◌, !, qed, done, move, keep, use1, split, join, fsplit3, feq_i, suffices, frame, group, enter, of_opd, unit_lit, returns, alloc_all, pass_all, free_all, look_at, sets, MutRef, mut_vals, mut_Tells, plain, opens, closes, Stays, walk_of, says, stay_ref, Goes-ref, stay_none_slice, Goes-none_slice, ends_at}
 use Rattle.byte_streams.specs.declared.history.History.{History}
 use Rattle.byte_streams.specs.contracts.history.History.{the_row as R}
 use Rattle.byte_streams.specs.contracts.history.History.moved as f

@@ -1,7 +1,7 @@
 use Rattle.std.proofs.Common.{◌≡◌, ◌∙◌, ap, length, take, drop, ◌+◌, ◌-◌, sym, arith}
 use Rattle.byte_streams.specs.Answers.{bytes_of}
 use Rattle.byte_streams.specs.Reading.{uncut}
-use Rattle.byte_streams.proofs.Advancing.{advanced}
+use Rattle.byte_streams.proofs.Searching.{advanced}
 use Rattle.byte_streams.proofs.Feeds.{line_ends}
 use Rattle.byte_streams.proofs.lines.Lines.advance.Goals as goal
 

@@ -1,8 +1,6 @@
 use Rattle.std.proofs.Common.{ℕ, List, ◌≡◌, [], ◌∷◌, ◌++◌, Some, None, ◌∙◌, ap, take, refl, sym, arith, length-take}
 use Rattle.std.proofs.lemmas.List.{with_items_is}
-use Rattle.byte_streams.specs.Answers.{bytes_of}
-use Rattle.byte_streams.specs.Reading.{input}
-use Rattle.byte_streams.proofs.ReadLaws.{bytes_more, ended, made_more, tail_more}
+use Rattle.byte_streams.proofs.ReadLaws.{bytes_more, made_more, tail_more}
 use Rattle.byte_streams.proofs.ReadingLaws.{was_then, was_given, reads_one}
 use Rattle.byte_streams.proofs.lines.Lines.fill.Goals as goal
 
@@ -28,15 +26,3 @@ returns-in-Ok-eq0-clause-reads g c = rw (← c.self.view_is) (reads_one _ _ _ _ 
 
 pub returns-in-Err-draw-clause-reads : goal.returns-in-Err-draw-clause-reads
 returns-in-Err-draw-clause-reads g c = rw (← c.self.view_is) (reads_one _ _ _ _ refl c.failed.ensures refl)
-
-pub returns-in-Ok-eq0-clause-ends : goal.returns-in-Ok-eq0-clause-ends
-returns-in-Ok-eq0-clause-ends g c =
-    let none : c.self.inside.fault ≡ None = ap (λ lines. lines.fault) c.self.view_is ∙ c.requires.going in
-    let ends = ended c.self.inside.history.answers (Some []) (rw none at c.self.invariant.1.going) refl in
-    (ap bytes_of c.moved.ensures ∙ ends.0 ∙ ap input c.self.view_is, rw (c.keep-in-Ok-eq0.ensures.given, c.moved.ensures, ends.1) refl)
-
-pub returns-in-Err-draw-clause-ends : goal.returns-in-Err-draw-clause-ends
-returns-in-Err-draw-clause-ends g c =
-    let none : c.self.inside.fault ≡ None = ap (λ lines. lines.fault) c.self.view_is ∙ c.requires.going in
-    let ends = ended c.self.inside.history.answers None (rw none at c.self.invariant.1.going) refl in
-    (ap bytes_of c.failed.ensures ∙ ends.0 ∙ ap input c.self.view_is, rw (c.keep-in-Err-draw.ensures.given, c.failed.ensures, ends.1) refl)

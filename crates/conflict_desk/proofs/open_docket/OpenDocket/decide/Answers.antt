@@ -1,9 +1,7 @@
-use Rattle.std.proofs.Common.{◌≡◌, ◌≤◌, ◌+◌, length, Some, refl, ap, ◌∙◌, sym, subst, arith}
+use Rattle.std.proofs.Common.{◌≡◌, ◌≤◌, ◌+◌, length, refl, ap, ◌∙◌, sym, subst, arith}
 use Rattle.std.proofs.Math.ListN.{set}
 use Rattle.conflict_desk.specs.Book.{front_visit}
-use Rattle.conflict_desk.proofs.Gets.{same_some, not_none}
-use Rattle.conflict_desk.specs.declared.fault.DeskFault.TheVariants.{NotFront}
-use Rattle.conflict_desk.proofs.Keeping.{front_at, front_none, decide_kept, settled_as}
+use Rattle.conflict_desk.proofs.Keeping.{front_at, front_none, refused_front, accepted_front, decide_kept, settled_as}
 use Rattle.conflict_desk.proofs.Fronts.{written_back}
 use Rattle.conflict_desk.specs.inside.Kept.{book_in, IsKept}
 use Rattle.conflict_desk.proofs.open_docket.OpenDocket.decide.Goals as goal
@@ -11,12 +9,13 @@ use Rattle.conflict_desk.proofs.open_docket.OpenDocket.decide.Goals as goal
 pub returns-then-next-as_slice-clause-refused : goal.returns-then-next-as_slice-clause-refused
 returns-then-next-as_slice-clause-refused c =
     let none = front_none _ _ _ _ c.self.invariant.0 _ c.as_slice.ensures c.if-next-as_slice.true ∙ ap front_visit c.self.view_is in
-    ((ap (λ front. NotFront front) none, (λ same. not_none _ (sym (none ∙ same)))), refl)
+    (rw (← none) refl, refl)
 
 pub returns-then-front-visit-clause-refused : goal.returns-then-front-visit-clause-refused
-returns-then-front-visit-clause-refused c =
-    let is = front_at _ _ _ _ c.self.invariant.0 _ _ c.as_slice-2.ensures (omega (arith, c.if-next-as_slice.false, ap length c.as_slice.ensures, ap length c.as_slice-2.ensures)) ∙ ap front_visit c.self.view_is in
-    ((ap (λ front. NotFront front) is, (λ same. c.if-front-visit.true (same_some _ _ (is ∙ same)))), refl)
+returns-then-front-visit-clause-refused c = (
+  refused_front _ _ c.args.self.now (front_at _ _ _ _ c.self.invariant.0 _ _ c.as_slice-2.ensures (omega (arith, c.if-next-as_slice.false, ap length c.as_slice.ensures, ap length c.as_slice-2.ensures)) ∙ ap front_visit c.self.view_is) c.if-front-visit.true,
+  refl,
+)
 
 pub invariant_of-self : goal.invariant_of-self
 invariant_of-self c =
@@ -37,7 +36,7 @@ invariant_of-self c =
       omega (arith, c.self.invariant.1, c.push_reserved.ensures.capacity),
     )
 
-pub returns-clause-front : goal.returns-clause-front
-returns-clause-front c =
-    sym (front_at _ _ _ _ c.self.invariant.0 _ _ c.as_slice-2.ensures (omega (arith, c.if-next-as_slice.false, ap length c.as_slice.ensures, ap length c.as_slice-2.ensures)) ∙ ap front_visit c.self.view_is)
-    ∙ ap (λ v. Some v) c.if-front-visit.false
+pub returns-clause-ok : goal.returns-clause-ok
+returns-clause-ok c =
+    accepted_front _ _ c.args.self.now
+    (front_at _ _ _ _ c.self.invariant.0 _ _ c.as_slice-2.ensures (omega (arith, c.if-next-as_slice.false, ap length c.as_slice.ensures, ap length c.as_slice-2.ensures)) ∙ ap front_visit c.self.view_is) c.if-front-visit.false

@@ -1,15 +1,12 @@
 use Rattle.std.proofs.Common.{◌∙◌, ap, sym, subst, slice_get}
 use Rattle.conflict_desk.specs.Book.{is_cancelled}
-use Rattle.conflict_desk.specs.inside.Links.{Follows, HaveParents, HaveJumps}
+use Rattle.conflict_desk.specs.inside.Links.{Follows, AllLeadBack}
 use Rattle.conflict_desk.specs.inside.Settling.{Tell}
 use Rattle.conflict_desk.proofs.Keeping.{cancelled_is_said}
 use Rattle.conflict_desk.proofs.open_docket.OpenDocket.is_cancelled_at.Goals as goal
 
-pub is_gone-requires-clause-parents : goal.is_gone-requires-clause-parents
-is_gone-requires-clause-parents c = subst HaveParents (sym c.as_slice.ensures.value) (λ k link at. (c.self.invariant.0.links_are k link at).before)
-
-pub is_gone-requires-clause-jumps : goal.is_gone-requires-clause-jumps
-is_gone-requires-clause-jumps c = subst HaveJumps (sym c.as_slice.ensures.value) (λ k link at. (c.self.invariant.0.links_are k link at).jump)
+pub is_gone-requires-clause-back : goal.is_gone-requires-clause-back
+is_gone-requires-clause-back c = subst AllLeadBack (sym c.as_slice.ensures.value) (λ k link at. (c.self.invariant.0.links_are k link at).back)
 
 pub returns : goal.returns
 returns c = λ case at.

@@ -1,5 +1,5 @@
-use Rattle.std.proofs.Common.{◌+◌, [], ◌∷◌, length, ◌∙◌, ap, length-append}
-use Rattle.lane_queue.specs.inside.Passes.{with_lane, of_new_lane}
+use Rattle.std.proofs.Common.{◌+◌, [], ◌∷◌, length, refl, ◌∙◌, ap, length-append}
+use Rattle.lane_queue.specs.Opened.{fresh_putter}
 use Rattle.lane_queue.proofs.Counts.{putter_more}
 use Rattle.lane_queue.proofs.Steps.{forks}
 use Rattle.lane_queue.proofs.lanes.LaneQueue.split.Goals as goal
@@ -13,8 +13,8 @@ loop-lane-preserved g c =
     let (same, own) = c.another-own.ensures.queue in
     let (left, right) = c.another-own.ensures.rule in (
       (same.0 ∙ kept.0.0, same.2 ∙ kept.0.1),
-      left ∙ ap with_lane kept.1,
-      rw (c.push_reserved.ensures.items, c.of_lane.ensures) (putter_more _ _ _ _ kept.2 (own.0 ∙ ap (λ q. q.table_id) c.self.view_is) (right ∙ ap of_new_lane kept.1)),
+      left ∙ rw kept.1 refl,
+      rw (c.push_reserved.ensures.items, c.of_lane.ensures) (putter_more _ _ _ _ kept.2 (own.0 ∙ ap (λ q. q.table_id) c.self.view_is) (right ∙ ap (λ v. fresh_putter v.made) kept.1)),
       rw c.push_reserved.ensures.capacity kept.3,
       ap length c.push_reserved.ensures.items ∙ length-append c.loop-lane.putters.items (c.of_lane.result ∷ []) ∙ ap (λ n. n + 1) kept.4,
     )

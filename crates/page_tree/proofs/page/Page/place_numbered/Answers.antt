@@ -18,14 +18,14 @@ loop-at-preserved c =
     (omega (arith, c.loop-at-test.true)) in
     let same : c.table-in-loop-at.result.now ≡ c.table-in-loop-at-2.result.now = c.table-in-loop-at.ensures.lines
     ∙ sym c.table-in-loop-at-2.ensures.lines in
-    let position : c.position.result ≡ (line_in at c.table-in-loop-at-2.result.now).position = c.position.ensures
-    ∙ ap (λ ls. (line_in at ls).position) same in
+    let position : c.position.result ≡ (line_in at c.table-in-loop-at-2.result.now).spot.position = c.position.ensures
+    ∙ ap (λ ls. (line_in at ls).spot.position) same in
     let parent = c.parent-at.ensures in
     let turned : reverse c.push.new.self.items ≡ c.position.result ∷ reverse c.loop-at.positions.items =
     rw c.in_ok-push.ensures.items (reverse-append c.loop-at.positions.items (c.position.result ∷ [])) in (
       c.loop-at.invariant.0 ∙ ap (λ p. p ++ reverse c.loop-at.positions.items) place
-          ∙ append_assoc (place_numbered (line_in at c.table-in-loop-at-2.result.now).parent page)
-          ((line_in at c.table-in-loop-at-2.result.now).position ∷ []) (reverse c.loop-at.positions.items)
+          ∙ append_assoc (place_numbered (line_in at c.table-in-loop-at-2.result.now).spot.parent page)
+          ((line_in at c.table-in-loop-at-2.result.now).spot.position ∷ []) (reverse c.loop-at.positions.items)
           ∙ rw (turned, position, parent) refl,
       omega (arith, less, parent, c.loop-at.invariant.1),
     )

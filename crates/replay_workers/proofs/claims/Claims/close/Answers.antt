@@ -4,15 +4,12 @@ use Rattle.replay_workers.proofs.claims.Claims.close.Goals as goal
 
 pub returns-clause-claimed : goal.returns-clause-claimed
 returns-clause-claimed c =
-    let final = c.close_with-closed.ensures.values.2 in
-    word_claimed _ _ _ _ _ _ _ _ c.self.view_is c.gather-pass.ensures (omega (arith, c.requires.all)) final c.word-word.ensures
+    word_claimed _ _ _ _ _ _ _ _ c.self.view_is c.gather-pass.ensures (omega (arith, c.requires.all)) c.close_with-closed.ensures.values.2 c.word-word.ensures
 
 pub returns-clause-few : goal.returns-clause-few
 returns-clause-few c =
-    let final = c.close_with-closed.ensures.values.2 in
-    word_few _ _ _ _ _ _ _ _ c.self.view_is c.gather-pass.ensures (omega (arith, c.requires.all)) final c.word-word.ensures
+    word_few _ _ _ _ _ _ _ _ c.self.view_is c.gather-pass.ensures (omega (arith, c.requires.all)) c.close_with-closed.ensures.values.2 c.word-word.ensures
 
 pub returns-clause-ends : goal.returns-clause-ends
 returns-clause-ends c =
-    let final = c.close_with-closed.ensures.values.2 in
-    lists_end _ _ _ _ _ _ _ _ c.self.view_is c.gather-pass.ensures (omega (arith, c.requires.all)) final c.word-word.ensures
+    lists_end _ _ _ _ _ _ _ _ c.self.view_is c.gather-pass.ensures (omega (arith, c.requires.all)) c.close_with-closed.ensures.values.2 c.word-word.ensures

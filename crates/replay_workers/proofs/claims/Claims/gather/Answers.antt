@@ -30,6 +30,6 @@ loop-seat-preserved c =
     let joined = c.join_seat.ensures in
     let rest = All-pop (IsSeatOf c.args.self.now) _ _ (Some c.in-Some-pop.seat) c.in-Some-pop.ensures.items kept.1 in (
       took_in _ _ _ _ _ _ c.into_pass-pass.result c.join_seat.new.seat kept.0 c.in-Some-pop.ensures.items rest.1.0
-          own.of own.whole own.one own.list joined.0 joined.2,
+          own.of own.whole own.list joined.0 joined.2,
       rest.0,
     )

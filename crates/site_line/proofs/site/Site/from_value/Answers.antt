@@ -1,13 +1,36 @@
-use Rattle.std.proofs.Common.{◌≡◌, true, is_some, not, ap, ◌∙◌}
+use Rattle.std.proofs.Common.{is_some, ap, refl, ◌∙◌}
 use Rattle.serde_json.specs.View.{view}
-use Rattle.serde_json.specs.Find.{as_object}
-use Rattle.site_line.proofs.Options.{seen_there}
-use Rattle.site_line.proofs.SiteLaws.{site_made}
+use Rattle.site_hooks.specs.Table.{table_page, watched_in}
+use Rattle.site_line.specs.Site.{pages_in}
+use Rattle.site_line.proofs.PagesAdded.{pages_there}
 use Rattle.site_line.proofs.site.Site.from_value.Goals as goal
 
-pub returns : goal.returns
-returns c =
-    let object : is_some (as_object (view c.args.value.now)) ≡ true = seen_there _ c.as_object.result (as_object (view c.args.value.now)) c.as_object.ensures (c.is_none.ensures ∙ ap not c.if-is_none.false) in
-    site_made (view c.args.value.now) _ c.in_ok-read_patched.field-0.items c.in_ok-table.table
-    c.in_ok-table.ensures.0 c.in_ok-read_watched.ensures.0 object c.in_ok-read_patched.ensures c.new-patch.ensures c.in_ok-table.ensures.1 c.in_ok-table.ensures.2 c.in_ok-read_watched.ensures.1
-    c.in_ok-read_watched.ensures.2 c.in_ok-quota.ensures c.in_ok-workers.ensures.workers c.in_ok-decisions.ensures
+pub returns-clause-ok : goal.returns-clause-ok
+returns-clause-ok c =
+    let pages = pages_there (pages_in (view c.args.value.now)) (table_page c.in_ok-table.table) c.in_ok-table.ensures.pages in (
+      record {
+        patched = c.in_ok-read_patched.field-0.items;
+        pages = pages.0;
+        watched = watched_in c.read_watched.new.table;
+        quota = c.in_ok-quota.quota;
+        workers = c.in_ok-workers.workers;
+        decisions = c.in_ok-decisions.decisions.items;
+      },
+      record {
+        object = ap is_some c.in_ok-read_members.ensures;
+        patched = c.in_ok-read_patched.ensures;
+        pages = pages.1;
+        watched = c.in_ok-read_watched.ensures.watched;
+        quota = c.in_ok-quota.ensures.ok;
+        workers = c.in_ok-workers.ensures.ok;
+        decisions = c.in_ok-decisions.ensures;
+      },
+      record {
+        patched = c.new-patch.ensures;
+        pages = λ address. c.in_ok-read_watched.ensures.pages address ∙ pages.2 address;
+        watched = refl;
+        quota = refl;
+        workers = refl;
+        decisions = refl;
+      },
+    )

@@ -2,7 +2,7 @@ use Rattle.std.proofs.Common.{subst}
 use Rattle.site_line.specs.Reading.{site_quota}
 use Rattle.upload_lanes.specs.Threads.{GathersFirst}
 use Rattle.warp_server.specs.Answer.{never}
-use Rattle.warp_server.proofs.HeadlineLaws.{all_prefixes}
+use Rattle.warp_server.proofs.HeadlineLaws.{all_prefixes, replayed}
 use Rattle.warp_server.proofs.program.answering.answer.Goals as goal
 
 pub returns-clause-headline : goal.returns-clause-headline
@@ -10,6 +10,6 @@ returns-clause-headline g c =
     let gathered = c.in_ok-gathered.gathered in
     record {
       has = all_prefixes (site_quota c.args.site.now) never c.args.uploads.items gathered (subst (λ quota. GathersFirst never c.args.uploads.items quota gathered) c.quota.ensures (c.new-none.result, c.new-none.ensures.clients, c.in_ok-gathered.ensures.ok));
-      replayed = c.in_ok-repaired.ensures.replayed;
+      replayed = rw c.in_ok-repaired.ensures.repaired (replayed c.args.site.now gathered);
       leave = c.in_ok-repaired.ensures.leave;
     }

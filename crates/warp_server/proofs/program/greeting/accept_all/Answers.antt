@@ -1,6 +1,6 @@
-use Rattle.std.proofs.Common.{sym, subst, rules}
+use Rattle.std.proofs.Common.{◌∷◌, [], sym, subst, refl, rules}
 use Rattle.warp_server.specs.program.Callers.{OneByOne}
-use Rattle.warp_server.proofs.RoundSteps.{one_more}
+use Rattle.warp_server.proofs.RoundSteps.{all_more}
 use Rattle.warp_server.proofs.program.greeting.accept_all.Goals as goal
 
 pub loop-preserved : goal.loop-preserved
@@ -9,5 +9,5 @@ loop-preserved g c = record {
   room = search rules;
   brought =
       subst (λ items. OneByOne g.C.Callers.brings c.args.callers.now items c.accept.new.self) (sym c.push_reserved.ensures.items)
-      (one_more g.C.Callers.brings c.args.callers.now c.loop.callers c.accept.new.self c.loop.readers.items c.in-Some.reader c.loop.invariant.brought c.in-Some.ensures.brought);
+      (all_more g.C.Callers.brings _ _ _ c.loop.readers.items (c.in-Some.reader ∷ []) c.loop.invariant.brought (c.accept.new.self, c.in-Some.ensures.brought, refl));
 }

@@ -1,8 +1,7 @@
 use Rattle.std.proofs.Common.{◌≡◌, ◌∷◌, ◌++◌, map, rules}
-use Rattle.warp_server.proofs.ServeLaws.{one_ungreeted}
 use Rattle.warp_server.proofs.program.greeting.greet_all.Goals as goal
 
 pub returns-in-Err-clause-refused : goal.returns-in-Err-clause-refused
-returns-in-Err-clause-refused g c =
+returns-in-Err-clause-refused g c not_memory =
     let are : c.args.readers.items ≡ map (λ upload. upload.lines.first) c.loop-reader.uploads.items ++ c.in-Some.reader ∷ c.next.new.self.rest.items = search rules in
-    one_ungreeted _ c.args.readers.items (map (λ upload. upload.lines.first) c.loop-reader.uploads.items) c.in-Some.reader c.next.new.self.rest.items are c.in-Err.status c.in-Err.ensures.refused
+    (map (λ upload. upload.lines.first) c.loop-reader.uploads.items, c.in-Some.reader, c.next.new.self.rest.items, are, c.in-Err.ensures.refused not_memory)

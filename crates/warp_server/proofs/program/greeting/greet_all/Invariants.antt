@@ -1,7 +1,7 @@
 use Rattle.std.proofs.Common.{◌≡◌, ◌+◌, ◌≤◌, ◌++◌, length, map}
 use Rattle.std.specs.List.{AllByRecursion}
 use Rattle.std.specs.Vec.{vec_capacity}
-use Rattle.warp_server.specs.program.Connection.{IsGreeted}
+use Rattle.warp_server.specs.program.Callers.{IsGreeted}
 use Rattle.warp_server.proofs.program.greeting.greet_all.Given as goal
 
 abbrev pub invariant-loop-reader : goal.invariant-loop-reader

@@ -6,7 +6,7 @@ use Rattle.warp_server.proofs.RoundSteps.{all_untouched}
 use Rattle.warp_server.proofs.program.rounds.gather_round.Goals as goal
 
 pub take_behind-requires-clause-untouched : goal.take_behind-requires-clause-untouched
-take_behind-requires-clause-untouched g c κs within = all_untouched c.in_ok-uploads.uploads.items c.in_ok-uploads.ensures.ok.greeted.each
+take_behind-requires-clause-untouched g c κs within = all_untouched c.in_ok-uploads.uploads.items c.in_ok-uploads.ensures.ok.greeted
 
 pub returns-in-Ok-clause-ok : goal.returns-in-Ok-clause-ok
 returns-in-Ok-clause-ok g c = (

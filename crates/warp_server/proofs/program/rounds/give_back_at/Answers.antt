@@ -1,24 +1,39 @@
-use Rattle.std.proofs.Common.{sym}
-use Rattle.warp_server.proofs.RoundSteps.{let_go_set, let_go_past, one_back, none_back, none_there}
+use Rattle.std.proofs.Common.{◌≡◌, [], None, Some, refl, sym, ap, subst, ◌∙◌}
+use Rattle.std.specs.List.{cons_option}
+use Rattle.std.specs.Option.{option_map}
+use Rattle.std.proofs.lemmas.Option.{slice_get-map}
+use Rattle.indexmap.specs.IndexMap.{set_value_at}
+use Rattle.byte_streams.specs.Reading.{WasRead}
+use Rattle.warp_server.specs.Rounds.{let_go}
+use Rattle.warp_server.specs.program.Callers.{sayings, OneByOne, GivesBack}
+use Rattle.warp_server.proofs.RoundSteps.{same_lane}
 use Rattle.warp_server.proofs.program.rounds.give_back_at.Goals as goal
 
 pub returns-in-Some-take-clause-clients : goal.returns-in-Some-take-clause-clients
-returns-in-Some-take-clause-clients g c = rw c.in-Some-take.ensures.after (let_go_set c.args.clients.now.entries c.args.k c.in-Some.lane.now (sym c.in-Some.ensures.value))
+returns-in-Some-take-clause-clients g c entry at =
+    rw c.in-Some-take.ensures.after
+    (ap (λ lane. set_value_at c.args.clients.now.entries c.args.k (let_go lane)) (same_lane c.args.clients.now.entries c.args.k c.in-Some.lane.now entry (sym c.in-Some.ensures.value) at))
 
 pub returns-in-Some-take-clause-back : goal.returns-in-Some-take-clause-back
-returns-in-Some-take-clause-back g c =
-    one_back _ _ c.args.clients.now.entries c.args.k c.in-Some.lane.now (sym c.in-Some.ensures.value) c.in-Some-take.upload (sym c.in-Some-take.ensures.value) _
-    (c.into_reader.result, record { was_read = c.into_reader.ensures.read; ends = c.into_reader.ensures.ends }, c.take_back.ensures)
+returns-in-Some-take-clause-back g c entry at =
+    subst (λ held. OneByOne (GivesBack (sayings (WasRead g.R.Source.answers g.R.Read.remaining) g.C.Callers.brings g.C.Callers.brings_none g.C.Callers.takes_back)) c.args.callers.now (cons_option held []) c.take_back.new.self)
+    (c.in-Some-take.ensures.value ∙ ap (λ lane. lane.upload) (same_lane c.args.clients.now.entries c.args.k c.in-Some.lane.now entry (sym c.in-Some.ensures.value) at))
+    (c.take_back.new.self, (c.into_reader.result, (c.into_reader.ensures.read, c.into_reader.ensures.ends), c.take_back.ensures), refl)
 
 pub returns-in_default-take-clause-clients : goal.returns-in_default-take-clause-clients
-returns-in_default-take-clause-clients g c = rw c.in_default-take.ensures.after (let_go_set c.args.clients.now.entries c.args.k c.in-Some.lane.now (sym c.in-Some.ensures.value))
+returns-in_default-take-clause-clients g c entry at =
+    rw c.in_default-take.ensures.after
+    (ap (λ lane. set_value_at c.args.clients.now.entries c.args.k (let_go lane)) (same_lane c.args.clients.now.entries c.args.k c.in-Some.lane.now entry (sym c.in-Some.ensures.value) at))
 
 pub returns-in_default-take-clause-back : goal.returns-in_default-take-clause-back
-returns-in_default-take-clause-back g c =
-    none_back _ _ c.args.clients.now.entries c.args.k c.in-Some.lane.now (sym c.in-Some.ensures.value) (sym c.in_default-take.ensures.value)
+returns-in_default-take-clause-back g c entry at =
+    subst (λ held. OneByOne (GivesBack (sayings (WasRead g.R.Source.answers g.R.Read.remaining) g.C.Callers.brings g.C.Callers.brings_none g.C.Callers.takes_back)) c.args.callers.now (cons_option held []) c.args.callers.now)
+    (c.in_default-take.ensures.value ∙ ap (λ lane. lane.upload) (same_lane c.args.clients.now.entries c.args.k c.in-Some.lane.now entry (sym c.in-Some.ensures.value) at)) refl
 
 pub returns-in_default-clause-clients : goal.returns-in_default-clause-clients
-returns-in_default-clause-clients g c = let_go_past c.args.clients.now.entries c.args.k (sym c.in_default.ensures.value)
+returns-in_default-clause-clients g c entry at =
+    let none : None ≡ Some entry.1 = c.in_default.ensures.value ∙ slice_get-map (λ e. e.1) c.args.clients.now.entries c.args.k ∙ ap (option_map (λ e. e.1)) at in cc
 
 pub returns-in_default-clause-back : goal.returns-in_default-clause-back
-returns-in_default-clause-back g c = none_there _ _ c.args.clients.now.entries c.args.k (sym c.in_default.ensures.value)
+returns-in_default-clause-back g c entry at =
+    let none : None ≡ Some entry.1 = c.in_default.ensures.value ∙ slice_get-map (λ e. e.1) c.args.clients.now.entries c.args.k ∙ ap (option_map (λ e. e.1)) at in cc

@@ -1,10 +1,9 @@
 use Rattle.std.proofs.Common.{◌≡◌, subst, ap, sym, ◌∙◌, ◌&&◌, cond, [], fold}
 use Rattle.page_tree.specs.Look.{name_at}
 use Rattle.page_tree.specs.Number.{place_numbered}
-use Rattle.xpath_child.specs.inside.Seen.{step_seen, steps_seen}
-use Rattle.xpath_child.specs.Reaches.{IsTarget, matches}
-use Rattle.xpath_child.specs.Targets.{is_nth, places_below}
-use Rattle.xpath_child.specs.Found.{place_found}
+use Rattle.xpath_child.specs.inside.Placed.{step_seen, steps_seen}
+use Rattle.xpath_child.specs.Reaches.{IsTarget, matches, is_nth}
+use Rattle.xpath_child.specs.Targets.{places_below, place_found}
 use Rattle.xpath_child.specs.inside.Search.{note}
 use Rattle.xpath_child.specs.declared.path.Target.TheVariants.{Missing}
 use Rattle.xpath_child.proofs.Steps.{found_target}

@@ -1,0 +1,10 @@
+use Rattle.std.proofs.Common.{◌≡◌, ℕ, ◌<◌, None}
+use Rattle.visit_replay.specs.Outcome.{conflict_of}
+use Rattle.visit_replay.specs.inside.OneEvent.{IsWalked}
+use Rattle.visit_replay.proofs.replaying.replay_on.Given as goal
+
+abbrev pub invariant-loop-i : goal.invariant-loop-i
+invariant-loop-i g l = record {
+  walked : IsWalked l.visit l.new l.i l.fields l.requests;
+  good : (k : ℕ) → k < l.i → conflict_of l.visit.page l.new l.visit.events k ≡ None;
+}
