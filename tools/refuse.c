@@ -14,8 +14,8 @@
 
    TOLD is a file that gets a line at the end: the allocations that were made (with MARKED: between `begin` and `end`),
    and how many threads were started, how many refused, and of how many the handle was given up: they were joined, or
-   let go. A thread is let go by itself, a moment after its scope was told that it has ended; so the end of the program
-   waits for that, two seconds at most. */
+   let go; and how much memory the program held at the most, in KB. A thread is let go by itself, a moment after its
+   scope was told that it has ended; so the end of the program waits for that, two seconds at most. */
 #define _GNU_SOURCE
 #include <dlfcn.h>
 #include <errno.h>
@@ -117,6 +117,15 @@ ssize_t write(int file, const void *bytes, size_t size) {
     return syscall(SYS_write, file, bytes, 1);
 }
 
+static long peak(void) {
+    char text[4096] = "", *place;
+    int file = open("/proc/self/status", O_RDONLY);
+    if (file < 0 || syscall(SYS_read, file, text, sizeof text - 1) < 0) abort();
+    close(file);
+    place = strstr(text, "VmHWM:");
+    return place ? atol(place + 6) : 0;
+}
+
 __attribute__((destructor)) static void tell(void) {
     if (told++) return;
     for (int turns = 0; turns < 2000; turns++) {
@@ -127,7 +136,7 @@ __attribute__((destructor)) static void tell(void) {
     if (!name) return;
     if (!marked) end();
     char line[100];
-    int size = snprintf(line, sizeof line, "%ld %d %d %d\n", made, started, refused, given_up);
+    int size = snprintf(line, sizeof line, "%ld %d %d %d %ld\n", made, started, refused, given_up, peak());
     int file = open(name, O_WRONLY | O_CREAT | O_TRUNC, 0644);
     if (file < 0 || syscall(SYS_write, file, line, size) != size) abort();
     close(file);

@@ -1,4 +1,4 @@
--- What contracts see of Lanes.
+-- What contracts see of a LaneQueue.
 use Rattle.std.specs.Prelude.{◌≡◌, ℕ}
 use Rattle.atomic_table.specs.Seated.{TableId}
 use Rattle.crossbeam_queue.specs.Passes.{Pass}

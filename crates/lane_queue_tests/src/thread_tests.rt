@@ -1,5 +1,6 @@
 //! Putters on threads of their own, and the taker on this one.
-ghost use Rattle.std.specs.Prelude.{All};
+ghost use Rattle.std.specs.Prelude.{◌+◌, ◌≤◌, All, length};
+ghost use Rattle.crossbeam_queue.specs.Passes.{view};
 ghost use Rattle.lane_queue.specs.Opened.{IsNewPutterOf};
 ghost use Rattle.lane_queue.specs.Queue.{IsPassOf};
 
@@ -11,13 +12,21 @@ use std::test::Fail;
 use std::thread;
 use std::thread::{Scope, Threads};
 
+// Puts a number behind at most so many items.
+fn put_next<R: Wait>(rt: &R, lanes: &LaneQueue<u64>, putter: &mut Putter<u64>, body: u32)
+    requires { IsPassOf lanes.now putter.old × (length (view putter.old).put ≤ body) }
+    ensures { IsPassOf lanes.now putter.new × (length (view putter.new).put ≤ body + 1) }
+{
+    let _ = putter.put(rt, lanes, u64::from(body));
+}
+
 // Puts the numbers below that one, and then it as the last.
 fn put_all<R: Wait>(rt: &R, lanes: &LaneQueue<u64>, putter: Putter<u64>, count: u32)
     requires { IsNewPutterOf lanes.now putter }
 {
     let mut putter = putter;
     for body in 0..count {
-        let _ = putter.put(rt, lanes, u64::from(body));
+        put_next(rt, lanes, &mut putter, body);
     }
     let _ = putter.finish(rt, lanes, u64::from(count));
 }
@@ -117,7 +126,7 @@ fn passes_all_in_order<R: AllocGlobal + Threads + Wait + Abort + Sync>(
 ) -> Result<(), Fail> {
     let counts = pass_all(rt, rt.alloc(), 16, Room::new(items)?, 10_000)?;
     let counts = counts.ok_or("all items in order")?;
-    assert_eq!(rt; counts.as_slice(), [10_001; 16].as_slice());
+    assert!(rt; counts.as_slice() == [10_001; 16].as_slice());
     Ok(())
 }
 

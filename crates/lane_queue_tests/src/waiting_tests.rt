@@ -9,9 +9,9 @@ use std::alloc::AllocError;
 use std::process::Abort;
 use std::sync::Wait;
 use std::test::Fail;
+use std::thread;
 use std::thread::Threads;
 use std::time::{Clock, CpuClock, Duration};
-use std::{io, thread};
 
 // What a wait of two seconds may cost its thread.
 const MILLIS: u64 = 20;
@@ -19,8 +19,12 @@ const MILLIS: u64 = 20;
 // What a call answered, and the processor time that its thread used meanwhile. None where there is no such clock.
 type Timed<A> = (A, Option<Duration>);
 
-fn busy(start: io::Result<Duration>, end: io::Result<Duration>) -> Option<Duration> {
-    Some(end.ok()?.saturating_sub(start.ok()?))
+fn worked<R: CpuClock>(rt: &R) -> Option<Duration> {
+    rt.thread_cpu_time().ok()
+}
+
+fn busy(start: Option<Duration>, end: Option<Duration>) -> Option<Duration> {
+    Some(end?.saturating_sub(start?))
 }
 
 fn take_timed<R: Wait + CpuClock>(
@@ -31,9 +35,9 @@ fn take_timed<R: Wait + CpuClock>(
     requires { IsPassOf lanes.now taker }
 {
     let mut taker = taker;
-    let start = rt.thread_cpu_time();
+    let start = worked(rt);
     let taken = taker.take(rt, lanes);
-    (taken, busy(start, rt.thread_cpu_time()))
+    (taken, busy(start, worked(rt)))
 }
 
 fn put_timed<R: Wait + CpuClock>(
@@ -45,9 +49,9 @@ fn put_timed<R: Wait + CpuClock>(
     requires { IsPassOf lanes.now putter × (length (view putter).put ≤ 1) }
 {
     let mut putter = putter;
-    let start = rt.thread_cpu_time();
+    let start = worked(rt);
     let put = putter.put(rt, lanes, body);
-    (put, busy(start, rt.thread_cpu_time()))
+    (put, busy(start, worked(rt)))
 }
 
 // The taker waits for an item that is put after that time.

@@ -1,4 +1,4 @@
-//! Uploads, logs and sites for the cases.
+//! Uploads, logs and pages for the cases.
 ghost use Rattle.std.specs.Prelude.{IfSome};
 ghost use Rattle.std.specs.List.{AllByRecursion};
 ghost use Rattle.upload_reader.specs.Upload.{IsUntouched};
@@ -6,8 +6,6 @@ ghost use Rattle.upload_reader.specs.Upload.{IsUntouched};
 use byte_streams::{Fed, Lines};
 use client_log::{ClientLog, Quota};
 use page_tree::{Page, Text};
-use serde_json::Value;
-use site_line::Site;
 use std::alloc::{AllocError, Global};
 use stream_fakes::Drip;
 use upload_lanes::{Gathered, gather_in_order};
@@ -15,15 +13,9 @@ use upload_reader::{Message, Next, Upload};
 
 pub(crate) type Reader = Fed<Drip>;
 
-const PAGE: &str =
-    r#"{"n":"html","c":[{"n":"body","c":[{"n":"a","a":{"href":"/b"},"c":["go"]},{"n":"input","a":{"value":"x"}}]}]}"#;
-
-// A page whose link leads elsewhere, and one that is watched.
-const SITE: &str =
-    r#"{"patched":["/a","/b"],"watch":["/html/body/a"],"pages":{"/a":{"n":"html","c":[{"n":"body","c":[{"n":"a","a":{"href":"/c"},"c":["go"]}]}]},"/b":{"n":"html","c":[{"n":"body","c":[{"n":"a","a":{"href":"/b"},"c":["go"]},{"n":"a","c":["no"]}]}]}},"decide":[["c1",2,"keep"],["c1",2,"cancel"],["c9",1,"keep"]]}"#;
-
+// The first page has a link and an input.
 const LINES: &str =
-    r#"{"t":"load","visit":1,"at":1,"path":"/a","page":{"n":"html","c":[{"n":"body","c":[{"n":"a","a":{"href":"/b"},"c":["go"]}]}]}}
+    r#"{"t":"load","visit":1,"at":1,"path":"/a","page":{"n":"html","c":[{"n":"body","c":[{"n":"a","a":{"href":"/b"},"c":["go"]},{"n":"input","a":{"value":"x"}}]}]}}
 {"t":"click","visit":1,"at":2,"target":"/html/body/a","req":1}
 {"t":"load","visit":2,"at":3,"parent":1,"from":1,"path":"/b","page":{"n":"html","c":[{"n":"body","c":[{"n":"a","a":{"href":"/b"},"c":["go"]}]}]}}
 {"t":"end","visit":1,"at":4}
@@ -36,13 +28,13 @@ pub(crate) const MESSAGES: u64 = 4;
 /// How often each of two lanes is taken from: for each message, and for the end.
 pub(crate) const TURNS: &[u32] = &[0, 0, 0, 0, 0, 1, 1, 1, 1, 1];
 
-pub(crate) fn site(alloc: Global) -> Option<Site> {
-    Site::read(alloc, SITE.as_bytes()).ok()
-}
-
+/// The page of the first load.
 pub(crate) fn page(alloc: Global) -> Option<Page> {
-    let value = Value::from_str(alloc, PAGE).ok()?;
-    Page::from_value(alloc, &value).ok()
+    let mut upload = upload(alloc, "c1")?;
+    match upload.next() {
+        Next::Got(Message::Load { page, .. }, _) => Some(page),
+        _ => None,
+    }
 }
 
 pub(crate) fn text(alloc: Global, text: &str) -> Option<Text> {
@@ -110,11 +102,16 @@ pub(crate) fn messages(alloc: Global) -> Option<Vec<Message>> {
     Some(messages)
 }
 
-/// How many visits a log has, how many events their first, and whether that has ended.
-pub(crate) fn kept_of(log: &ClientLog) -> (usize, usize, bool) {
+/// How many visits a log has, how many events their first, whether that has ended, and what all cost.
+pub(crate) type Kept = (usize, usize, bool, u64);
+
+pub(crate) fn kept_of(log: &ClientLog) -> Kept {
     let visits = log.visits();
     match visits.first() {
-        Some(first) => (visits.len(), first.events.as_slice().len(), first.ended),
-        None => (0, 0, false),
+        Some(first) => {
+            let events = first.events.as_slice().len();
+            (visits.len(), events, first.ended, log.cost())
+        }
+        None => (0, 0, false, log.cost()),
     }
 }

@@ -1,21 +1,16 @@
-//! What is recorded in a log and in a site's table, decided, and done by the queue's machine: all is unchanged where memory is refused.
+//! What is recorded in a log and in a site's table, and done by the queue's machine: all is unchanged where memory is refused.
 ghost use Rattle.std.specs.Prelude.{IsTrue};
 ghost use Rattle.client_log.specs.Log.{IsPriced};
 
-use crate::fixtures::{gathered, kept_of, messages, page, quota, site, text};
+use crate::fixtures::{kept_of, messages, page, quota, text};
 use crate::marks::{WHOLE, answer, begin, end};
-use byte_streams::Told;
 use client_log::{ClientLog, Recorded};
 use lane_queue::queue_core::{Did, QueueStep, State};
 use lane_queue::{QueueFault, Room};
 use page_tree::NoMemory;
 use site_hooks::{SiteHooks, Table};
-use site_line::Site;
 use std::alloc::Global;
-use std::thread::Threads;
-use stream_fakes::Sips;
 use upload_reader::{Client, Message};
-use warp_server::{Repaired, repair, report, settle};
 use xpath_child::Path;
 
 /// The messages of an upload, one after another. One that is refused leaves the log as it was, also its session, and is recorded when it comes again.
@@ -31,16 +26,16 @@ pub(crate) fn record<T: AllocGlobal + Eprint>(rt: &T) -> Option<&'static str> {
     } else {
         WHOLE
     };
-    answer(kept_of(&log) == (2, 1, true) && log.cost() == 90, text)
+    answer(kept_of(&log) == (2, 1, true, 90), text)
 }
 
 // Whether one was refused. None where that changed the log.
 fn record_all(log: &mut ClientLog, first: Vec<Message>, second: Vec<Message>) -> Option<bool> {
     let mut refused = false;
     for (message, again) in first.into_iter().zip(second) {
-        let before = (kept_of(log), log.cost());
+        let before = kept_of(log);
         if record_one(log, message).is_err() {
-            if (kept_of(log), log.cost()) != before || !may_follow(log, &again) {
+            if kept_of(log) != before || !may_follow(log, &again) {
                 return None;
             }
             let _ = record_one(log, again).ok()?;
@@ -94,40 +89,6 @@ pub(crate) fn table<T: AllocGlobal + Eprint>(rt: &T) -> Option<&'static str> {
         (false, true) => answer(!has, "no memory at the page, which isn't there"),
         _ => None,
     }
-}
-
-/// Decisions behind one that was put before.
-pub(crate) fn settle_again<T: AllocGlobal + Threads + Eprint + Sync>(
-    rt: &T,
-) -> Option<&'static str> {
-    let site = site(rt.alloc())?;
-    let gathered = gathered(rt.alloc())?;
-    let mut repaired = repair(rt, 1, site.table(), site.patch(), &gathered).ok()?;
-    settle(rt.alloc(), &mut repaired, site.decisions().get(..1)?).ok()?;
-    settle_all(rt, &mut repaired, &site)
-}
-
-fn settle_all<T: AllocGlobal + Eprint>(
-    rt: &T,
-    repaired: &mut Repaired,
-    site: &Site,
-) -> Option<&'static str> {
-    let before = reported(rt.alloc(), repaired)?;
-    begin(rt);
-    let settled = settle(rt.alloc(), repaired, site.decisions()).is_ok();
-    end(rt);
-    let same = reported(rt.alloc(), repaired)?.as_slice() == before.as_slice();
-    if settled {
-        answer(!same && repaired.decided.as_slice().len() == 4, WHOLE)
-    } else {
-        answer(same, "no memory, and all unchanged")
-    }
-}
-
-fn reported(alloc: Global, repaired: &Repaired) -> Option<Vec<u8>> {
-    let mut sips = Sips::new(alloc, 4096, None);
-    report(alloc, repaired, &mut Told::new(&mut sips)).ok()?;
-    Some(sips.taken)
 }
 
 /// The machine makes the steps before the refused one.

@@ -2,8 +2,8 @@
 //! behind it: `whole`, or what was promised, or `WRONG`. Without a word each case is called, with ample memory.
 #![tactic(auto)]
 
+mod desks;
 mod fixtures;
-mod hooks;
 mod logs;
 mod marks;
 mod pages;
@@ -18,8 +18,7 @@ use std::sync::Wait;
 use std::thread::Threads;
 use std::{env, fs};
 
-const CASES: &str =
-    "tree ask moved hello next accept record table machine in-turn again hooks-1 hooks-3 settle
+const CASES: &str = "tree ask moved hello next accept record table machine in-turn again settle
 quiet-pages quiet-sites quiet-bytes quiet-uploads quiet-logs quiet-desks quiet-lanes quiet-claims";
 
 fn main(rt: HostRuntime) -> ExitCode {
@@ -65,10 +64,6 @@ fn call<T: AllocGlobal + Threads + Wait + Files + Eprint + Sync>(
     match name {
         "in-turn" => rounds::in_turn(rt),
         "again" => rounds::again(rt),
-        "hooks-1" => hooks::want_memory(rt, 1),
-        "hooks-3" => hooks::want_memory(rt, 3),
-        "settle" => logs::settle_again(rt),
-        "quiet-desks" => quiet::desks(rt),
         "quiet-lanes" => quiet_lanes::lanes(rt),
         "quiet-claims" => quiet_lanes::claims(rt),
         _ => call_values(rt, name),
@@ -86,11 +81,13 @@ fn call_values<T: AllocGlobal + Files + Eprint>(rt: &T, name: &str) -> Option<&'
         "record" => logs::record(rt),
         "table" => logs::table(rt),
         "machine" => logs::machine(rt),
+        "settle" => desks::settle_again(rt),
         "quiet-pages" => quiet::pages(rt),
         "quiet-sites" => quiet::sites(rt),
         "quiet-bytes" => quiet::bytes(rt),
         "quiet-uploads" => quiet::quiet_uploads(rt),
         "quiet-logs" => quiet::logs(rt),
+        "quiet-desks" => desks::quiet_desk(rt),
         file => hold(rt, file),
     }
 }

@@ -1,9 +1,9 @@
 //! What a page and a replayed visit are asked, where the server asks other calls.
-use crate::fixtures::{log, page, site, text};
+use crate::fixtures::{log, page, text};
 use crate::marks::{WHOLE, answer, begin, end};
 use page_tree::{Attributes, Page, PageFault, Place, Tree};
 use std::alloc::Global;
-use visit_replay::{moved, replay};
+use visit_replay::{Method, Outcome, Request, Requests, moved};
 use xpath_child::Path;
 
 const LINK: &str = "/html/body/a";
@@ -58,31 +58,56 @@ pub(crate) fn ask<T: AllocGlobal + Eprint>(rt: &T) -> Option<&'static str> {
 
 fn ask_all(alloc: Global, page: &Page, link: &Path) -> Option<bool> {
     let body = Place::root(alloc).child(0).ok()?;
+    Some(ask_under(page, &body)? && ask_field(page, &body)? && ask_link(page, link)?)
+}
+
+fn ask_under(page: &Page, body: &Place) -> Option<bool> {
+    let words = page.text_under(body).ok()?;
+    Some(words.as_str() == "go" && page.places_under(body).ok()?.len() == 3)
+}
+
+fn ask_field(page: &Page, body: &Place) -> Option<bool> {
     let field = body.child(1).ok()?;
-    let words = page.text_under(&body).ok()?;
-    let under = page.places_under(&body).ok()?;
-    let start = page.start_text(&field).ok()?;
-    Some(words.as_str() == "go" && under.len() == 3 && start.is_some() && ask_link(page, link)?)
+    Some(page.start_text(&field).ok()?.is_some())
 }
 
 fn ask_link(page: &Page, link: &Path) -> Option<bool> {
     let target = link.select(page).ok()?;
-    let written = link.write().ok()?;
-    let numbered = page.place_of(2).ok()?;
-    Some(target.only().is_some() && written.as_str() == LINK && numbered.is_some())
+    Some(target.only().is_some() && is_written(link)? && page.place_of(2).ok()?.is_some())
+}
+
+fn is_written(link: &Path) -> Option<bool> {
+    Some(link.write().ok()?.as_str() == LINK)
 }
 
 /// Whether a visit leads its child elsewhere.
 pub(crate) fn leads_elsewhere<T: AllocGlobal + Eprint>(rt: &T) -> Option<&'static str> {
-    let alloc = rt.alloc();
-    let (site, log) = (site(alloc)?, log(alloc)?);
+    let log = log(rt.alloc())?;
     let visit = log.visits().first()?;
-    let outcome = replay(alloc, site.table(), site.patch(), visit).ok()?;
+    let outcome = outcome(rt.alloc())?;
     begin(rt);
-    let told = moved(alloc, visit, &outcome, 1);
+    let told = moved(rt.alloc(), visit, &outcome, 1);
     end(rt);
     match told {
         Ok(elsewhere) => answer(elsewhere, WHOLE),
         Err(_) => Some("no memory"),
     }
+}
+
+// The visit's request went to `/b`.
+fn outcome(alloc: Global) -> Option<Outcome> {
+    let request = request(alloc)?;
+    let mut requests = Requests::new(alloc);
+    requests.push(request).ok()?;
+    Some(Outcome::Done { requests })
+}
+
+fn request(alloc: Global) -> Option<Request> {
+    let (address, pairs) = (text(alloc, "/c")?, text(alloc, "")?);
+    Some(Request {
+        number: 1,
+        method: Method::Get,
+        address,
+        pairs,
+    })
 }

@@ -2,19 +2,16 @@
 ghost use Rattle.site_hooks.specs.Closures.{AtAddresses, AtPages, MakesBy, TellsBy};
 ghost use Rattle.site_hooks.specs.Table.{table_page, signals_in};
 
-use crate::fixtures::{Reader, gathered, lines, log, page, site, text, upload};
+use crate::fixtures::{Reader, lines, log, page, text, upload};
 use crate::marks::{WHOLE, answer, begin, end};
 use byte_streams::{Fed, Sink, Source, Told};
 use client_log::{ClientLog, Quota};
-use conflict_desk::{Choice, Desk, Standing};
 use page_tree::{Page, Place};
 use site_hooks::{Closures, ConflictTeller, Fork, PageMaker, SiteHooks, Table};
 use std::alloc::Global;
-use std::thread::Threads;
 use stream_fakes::Sips;
 use upload_reader::{Client, Session, Upload};
 use visit_replay::{Patch, affected};
-use warp_server::repair;
 use xpath_child::{Found, Path};
 
 pub(crate) fn pages<T: AllocGlobal + Eprint>(rt: &T) -> Option<&'static str> {
@@ -48,8 +45,7 @@ fn is_link_of_number(page: &Page, number: u32) -> bool {
 
 pub(crate) fn sites<T: AllocGlobal + Eprint>(rt: &T) -> Option<&'static str> {
     let alloc = rt.alloc();
-    let (site, prefix) = (site(alloc)?, text(alloc, "/a")?);
-    let table = site.table();
+    let (table, prefix) = (&Table::new(alloc), text(alloc, "/a")?);
     begin(rt);
     let _fork = Fork::new(prefix, Table::new(alloc), Table::new(alloc));
     let make = |address: &str| table.make(address);
@@ -128,28 +124,4 @@ fn is_empty(alloc: Global, client: Client) -> bool {
     };
     let log = ClientLog::new(alloc, client, quota);
     log.visits().is_empty() && log.cost() == 0 && log.lost() == 0
-}
-
-/// The conflict of visit 2 is the front.
-pub(crate) fn desks<T: AllocGlobal + Threads + Eprint + Sync>(rt: &T) -> Option<&'static str> {
-    let (site, gathered) = (site(rt.alloc())?, gathered(rt.alloc())?);
-    let client = Client::read(rt.alloc(), "c1").ok()?;
-    let mut repaired = repair(rt, 1, site.table(), site.patch(), &gathered).ok()?;
-    begin(rt);
-    let right = is_decided(&mut repaired.desk, &client) && is_told(&repaired.desk, &client);
-    end(rt);
-    answer(right, WHOLE)
-}
-
-fn is_decided(desk: &mut Desk, client: &Client) -> bool {
-    desk.front(client) == Ok(Some(2))
-        && desk.decide(client, 1, Choice::Keep).is_err()
-        && desk.decide(client, 2, Choice::Cancel).is_ok()
-}
-
-fn is_told(desk: &Desk, client: &Client) -> bool {
-    desk.standing(client, 2) == Some(Standing::Cancelled)
-        && desk.outcome(client, 2).is_some()
-        && desk.requests(client, 2).is_some()
-        && desk.cases(client).is_some()
 }

@@ -1,13 +1,10 @@
 //! Rounds of uploads, in turn and behind an earlier one.
-use crate::fixtures::{MESSAGES, Reader, TURNS, gathered, kept_of, quota, uploads};
+use crate::fixtures::{Kept, MESSAGES, Reader, TURNS, gathered, kept_of, quota, uploads};
 use crate::marks::{WHOLE, answer, begin, end};
 use lane_queue::Room;
-use std::alloc::{AllocError, Global};
 use std::sync::Wait;
 use std::thread::Threads;
-use upload_lanes::{
-    GatherFault, Gathered, LaneResult, RefusedRound, Stop, gather_again, gather_in_order,
-};
+use upload_lanes::{GatherFault, Gathered, LaneResult, Stop, gather_again, gather_in_order};
 use upload_reader::{Ending, LaneEnd};
 
 pub(crate) fn in_turn<T: AllocGlobal + Eprint>(rt: &T) -> Option<&'static str> {
@@ -28,7 +25,6 @@ pub(crate) fn again<T: AllocGlobal + Threads + Wait + Eprint + Sync>(
 ) -> Option<&'static str> {
     let (quota, room) = (quota()?, Room::new(2).ok()?);
     let earlier = gathered(rt.alloc())?;
-    let before = told(rt.alloc(), &earlier).ok()?;
     let uploads = uploads(rt.alloc(), &["c3", "c4"])?;
     let halt = |_items: u64| -> bool { false };
     begin(rt);
@@ -36,13 +32,10 @@ pub(crate) fn again<T: AllocGlobal + Threads + Wait + Eprint + Sync>(
     end(rt);
     match gathered {
         Ok(gathered) => judge(&gathered, 2, 1),
-        Err(RefusedRound { fault, earlier }) => {
-            let same = told(rt.alloc(), &earlier).ok()?.as_str() == before.as_str();
-            answer(
-                fault == GatherFault::NoMemory && same,
-                "G3, and the earlier round unchanged",
-            )
-        }
+        Err(refused) => answer(
+            refused.fault == GatherFault::NoMemory && is_whole(&refused.earlier),
+            "G3, and the earlier round unchanged",
+        ),
     }
 }
 
@@ -83,12 +76,12 @@ fn count_short(gathered: &Gathered<Reader>, resting: usize, end: Option<Ending>)
 }
 
 // What a log keeps behind each message.
-const KEPT: &[(usize, usize, bool)] = &[
-    (0, 0, false),
-    (1, 0, false),
-    (1, 1, false),
-    (2, 1, false),
-    (2, 1, true),
+const KEPT: &[Kept] = &[
+    (0, 0, false, 0),
+    (1, 0, false, 157),
+    (1, 1, false, 219),
+    (2, 1, false, 364),
+    (2, 1, true, 364),
 ];
 
 fn is_log_of(lane: &LaneResult<Reader>) -> bool {
@@ -98,18 +91,18 @@ fn is_log_of(lane: &LaneResult<Reader>) -> bool {
     }
 }
 
-// What is said of the clients, and what their logs have.
-fn told(alloc: Global, gathered: &Gathered<Reader>) -> Result<String, AllocError> {
-    let mut text = String::new(alloc);
-    for (client, lane) in gathered.clients.iter() {
-        let (name, taken, end, cost) = (client.text(), lane.taken, lane.end, lane.log.cost());
-        let (visits, events, ended) = kept_of(&lane.log);
-        write!(
-            text,
-            "{name} {taken} {end:?} {cost} {visits} {events} {ended}; "
-        )?;
+// Whether both clients have all that an earlier round took.
+fn is_whole(gathered: &Gathered<Reader>) -> bool {
+    gathered.stop == Stop::None
+        && gathered.clients.len() == 2
+        && is_client(gathered, 0, "c1")
+        && is_client(gathered, 1, "c2")
+        && count_short(gathered, 0, None) == Some(0)
+}
+
+fn is_client(gathered: &Gathered<Reader>, place: usize, name: &str) -> bool {
+    match gathered.clients.get_index(place) {
+        Some((client, _)) => client.text() == name,
+        None => false,
     }
-    let stop = gathered.stop;
-    write!(text, "{stop:?}")?;
-    Ok(text)
 }

@@ -10,49 +10,28 @@ use std::test::Fail;
 use std::thread;
 use std::thread::Threads;
 
-#[test]
-fn has_codes(rt: HostRuntime) -> Result<(), Fail> {
-    assert_eq!(rt; PoolFault::BadWorkers.to_string(rt.alloc())?.as_str(), "F1");
-    assert_eq!(rt; PoolFault::NoMemory.to_string(rt.alloc())?.as_str(), "F2");
-    Ok(())
+// How many seats there are.
+fn seats(alloc: Global, count: u32, workers: u32) -> Result<usize, PoolFault> {
+    let (_claims, seats) = Claims::open(alloc, count, workers)?;
+    Ok(seats.len())
 }
 
-// how many seats, if so many workers may be
-const WORKERS: &[(u32, Option<usize>)] = &[
-    (0, None),
-    (1, Some(1)),
-    (2, Some(2)),
-    (32, Some(32)),
-    (33, None),
-    (u32::MAX, None),
-];
-
-fn has_seats(
-    rt: &impl Abort,
-    alloc: Global,
-    count: u32,
-    workers: u32,
-    want: Option<usize>,
-) -> Result<(), Fail> {
-    match Claims::open(alloc, count, workers) {
-        Ok((_claims, seats)) => assert_eq!(rt; Some(seats.len()), want),
-        Err(fault) => {
-            assert_eq!(rt; fault, PoolFault::BadWorkers);
-            assert!(rt; want.is_none());
-        }
+// There are so many, whatever the count.
+fn has_seats(rt: &impl Abort, alloc: Global, workers: u32, want: Result<usize, PoolFault>) {
+    for count in [0, 7, u32::MAX] {
+        assert!(rt; seats(alloc, count, workers) == want);
     }
-    Ok(())
 }
 
 // F1.
 #[test]
-fn workers_have_limits(rt: HostRuntime) -> Result<(), Fail> {
-    for &(workers, want) in WORKERS {
-        has_seats(&rt, rt.alloc(), 0, workers, want)?;
-        has_seats(&rt, rt.alloc(), 7, workers, want)?;
-        has_seats(&rt, rt.alloc(), u32::MAX, workers, want)?;
+fn workers_have_limits(rt: HostRuntime) {
+    for workers in [0, 33, u32::MAX] {
+        has_seats(&rt, rt.alloc(), workers, Err(PoolFault::BadWorkers));
     }
-    Ok(())
+    for workers in [1, 2, 32] {
+        has_seats(&rt, rt.alloc(), workers, Ok(workers as usize));
+    }
 }
 
 // Whether the seat draws these numbers.
@@ -193,15 +172,26 @@ fn run_all<R: Threads + Sync>(
     Ok(close_all(claims, all, room, counts))
 }
 
+fn are_one(counts: &[u64]) -> bool {
+    for times in counts {
+        if *times != 1 {
+            return false;
+        }
+    }
+    true
+}
+
+// Whether so many workers draw each of 100,000 numbers once, and each one that is no more.
+fn draw_each_once<R: Threads + Sync>(rt: &R, alloc: Global, workers: u32) -> Result<bool, Fail> {
+    let mut counts = Vec::from_elem(alloc, 0, 100_000)?;
+    let drawn = run_all(rt, alloc, 100_000, workers, counts.as_mut_slice())?;
+    Ok(drawn == 100_000 + u64::from(workers) && are_one(counts.as_slice()))
+}
+
 #[test]
 fn threads_draw_each_number_once(rt: HostRuntime) -> Result<(), Fail> {
     for workers in [1, 2, 7, 32] {
-        let mut counts = Vec::from_elem(rt.alloc(), 0, 100_000)?;
-        let word = run_all(&rt, rt.alloc(), 100_000, workers, counts.as_mut_slice())?;
-        assert_eq!(rt; word, 100_000 + u64::from(workers));
-        for times in &counts {
-            assert_eq!(rt; *times, 1);
-        }
+        assert!(rt; draw_each_once(&rt, rt.alloc(), workers)?);
     }
     Ok(())
 }

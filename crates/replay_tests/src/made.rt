@@ -69,7 +69,7 @@ pub(crate) fn loaded(
     Ok(Visit::loaded(alloc, number, parent, from, address, page, 1))
 }
 
-fn click(alloc: Global, visit: &mut Visit, (target, req): Clicked) -> Result<(), Fail> {
+pub(crate) fn click(alloc: Global, visit: &mut Visit, (target, req): Clicked) -> Result<(), Fail> {
     let target = Path::read(alloc, target)?;
     Ok(visit.events.push(Event::Click { at: 7, target, req })?)
 }

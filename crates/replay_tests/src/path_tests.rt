@@ -1,5 +1,5 @@
 use crate::made::page;
-use page_tree::Place;
+use page_tree::{Page, Place};
 use std::alloc::Global;
 use std::process::Abort;
 use std::test::Fail;
@@ -48,24 +48,17 @@ const FAULTS: &[(&str, &str, usize)] = &[
     ),
 ];
 
-fn is_faulty(
-    rt: &impl Abort,
-    alloc: Global,
-    text: &str,
-    code: &str,
-    at: usize,
-) -> Result<(), Fail> {
+// Whether this is the fault of the text.
+fn is_faulty(alloc: Global, text: &str, code: &str, at: usize) -> Result<bool, Fail> {
     let fault = Path::read(alloc, text).err().ok_or("a fault")?;
-    assert_eq!(rt; fault.at, at, "at of {text}");
-    assert_eq!(rt; fault.to_string(alloc)?.as_str(), code, "code of {text}");
-    Ok(())
+    Ok(fault.at == at && fault.to_string(alloc)?.as_str() == code)
 }
 
 // X1 to X5.
 #[test]
 fn a_fault_has_its_byte(rt: HostRuntime) -> Result<(), Fail> {
     for &(text, code, at) in FAULTS {
-        is_faulty(&rt, rt.alloc(), text, code, at)?;
+        assert!(rt; is_faulty(rt.alloc(), text, code, at)?, "{text}");
     }
     Ok(())
 }
@@ -87,17 +80,16 @@ const PATHS: &[&str] = &[
     "/a/a/a/a/a/a/a/a/a/a/a/a/a/a/a/a/a/a/a/a/a/a/a/a/a/a/a/a/a/a/a/a/a/a/a/a/a/a/a/a/a/a/a/a/a/a/a/a",
 ];
 
-fn is_written(rt: &impl Abort, alloc: Global, text: &str) -> Result<(), Fail> {
+// Whether its path has that text, and a copy of the path too.
+fn is_written(alloc: Global, text: &str) -> Result<bool, Fail> {
     let path = Path::read(alloc, text)?;
-    assert_eq!(rt; path.write()?.as_str(), text);
-    assert_eq!(rt; path.copy()?.write()?.as_str(), text);
-    Ok(())
+    Ok(path.write()?.as_str() == text && path.copy()?.write()?.as_str() == text)
 }
 
 #[test]
 fn writes_the_text_that_was_read(rt: HostRuntime) -> Result<(), Fail> {
-    for &text in PATHS {
-        is_written(&rt, rt.alloc(), text)?;
+    for text in PATHS {
+        assert!(rt; is_written(rt.alloc(), text)?, "{text}");
     }
     Ok(())
 }
@@ -105,40 +97,57 @@ fn writes_the_text_that_was_read(rt: HostRuntime) -> Result<(), Fail> {
 const TWO_LINKS: &str =
     r#"{"n":"html","c":[{"n":"body","c":[{"n":"div","c":[{"n":"a","c":["x"]}]},{"n":"p"},{"n":"div","c":[{"n":"a","c":["y"]}]}]}]}"#;
 
-// a path, the number of what it selects, and its place
-const SELECTED: &[(&str, Found, Option<&[u32]>)] = &[
-    ("/html/body/div[2]/a", Found::One(7), Some(&[0, 2, 0])),
-    ("/html/body/*[2]", Found::One(5), Some(&[0, 1])),
-    ("/html/body/div/a", Found::Several, None),
-    ("/html/body/div[3]", Found::Missing, None),
-    ("/html[1]", Found::One(0), Some(&[])),
-    ("/html[2]", Found::Missing, None),
-    ("/html/body/p", Found::One(5), Some(&[0, 1])),
-    ("/html/body/p[1]", Found::One(5), Some(&[0, 1])),
-    ("/html/body/p/*", Found::Missing, None),
-    ("/body", Found::Missing, None),
-];
-
+// The number of what a path selects, and its place.
 fn selects(
     rt: &impl Abort,
     alloc: Global,
+    page: &Page,
     text: &str,
     number: Found,
     place: Option<&[u32]>,
 ) -> Result<(), Fail> {
-    let page = page(alloc, TWO_LINKS)?;
     let path = Path::read(alloc, text)?;
-    assert_eq!(rt; path.find(&page), number);
-    let target = path.select(&page)?;
-    assert!(rt; matches!(&target, Target::Several) == matches!(number, Found::Several));
-    assert_eq!(rt; target.only().map(Place::as_slice), place);
+    let target = path.select(page)?;
+    let is_several = matches!(&target, Target::Several);
+    assert!(rt; path.find(page) == number);
+    assert!(rt; is_several == (number == Found::Several));
+    assert!(rt; target.only().map(Place::as_slice) == place);
     Ok(())
 }
 
 #[test]
 fn selects_by_number_and_by_place(rt: HostRuntime) -> Result<(), Fail> {
-    for &(text, number, place) in SELECTED {
-        selects(&rt, rt.alloc(), text, number, place)?;
-    }
-    Ok(())
+    let (alloc, page) = (rt.alloc(), page(rt.alloc(), TWO_LINKS)?);
+    let (second_link, paragraph) = (Found::One(7), Found::One(5));
+    selects(
+        &rt,
+        alloc,
+        &page,
+        "/html/body/div[2]/a",
+        second_link,
+        Some(&[0, 2, 0]),
+    )?;
+    selects(
+        &rt,
+        alloc,
+        &page,
+        "/html/body/*[2]",
+        paragraph,
+        Some(&[0, 1]),
+    )?;
+    selects(&rt, alloc, &page, "/html/body/div/a", Found::Several, None)?;
+    selects(&rt, alloc, &page, "/html/body/div[3]", Found::Missing, None)?;
+    selects(&rt, alloc, &page, "/html[1]", Found::One(0), Some(&[]))?;
+    selects(&rt, alloc, &page, "/html[2]", Found::Missing, None)?;
+    selects(&rt, alloc, &page, "/html/body/p", paragraph, Some(&[0, 1]))?;
+    selects(
+        &rt,
+        alloc,
+        &page,
+        "/html/body/p[1]",
+        paragraph,
+        Some(&[0, 1]),
+    )?;
+    selects(&rt, alloc, &page, "/html/body/p/*", Found::Missing, None)?;
+    selects(&rt, alloc, &page, "/body", Found::Missing, None)
 }

@@ -21,37 +21,31 @@ fn watching(alloc: Global, addresses: &[&str], of: &str) -> Result<Table, Fail> 
     Ok(table)
 }
 
-// How many nodes the page at an address has, if any.
-fn count_at<H: SiteHooks>(site: &H, address: &str) -> Result<Option<u32>, Fail> {
-    Ok(site.make(address)?.map(|page| page.node_count()))
+// How many nodes the page has, if any.
+fn count(page: Option<Page>) -> Option<u32> {
+    Some(page?.node_count())
 }
 
-fn signals_at<H: SiteHooks>(alloc: Global, site: &H, address: &str) -> Result<bool, Fail> {
+// How many nodes the page at an address has, and whether the site signals where a paragraph changed.
+fn at<H: SiteHooks>(alloc: Global, site: &H, address: &str) -> Result<(Option<u32>, bool), Fail> {
     let (old, new) = (page(alloc, WITH_X)?, page(alloc, WITH_Y)?);
-    Ok(site.signals(address, &old, &new)?)
+    Ok((
+        count(site.make(address)?),
+        site.signals(address, &old, &new)?,
+    ))
 }
 
 #[test]
 fn table_has_pages_and_watches_paths(rt: HostRuntime) -> Result<(), Fail> {
     let alloc = rt.alloc();
     let mut table = watching(alloc, &["/p"], WITH_X)?;
-    assert_eq!(rt; count_at(&table, "/p")?, Some(3));
-    assert_eq!(rt; count_at(&table, "/q")?, None);
+    assert!(rt; at(alloc, &table, "/p")? == (Some(3), true));
+    assert!(rt; at(alloc, &table, "/q")? == (None, true));
     // A later page of the same address replaces, and a reference to a site is one.
     table.add_page(text(alloc, "/p")?, page(alloc, NEW)?)?;
-    assert_eq!(rt; count_at(&&table, "/p")?, Some(4));
-    assert!(rt; signals_at(alloc, &&table, "/p")?);
+    assert!(rt; at(alloc, &&table, "/p")? == (Some(4), true));
     Ok(())
 }
-
-// an address, and whether it begins with `/a`
-const PARTED: &[(&str, bool)] = &[
-    ("/a", true),
-    ("/ab", true),
-    ("/b", false),
-    ("", false),
-    ("/", false),
-];
 
 // Two sites with pages at all these addresses: that of the prefix has three nodes, and watches a path.
 fn forked(alloc: Global) -> Result<Fork<Table, Table>, Fail> {
@@ -63,16 +57,12 @@ fn forked(alloc: Global) -> Result<Fork<Table, Table>, Fail> {
 
 #[test]
 fn fork_parts_addresses_by_their_prefix(rt: HostRuntime) -> Result<(), Fail> {
-    let alloc = rt.alloc();
-    let site = forked(alloc)?;
-    for &(address, within) in PARTED {
-        let count = if within { 3 } else { 4 };
-        assert_eq!(rt; count_at(&site, address)?, Some(count), "at {address}");
-        assert_eq!(rt;
-            signals_at(alloc, &site, address)?,
-            within,
-            "signals at {address}"
-        );
+    let site = forked(rt.alloc())?;
+    for address in ["/a", "/ab"] {
+        assert!(rt; at(rt.alloc(), &site, address)? == (Some(3), true));
+    }
+    for address in ["/b", "", "/"] {
+        assert!(rt; at(rt.alloc(), &site, address)? == (Some(4), false));
     }
     Ok(())
 }
@@ -106,14 +96,14 @@ fn asked_of(alloc: Global, table: &Table, address: &str) -> Result<(Option<u32>,
         &old,
         &new,
     );
-    Ok((made?.map(|page| page.node_count()), told?))
+    Ok((count(made?), told?))
 }
 
 #[test]
 fn closures_answer_by_their_law(rt: HostRuntime) -> Result<(), Fail> {
     let table = watching(rt.alloc(), &["/p"], WITH_X)?;
-    assert_eq!(rt; asked_of(rt.alloc(), &table, "/p")?, (Some(3), true));
-    assert_eq!(rt; asked_of(rt.alloc(), &table, "/q")?, (None, true));
+    assert!(rt; asked_of(rt.alloc(), &table, "/p")? == (Some(3), true));
+    assert!(rt; asked_of(rt.alloc(), &table, "/q")? == (None, true));
     Ok(())
 }
 
@@ -138,8 +128,7 @@ fn closures_of_no_site(rt: HostRuntime) -> Result<(), Fail> {
         &page,
         &page,
     );
-    assert!(rt; made?.is_none());
-    assert!(rt; !told?);
+    assert!(rt; made?.is_none() && !told?);
     Ok(())
 }
 
@@ -154,7 +143,6 @@ fn want_of_memory_is_passed_on(rt: HostRuntime) -> Result<(), Fail> {
         &page,
         &page,
     );
-    assert!(rt; made.is_err());
-    assert!(rt; told.is_err());
+    assert!(rt; made.is_err() && told.is_err());
     Ok(())
 }

@@ -1,9 +1,10 @@
 ghost use Rattle.std.specs.Prelude.{Some, None, true};
 
 use crate::made::{
-    Clicked, FIRST, MISSING, NEW, OLD, PARAGRAPH, SECOND, Was, loaded, page, patch, site, text,
-    told, told_all, visit, visit_on, visits,
+    Clicked, FIRST, MISSING, NEW, OLD, PARAGRAPH, SECOND, Was, click, loaded, page, patch, site,
+    text, told, told_all, visit, visit_on, visits,
 };
+use client_log::Visit;
 use page_tree::{NoMemory, Page};
 use site_hooks::{SiteHooks, SiteLaw};
 use std::alloc::{AllocError, Global};
@@ -19,65 +20,51 @@ const FORM: &str =
     r#"{"n":"html","c":[{"n":"a","a":{"href":"/b"}},{"n":"form","a":{"action":"/s"},"c":[{"n":"input","a":{"name":"q"}}]}]}"#;
 
 // What was typed, clicked and sent on that form, with numbers that no upload has.
-fn typed(alloc: Global) -> Result<[Event; 3], Fail> {
-    let (field, link, form) = (
-        Path::read(alloc, "/html/form/input")?,
-        Path::read(alloc, "/html/a")?,
-        Path::read(alloc, "/html/form")?,
-    );
-    let value = text(alloc, "a b")?;
-    Ok([
-        Event::Input {
-            at: 7,
-            target: field,
-            value,
-        },
-        Event::Click {
-            at: 7,
-            target: link,
-            req: u64::MAX,
-        },
-        Event::Submit {
-            at: 7,
-            target: form,
-            by: None,
-            req: 1,
-        },
-    ])
+fn typed(alloc: Global) -> Result<Visit, Fail> {
+    let mut visit = loaded(alloc, (3, 2, 1), "/f", FORM)?;
+    let (target, value) = (Path::read(alloc, "/html/form/input")?, text(alloc, "a b")?);
+    visit.events.push(Event::Input {
+        at: 7,
+        target,
+        value,
+    })?;
+    click(alloc, &mut visit, ("/html/a", u64::MAX))?;
+    let target = Path::read(alloc, "/html/form")?;
+    visit.events.push(Event::Submit {
+        at: 7,
+        target,
+        by: None,
+        req: 1,
+    })?;
+    Ok(visit)
 }
 
 fn form_outcome(alloc: Global) -> Result<Outcome, Fail> {
-    let mut visit = loaded(alloc, (3, 2, 1), "/f", FORM)?;
-    for event in typed(alloc)? {
-        visit.events.push(event)?;
-    }
     let (site, patch) = (site(alloc, &["/f"], FORM)?, patch(alloc, &["/f"])?);
-    Ok(replay(alloc, &site, &patch, &visit)?)
+    Ok(replay(alloc, &site, &patch, &typed(alloc)?)?)
 }
 
-// its number and address, and its pairs, which stand in the address too
-const REQUESTS: &[(u64, Method, &str, &str)] = &[
-    (0, Method::Load, "/f", ""),
-    (u64::MAX, Method::Get, "/b", ""),
-    (1, Method::Get, "/s?q=a+b", "q=a+b"),
-];
-
-fn is_request(rt: &impl Abort, found: &Request, want: (u64, Method, &str, &str)) {
-    assert_eq!(rt; found.number, want.0);
-    assert_eq!(rt; found.method, want.1);
-    assert_eq!(rt; found.address.as_str(), want.2);
-    assert_eq!(rt; found.pairs.as_str(), want.3);
+// The number, the method, the address and the pairs of each.
+fn told_whole(alloc: Global, requests: &Requests) -> Result<String, Fail> {
+    let mut text = String::new(alloc);
+    for request in requests.as_slice() {
+        let (number, method) = (request.number, request.method);
+        let (address, pairs) = (request.address.as_str(), request.pairs.as_str());
+        write!(text, "{number} {method:?} {address} {pairs}; ")?;
+    }
+    Ok(text)
 }
 
+// Under Get the pairs stand in the address too.
 #[test]
 fn requests_have_numbers_and_pairs(rt: HostRuntime) -> Result<(), Fail> {
     let Outcome::Done { requests } = form_outcome(rt.alloc())? else {
         return Err(Fail::new("not done"));
     };
-    assert_eq!(rt; requests.as_slice().len(), REQUESTS.len());
-    for (found, want) in requests.as_slice().iter().zip(REQUESTS) {
-        is_request(&rt, found, *want);
-    }
+    assert_eq!(rt;
+        told_whole(rt.alloc(), &requests)?.as_str(),
+        "0 Load /f ; 18446744073709551615 Get /b ; 1 Get /s?q=a+b q=a+b; "
+    );
     Ok(())
 }
 
@@ -128,28 +115,36 @@ const GOOD: Clicked = (PARAGRAPH, 0);
 
 const BAD: Clicked = (MISSING, 0);
 
-// What a visit to `/p` gives there, and that it is untouched where only `/q` is patched.
-fn answered(alloc: Global, hooks: &Wanting, was: Was) -> Result<String, Fail> {
-    let visit = visit(alloc, was)?;
-    let elsewhere = replay(alloc, hooks, &patch(alloc, &["/q"])?, &visit)?;
-    if !matches!(elsewhere, Outcome::Untouched) {
-        return Err(Fail::new("touched"));
-    }
-    match replay(alloc, hooks, &patch(alloc, &["/p"])?, &visit) {
+// What a visit to `/p` gives there.
+fn answered(alloc: Global, hooks: &Wanting, visit: &Visit) -> Result<String, Fail> {
+    match replay(alloc, hooks, &patch(alloc, &["/p"])?, visit) {
         Ok(outcome) => told(alloc, &outcome),
         Err(_) => Ok(String::from_str(alloc, "refused")?),
     }
 }
 
-// whether a visit was cut, and what was clicked
-const SIGNALS: &[(bool, &[Clicked], &str)] = &[
-    (false, &[BAD], "K2 at 1, 0 /p"),
-    (false, &[GOOD, BAD], "K2 at 2, 0 /p"),
-    (true, &[BAD], "K2 at 1, 0 /p"),
-    (true, &[], "K8 at 1, 0 /p"),
-    (true, &[GOOD], "K8 at 2, 0 /p"),
-    (false, &[GOOD], "refused"),
-];
+fn is_untouched(alloc: Global, hooks: &Wanting, visit: &Visit) -> Result<bool, Fail> {
+    let elsewhere = replay(alloc, hooks, &patch(alloc, &["/q"])?, visit)?;
+    Ok(matches!(elsewhere, Outcome::Untouched))
+}
+
+// It gives that, and is untouched where only `/q` is patched.
+fn answers(
+    rt: &impl Abort,
+    alloc: Global,
+    hooks: &Wanting,
+    cut: bool,
+    clicks: &'static [Clicked],
+    want: &str,
+) -> Result<(), Fail> {
+    let visit = visit(alloc, to("/p", cut, clicks))?;
+    assert!(rt;
+        answered(alloc, hooks, &visit)?.as_str() == want,
+        "not {want}"
+    );
+    assert!(rt; is_untouched(alloc, hooks, &visit)?);
+    Ok(())
+}
 
 // K9 comes behind K2 and K8.
 #[test]
@@ -159,29 +154,26 @@ fn signals_are_asked_for_where_all_else_is_good(rt: HostRuntime) -> Result<(), F
         page: Some(page(alloc, NEW)?),
         makes: true,
     };
-    for &(cut, clicks, want) in SIGNALS {
-        assert_eq!(rt;
-            answered(alloc, &hooks, to("/p", cut, clicks))?.as_str(),
-            want
-        );
-    }
-    Ok(())
+    answers(&rt, alloc, &hooks, false, &[BAD], "K2 at 1, 0 /p")?;
+    answers(&rt, alloc, &hooks, false, &[GOOD, BAD], "K2 at 2, 0 /p")?;
+    answers(&rt, alloc, &hooks, true, &[BAD], "K2 at 1, 0 /p")?;
+    answers(&rt, alloc, &hooks, true, &[], "K8 at 1, 0 /p")?;
+    answers(&rt, alloc, &hooks, true, &[GOOD], "K8 at 2, 0 /p")?;
+    answers(&rt, alloc, &hooks, false, &[GOOD], "refused")
+}
+
+// What a site without pages is asked, cut or not.
+fn asked(rt: &impl Abort, alloc: Global, makes: bool, want: &str) -> Result<(), Fail> {
+    let hooks = Wanting { page: None, makes };
+    answers(rt, alloc, &hooks, false, &[BAD], want)?;
+    answers(rt, alloc, &hooks, true, &[BAD], want)
 }
 
 // K1.
 #[test]
 fn a_site_is_asked_for_the_pages_of_affected_visits(rt: HostRuntime) -> Result<(), Fail> {
-    let alloc = rt.alloc();
-    for (makes, want) in [(true, "K1 at 0"), (false, "refused")] {
-        let hooks = Wanting { page: None, makes };
-        for cut in [false, true] {
-            assert_eq!(rt;
-                answered(alloc, &hooks, to("/p", cut, &[BAD]))?.as_str(),
-                want
-            );
-        }
-    }
-    Ok(())
+    asked(&rt, rt.alloc(), true, "K1 at 0")?;
+    asked(&rt, rt.alloc(), false, "refused")
 }
 
 // ---- behind its parent
@@ -192,33 +184,9 @@ const STAYS: Was = ((1, 0, 0), "/a", false, &[(SECOND, 1)]);
 
 const CHILD: Was = ((2, 1, 1), "/b", false, &[]);
 
-// Lists of visits, and what they give. No upload has those behind the second: two visits of one number, a child before its parent, and a child
-// whose number isn't above its parent's.
-const LISTS: &[(&[Was], &str)] = &[
-    (&[], ""),
-    (&[MOVES, CHILD], "done, 0 /a, 1 /c; K10 at 0; "),
-    (
-        &[MOVES, STAYS, CHILD],
-        "done, 0 /a, 1 /c; done, 0 /a, 1 /b; done, 0 /b; ",
-    ),
-    (
-        &[STAYS, MOVES, CHILD],
-        "done, 0 /a, 1 /b; done, 0 /a, 1 /c; K10 at 0; ",
-    ),
-    (
-        &[STAYS, CHILD, MOVES],
-        "done, 0 /a, 1 /b; done, 0 /b; done, 0 /a, 1 /c; ",
-    ),
-    (&[CHILD, MOVES], "done, 0 /b; done, 0 /a, 1 /c; "),
-    (
-        &[MOVES, ((1, 1, 1), "/b", false, &[])],
-        "done, 0 /a, 1 /c; done, 0 /b; ",
-    ),
-    (
-        &[MOVES, ((0, 1, 1), "/b", false, &[])],
-        "done, 0 /a, 1 /c; done, 0 /b; ",
-    ),
-];
+const OF_ITS_NUMBER: Was = ((1, 1, 1), "/b", false, &[]);
+
+const OF_A_LOWER_NUMBER: Was = ((0, 1, 1), "/b", false, &[]);
 
 fn followed(alloc: Global, list: &[Was]) -> Result<String, Fail> {
     let visits = visits(alloc, list)?;
@@ -233,36 +201,55 @@ fn followed(alloc: Global, list: &[Was]) -> Result<String, Fail> {
     if own.len() != visits.len() {
         return Err(Fail::new("as many outcomes as visits"));
     }
-    told_all(
-        alloc,
-        follow_parents(alloc, visits.as_slice(), own)?.as_slice(),
-    )
+    let all = follow_parents(alloc, visits.as_slice(), own)?;
+    told_all(alloc, all.as_slice())
+}
+
+fn give(rt: &impl Abort, alloc: Global, list: &[Was], want: &str) -> Result<(), Fail> {
+    assert!(rt; followed(alloc, list)?.as_str() == want, "not {want}");
+    Ok(())
 }
 
 // K10.
 #[test]
+fn a_visit_follows_its_parent(rt: HostRuntime) -> Result<(), Fail> {
+    let alloc = rt.alloc();
+    give(&rt, alloc, &[], "")?;
+    give(&rt, alloc, &[MOVES, CHILD], "done, 0 /a, 1 /c; K10 at 0; ")
+}
+
+// No upload has two visits of one number.
+#[test]
 fn the_last_visit_of_a_number_is_the_parent(rt: HostRuntime) -> Result<(), Fail> {
-    for &(list, want) in LISTS {
-        assert_eq!(rt; followed(rt.alloc(), list)?.as_str(), want);
-    }
-    Ok(())
+    let alloc = rt.alloc();
+    let stays = "done, 0 /a, 1 /c; done, 0 /a, 1 /b; done, 0 /b; ";
+    give(&rt, alloc, &[MOVES, STAYS, CHILD], stays)?;
+    let moves = "done, 0 /a, 1 /b; done, 0 /a, 1 /c; K10 at 0; ";
+    give(&rt, alloc, &[STAYS, MOVES, CHILD], moves)?;
+    let before = "done, 0 /a, 1 /b; done, 0 /b; done, 0 /a, 1 /c; ";
+    give(&rt, alloc, &[STAYS, CHILD, MOVES], before)
+}
+
+// No upload has a child before its parent, or one whose number isn't above its parent's.
+#[test]
+fn a_parent_stands_before_its_child(rt: HostRuntime) -> Result<(), Fail> {
+    let alloc = rt.alloc();
+    let stays = "done, 0 /a, 1 /c; done, 0 /b; ";
+    give(
+        &rt,
+        alloc,
+        &[CHILD, MOVES],
+        "done, 0 /b; done, 0 /a, 1 /c; ",
+    )?;
+    give(&rt, alloc, &[MOVES, OF_ITS_NUMBER], stays)?;
+    give(&rt, alloc, &[MOVES, OF_A_LOWER_NUMBER], stays)
 }
 
 // The first link is none.
 const NAMED: &str =
     r#"{"n":"html","c":[{"n":"a","a":{"name":"x"}},{"n":"a","a":{"href":"/d"}},{"n":"p"}]}"#;
 
-// the page that stood there, what was clicked, and whether request 1 goes elsewhere
-const MOVED: &[(&str, &[Clicked], bool)] = &[
-    (OLD, &[(FIRST, 1)], true),
-    (OLD, &[(SECOND, 1)], false),
-    // The first event of a number counts, which no upload has twice.
-    (OLD, &[(FIRST, 1), (SECOND, 1)], true),
-    (OLD, &[(SECOND, 1), (FIRST, 1)], false),
-    (OLD, &[(PARAGRAPH, 1), (FIRST, 1)], false),
-    (NAMED, &[(FIRST, 1), (SECOND, 1)], false),
-];
-
+// Whether request 1 goes elsewhere, by the page that stood there and what was clicked.
 fn has_moved(alloc: Global, old: &str, clicks: &'static [Clicked]) -> Result<bool, Fail> {
     let visit = visit_on(alloc, old, ((1, 0, 0), "/f", false, clicks))?;
     let (site, patch) = (site(alloc, &["/f"], NEW)?, patch(alloc, &["/f"])?);
@@ -270,16 +257,31 @@ fn has_moved(alloc: Global, old: &str, clicks: &'static [Clicked]) -> Result<boo
     Ok(moved(alloc, &visit, &outcome, 1)?)
 }
 
+fn moves(rt: &impl Abort, alloc: Global, clicks: &'static [Clicked]) -> Result<(), Fail> {
+    assert!(rt; has_moved(alloc, OLD, clicks)?);
+    Ok(())
+}
+
+fn stays(
+    rt: &impl Abort,
+    alloc: Global,
+    old: &str,
+    clicks: &'static [Clicked],
+) -> Result<(), Fail> {
+    assert!(rt; !has_moved(alloc, old, clicks)?);
+    Ok(())
+}
+
+// No upload has two events of one number: the first counts.
 #[test]
 fn the_first_request_of_a_number_counts(rt: HostRuntime) -> Result<(), Fail> {
-    for &(old, clicks, want) in MOVED {
-        assert_eq!(rt;
-            has_moved(rt.alloc(), old, clicks)?,
-            want,
-            "{clicks:?} on {old}"
-        );
-    }
-    Ok(())
+    let alloc = rt.alloc();
+    moves(&rt, alloc, &[(FIRST, 1)])?;
+    moves(&rt, alloc, &[(FIRST, 1), (SECOND, 1)])?;
+    stays(&rt, alloc, OLD, &[(SECOND, 1)])?;
+    stays(&rt, alloc, OLD, &[(SECOND, 1), (FIRST, 1)])?;
+    stays(&rt, alloc, OLD, &[(PARAGRAPH, 1), (FIRST, 1)])?;
+    stays(&rt, alloc, NAMED, &[(FIRST, 1), (SECOND, 1)])
 }
 
 // ---- requests
@@ -287,9 +289,9 @@ fn the_first_request_of_a_number_counts(rt: HostRuntime) -> Result<(), Fail> {
 fn request(alloc: Global, number: u64) -> Result<Request, Fail> {
     Ok(Request {
         number,
-        method: Method::Get,
+        method: Method::Post,
         address: text(alloc, "/a")?,
-        pairs: text(alloc, "")?,
+        pairs: text(alloc, "p")?,
     })
 }
 
@@ -302,11 +304,6 @@ fn requests_keep_their_order(rt: HostRuntime) -> Result<(), Fail> {
     requests.push(request(alloc, 2)?)?;
     let mut again = Requests::from(requests.into_vec());
     again.push(request(alloc, 3)?)?;
-    let numbers: Vec<u64> = again
-        .as_slice()
-        .iter()
-        .map(|request| request.number)
-        .collect(alloc)?;
-    assert_eq!(rt; numbers.as_slice(), [4, 2, 3].as_slice());
+    assert!(rt; told_whole(alloc, &again)?.as_str() == "4 Post /a p; 2 Post /a p; 3 Post /a p; ");
     Ok(())
 }

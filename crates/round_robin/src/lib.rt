@@ -6,6 +6,3 @@
 mod dealt;
 
 pub use dealt::{collect, deal};
-
-#[cfg(test)]
-mod tests;

@@ -1,8 +1,5 @@
 //! The desk's own calls: which dockets it takes, what they give, and several clients. `cases/decisions` has what a report shows of it.
-use crate::fixtures::{
-    Asserts, End, LOADED, NONE_WAITS, Row, WAITS, assert_front, assert_requests, assert_standings,
-    desk, docket, ended, open,
-};
+use crate::fixtures::{Asserts, End, LOADED, NONE_WAITS, Row, WAITS, desk, docket, ended, open};
 use conflict_desk::{Case, Cases, Choice, Desk, DeskFault, Docket, Standing, are_dockets};
 use std::alloc::Global;
 use std::process::Abort;
@@ -10,37 +7,83 @@ use std::test::Fail;
 use upload_reader::Client;
 use visit_replay::Outcome;
 
-// Dockets of two visits each, by their clients and the visits' numbers, and whether a desk may be opened with them.
-const DOCKETS: &[(&[(&str, u64, u64)], bool)] = &[
-    (&[], true),
-    (&[("c1", 1, 2)], true),
-    (&[("c1", 0, 9), ("c2", 0, 9), ("C1", 3, 4)], true),
-    (&[("c1", 2, 1)], false),
-    (&[("c1", 1, 1)], false),
-    (&[("c1", 1, 2), ("c2", 5, 5)], false),
-    (&[("c1", 1, 2), ("c1", 3, 4)], false),
-    (&[("c1", 1, 2), ("c2", 1, 2), ("c1", 1, 2)], false),
+// Of two visits each, by their clients and the visits' numbers.
+type Pairs = &'static [(&'static str, u64, u64)];
+
+const TAKEN: &[Pairs] = &[
+    &[],
+    &[("c1", 1, 2)],
+    &[("c1", 0, 9), ("c2", 0, 9), ("C1", 3, 4)],
 ];
 
-fn dockets_of(alloc: Global, rows: &[(&str, u64, u64)]) -> Result<Vec<Docket>, Fail> {
+const NOT_TAKEN: &[Pairs] = &[
+    &[("c1", 2, 1)],
+    &[("c1", 1, 1)],
+    &[("c1", 1, 2), ("c2", 5, 5)],
+    &[("c1", 1, 2), ("c1", 3, 4)],
+    &[("c1", 1, 2), ("c2", 1, 2), ("c1", 1, 2)],
+];
+
+// Whether a desk may be opened with these dockets.
+fn are_taken(alloc: Global, pairs: Pairs) -> Result<bool, Fail> {
     let mut dockets = Vec::new(alloc);
-    for &(client, first, second) in rows {
+    for &(client, first, second) in pairs {
         let rows = [(first, 0, End::Done(LOADED)), (second, 0, WAITS)];
         dockets.push(docket(alloc, ended(client, &rows))?)?;
     }
-    Ok(dockets)
+    Ok(are_dockets(dockets.as_slice()))
 }
 
 #[test]
 fn a_desk_is_opened_with_clients_that_differ_and_visits_that_ascend(
     rt: HostRuntime,
 ) -> Result<(), Fail> {
-    for &(rows, want) in DOCKETS {
-        let dockets = dockets_of(rt.alloc(), rows)?;
-        assert_eq!(rt; are_dockets(dockets.as_slice()), want);
+    for pairs in TAKEN {
+        assert!(rt; are_taken(rt.alloc(), pairs)?);
+    }
+    for pairs in NOT_TAKEN {
+        assert!(rt; !are_taken(rt.alloc(), pairs)?);
     }
     let empty = docket(rt.alloc(), ended("c1", &[]))?;
     assert!(rt; are_dockets(&[empty]));
+    Ok(())
+}
+
+// ---- what is asserted of a desk
+
+// These visits of the client stand so.
+fn assert_standings(
+    rt: &impl Asserts,
+    desk: &Desk,
+    client: &str,
+    rows: &[(u64, Standing)],
+) -> Result<(), Fail> {
+    let client = Client::read(rt.alloc(), client)?;
+    for &(visit, standing) in rows {
+        assert!(rt; desk.standing(&client, visit) == Some(standing));
+    }
+    Ok(())
+}
+
+// That visit waits first of all of the client.
+fn assert_front(
+    rt: &impl Asserts,
+    desk: &Desk,
+    client: &str,
+    front: Option<u64>,
+) -> Result<(), Fail> {
+    let client = Client::read(rt.alloc(), client)?;
+    assert!(rt; desk.front(&client) == Ok(front));
+    Ok(())
+}
+
+// So many requests of that visit of the first client stand.
+fn assert_requests(rt: &impl Asserts, desk: &Desk, visit: u64, count: usize) -> Result<(), Fail> {
+    let client = Client::read(rt.alloc(), "c1")?;
+    let Some(requests) = desk.requests(&client, visit) else {
+        return Err(Fail::from("no visit"));
+    };
+    assert!(rt; requests.len() == count);
     Ok(())
 }
 
@@ -50,7 +93,7 @@ type Step = (u64, Choice, Result<(), DeskFault>);
 fn decides(rt: &impl Asserts, desk: &mut Desk, client: &str, steps: &[Step]) -> Result<(), Fail> {
     let client = Client::read(rt.alloc(), client)?;
     for &(visit, choice, answer) in steps {
-        assert_eq!(rt; desk.decide(&client, visit, choice), answer, "on {visit}");
+        assert!(rt; desk.decide(&client, visit, choice) == answer);
     }
     Ok(())
 }
@@ -72,10 +115,9 @@ const FAMILY_STEPS: &[Step] = &[
 ];
 
 fn assert_cases(rt: &impl Abort, cases: &[Case], rows: &[Row<'_>]) {
-    assert_eq!(rt; cases.len(), rows.len());
+    assert!(rt; cases.len() == rows.len());
     for (case, &(visit, parent, _)) in cases.iter().zip(rows) {
-        assert_eq!(rt; case.visit, visit);
-        assert_eq!(rt; case.parent, parent, "parent of {visit}");
+        assert!(rt; case.visit == visit && case.parent == parent);
     }
 }
 
@@ -106,17 +148,23 @@ fn has_no_client(rt: &impl Asserts, desk: &mut Desk, client: &str) -> Result<(),
     let missing = [(1, Choice::Keep, Err(DeskFault::NoClient))];
     decides(rt, desk, client, &missing)?;
     let client = Client::read(rt.alloc(), client)?;
-    assert_eq!(rt; desk.front(&client), Err(DeskFault::NoClient));
+    assert!(rt; desk.front(&client) == Err(DeskFault::NoClient));
     assert!(rt; desk.cases(&client).is_none());
     Ok(())
 }
 
+const ALONE: &[Row<'static>] = &[(1, 0, WAITS)];
+
 #[test]
 fn others_are_not_there(rt: HostRuntime) -> Result<(), Fail> {
-    let mut one = desk(rt.alloc(), &[ended("c1", &[(1, 0, WAITS)])])?;
+    let mut one = desk(rt.alloc(), &[ended("c1", ALONE)])?;
     assert_nothing(&rt, &one, "c1", 2)?;
     assert_nothing(&rt, &one, "c9", 1)?;
-    has_no_client(&rt, &mut one, "c9")?;
+    has_no_client(&rt, &mut one, "c9")
+}
+
+#[test]
+fn a_desk_may_have_no_client(rt: HostRuntime) -> Result<(), Fail> {
     has_no_client(&rt, &mut desk(rt.alloc(), &[])?, "c1")
 }
 
@@ -150,21 +198,30 @@ fn a_visit_without_a_parent_stands_by_itself(rt: HostRuntime) -> Result<(), Fail
     let mut desk = desk(rt.alloc(), &[ended("c1", BY_THEMSELVES)])?;
     decides(&rt, &mut desk, "c1", BOTH_CANCELLED)?;
     assert_standings(&rt, &desk, "c1", BY_THEMSELVES_STAND)?;
+    assert_front(&rt, &desk, "c1", None)?;
     assert_requests(&rt, &desk, 2, 1)?;
     assert_requests(&rt, &desk, 6, 0)
 }
 
 const PAIR: &[Row<'static>] = &[(1, 0, WAITS), (2, 1, WAITS)];
 
+const FIRST_CANCELLED: &[Step] = &[(1, Choice::Cancel, Ok(()))];
+
+const FIRST_KEPT: &[Step] = &[(1, Choice::Keep, Ok(()))];
+
+// Those of the first client and of the second one.
+fn assert_fronts(rt: &impl Asserts, desk: &Desk, first: u64, second: u64) -> Result<(), Fail> {
+    assert_front(rt, desk, "c1", Some(first))?;
+    assert_front(rt, desk, "c2", Some(second))
+}
+
 #[test]
 fn clients_are_decided_by_themselves(rt: HostRuntime) -> Result<(), Fail> {
     let mut both = desk(rt.alloc(), &[ended("c1", PAIR), ended("c2", FAMILY)])?;
-    decides(&rt, &mut both, "c2", &[(1, Choice::Cancel, Ok(()))])?;
-    assert_front(&rt, &both, "c1", Some(1))?;
-    assert_front(&rt, &both, "c2", Some(3))?;
-    decides(&rt, &mut both, "c1", &[(1, Choice::Keep, Ok(()))])?;
-    assert_front(&rt, &both, "c1", Some(2))?;
-    assert_front(&rt, &both, "c2", Some(3))
+    decides(&rt, &mut both, "c2", FIRST_CANCELLED)?;
+    assert_fronts(&rt, &both, 1, 3)?;
+    decides(&rt, &mut both, "c1", FIRST_KEPT)?;
+    assert_fronts(&rt, &both, 2, 3)
 }
 
 // A docket of each of so many clients, whose one visit has the client's number.
@@ -214,7 +271,7 @@ const CODES: &[(DeskFault, &str)] = &[
 #[test]
 fn a_fault_is_written_as_its_code(rt: HostRuntime) -> Result<(), Fail> {
     for &(fault, code) in CODES {
-        assert_eq!(rt; format!(in rt.alloc(); "{fault}")?.as_str(), code);
+        assert!(rt; format!(in rt.alloc(); "{fault}")?.as_str() == code);
     }
     Ok(())
 }

@@ -4,9 +4,7 @@ ghost use Rattle.std.specs.List.{AllByRecursion};
 ghost use Rattle.upload_reader.specs.Upload.{IsUntouched};
 
 use byte_streams::{Fed, Lines, Told};
-use conflict_desk::{
-    Case, Cases, Choice, Decision, Desk, DeskFault, Docket, Standing, are_dockets,
-};
+use conflict_desk::{Case, Cases, Choice, Decision, Desk, DeskFault, Docket, are_dockets};
 use page_tree::Text;
 use std::alloc::{AllocError, Global};
 use std::process::Abort;
@@ -143,8 +141,13 @@ pub(crate) fn desk(alloc: Global, lanes: &[Lane<'_>]) -> Result<Desk, Fail> {
     open(alloc, dockets)
 }
 
-// What was repaired of these clients, on which nothing is decided.
-pub(crate) fn repaired(alloc: Global, stop: Stop, lanes: &[Lane<'_>]) -> Result<Repaired, Fail> {
+// What was repaired of these clients, and what was decided, with these answers. The desk is as opened.
+pub(crate) fn repaired(
+    alloc: Global,
+    stop: Stop,
+    lanes: &[Lane<'_>],
+    steps: &[Step],
+) -> Result<Repaired, Fail> {
     let mut clients = Vec::new(alloc);
     for lane in lanes {
         clients.push(summary_of_lane(alloc, *lane)?)?;
@@ -153,7 +156,7 @@ pub(crate) fn repaired(alloc: Global, stop: Stop, lanes: &[Lane<'_>]) -> Result<
         stop,
         clients: Listed::from(clients),
         desk: desk(alloc, lanes)?,
-        decided: Listed::new(alloc),
+        decided: put_decisions(alloc, steps)?,
     })
 }
 
@@ -189,7 +192,7 @@ pub(crate) fn decisions(alloc: Global, steps: &[Step]) -> Result<Vec<Decision>, 
 }
 
 // The decisions with these answers, as if they had been put.
-pub(crate) fn put_decisions(alloc: Global, steps: &[Step]) -> Result<Listed<PutDecision>, Fail> {
+fn put_decisions(alloc: Global, steps: &[Step]) -> Result<Listed<PutDecision>, Fail> {
     let mut put = Vec::new(alloc);
     for &(client, visit, choice, answer) in steps {
         let decision = decision(alloc, client, visit, choice)?;
@@ -198,51 +201,12 @@ pub(crate) fn put_decisions(alloc: Global, steps: &[Step]) -> Result<Listed<PutD
     Ok(Listed::from(put))
 }
 
-pub(crate) fn assert_standings(
-    rt: &impl Asserts,
-    desk: &Desk,
-    client: &str,
-    rows: &[(u64, Standing)],
-) -> Result<(), Fail> {
-    let client = Client::read(rt.alloc(), client)?;
-    for &(visit, standing) in rows {
-        assert_eq!(rt;
-            desk.standing(&client, visit),
-            Some(standing),
-            "visit {visit}"
-        );
-    }
-    Ok(())
-}
-
-// That visit waits first of all of the client.
-pub(crate) fn assert_front(
-    rt: &impl Asserts,
-    desk: &Desk,
-    client: &str,
-    front: Option<u64>,
-) -> Result<(), Fail> {
-    let client = Client::read(rt.alloc(), client)?;
-    assert_eq!(rt; desk.front(&client), Ok(front));
-    Ok(())
-}
-
-// So many requests of that visit of the first client stand.
-pub(crate) fn assert_requests(
-    rt: &impl Asserts,
-    desk: &Desk,
-    visit: u64,
-    count: usize,
-) -> Result<(), Fail> {
-    let client = Client::read(rt.alloc(), "c1")?;
-    let requests = desk.requests(&client, visit).ok_or("no visit")?;
-    assert_eq!(rt; requests.len(), count, "visit {visit}");
-    Ok(())
-}
-
 // ---- uploads
 
 pub(crate) type Reader = Fed<Drip>;
+
+// The lines of each upload.
+pub(crate) type Lanes = &'static [&'static [&'static str]];
 
 // The lines, each with its line end.
 pub(crate) fn joined(alloc: Global, lines: &[&str]) -> Result<String, AllocError> {
@@ -254,21 +218,11 @@ pub(crate) fn joined(alloc: Global, lines: &[&str]) -> Result<String, AllocError
     Ok(text)
 }
 
-// The lines of a client behind its hello.
-pub(crate) fn with_hello(
-    alloc: Global,
-    client: &str,
-    lines: &[&str],
-) -> Result<String, AllocError> {
-    let rest = joined(alloc, lines)?;
-    format!(in alloc; "{{\"t\":\"hello\",\"client\":\"{client}\"}}\n{rest}")
-}
-
-// The upload of a client, of these lines behind its hello.
-pub(crate) fn upload(alloc: Global, client: &str, lines: &[&str]) -> Result<Upload<Reader>, Fail>
+// The upload of these lines, the first of which is its hello.
+fn upload(alloc: Global, lines: &[&str]) -> Result<Upload<Reader>, Fail>
     ensures { IfOk result IsUntouched }
 {
-    let text = with_hello(alloc, client, lines)?;
+    let text = joined(alloc, lines)?;
     let reader = Fed::new(Drip::new(alloc, text.as_bytes(), 50)?);
     match Upload::hello(alloc, Lines::over(alloc, reader)?) {
         Ok(upload) => Ok(upload),
@@ -286,12 +240,12 @@ fn add(uploads: &mut Vec<Upload<Reader>>, upload: Upload<Reader>) -> Result<(), 
 }
 
 // Of each client an upload of its lines.
-pub(crate) fn uploads(alloc: Global, lanes: &[(&str, &[&str])]) -> Result<Vec<Upload<Reader>>, Fail>
+pub(crate) fn uploads(alloc: Global, lanes: Lanes) -> Result<Vec<Upload<Reader>>, Fail>
     ensures { IfOk result (λ uploads. AllByRecursion IsUntouched uploads.items) }
 {
     let mut uploads = Vec::new(alloc);
-    for &(client, lines) in lanes {
-        add(&mut uploads, upload(alloc, client, lines)?)?;
+    for lines in lanes {
+        add(&mut uploads, upload(alloc, lines)?)?;
     }
     Ok(uploads)
 }
@@ -309,6 +263,12 @@ pub(crate) const END: &str = r#"{"t":"end","visit":1,"at":3}"#;
 pub(crate) const BYE: &str = r#"{"t":"bye"}"#;
 
 pub(crate) const HELLO: &str = r#"{"t":"hello","client":"c1"}"#;
+
+pub(crate) const SECOND_HELLO: &str = r#"{"t":"hello","client":"c2"}"#;
+
+pub(crate) const ONE_CLICK: &[&str] = &[HELLO, LOAD, CLICK, END, BYE];
+
+pub(crate) const SECOND_CLICK: &[&str] = &[SECOND_HELLO, LOAD, CLICK, END, BYE];
 
 // The link is there, so the click can be replayed, and what is said of that.
 pub(crate) const SITE: &str =

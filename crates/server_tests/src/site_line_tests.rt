@@ -1,4 +1,5 @@
 //! What a site says by its own calls, and what the program doesn't tell: its quota, its workers, and which fault a line has.
+use crate::fixtures::Asserts;
 use client_log::Visit;
 use conflict_desk::{Choice, Decision};
 use page_tree::{Page, Place, Text};
@@ -6,7 +7,6 @@ use serde_json::Value;
 use site_hooks::SiteHooks;
 use site_line::{Site, SiteFault};
 use std::alloc::Global;
-use std::process::Abort;
 use std::test::Fail;
 use visit_replay::affected;
 
@@ -23,12 +23,17 @@ fn page(alloc: Global, text: &str) -> Result<Page, Fail> {
     Ok(Page::from_value(alloc, &value)?)
 }
 
+fn has_page(site: &Site, address: &str, page: &Page) -> Result<bool, Fail> {
+    let Some(found) = site.table().make(address)? else {
+        return Ok(false);
+    };
+    Ok(found.same(page))
+}
+
 // Whether the site's page at an address is this one.
 fn shows(alloc: Global, site: &Site, address: &str, text: &str) -> Result<bool, Fail> {
-    match site.table().make(address)? {
-        None => Ok(false),
-        Some(found) => Ok(found.same(&page(alloc, text)?)),
-    }
+    let page = page(alloc, text)?;
+    has_page(site, address, &page)
 }
 
 // Whether a visit to an address is replayed.
@@ -46,18 +51,15 @@ fn signals(alloc: Global, site: &Site, old: &str, new: &str) -> Result<bool, Fai
     )
 }
 
-fn assert_decision(rt: &impl Abort, decision: &Decision, client: &str, visit: u64, choice: Choice) {
-    assert_eq!(rt; decision.client.text(), client);
-    assert_eq!(rt; decision.visit, visit);
-    assert_eq!(rt; decision.choice, choice);
+fn is(decision: &Decision, client: &str, visit: u64, choice: Choice) -> bool {
+    decision.client.text() == client && decision.visit == visit && decision.choice == choice
 }
 
-fn assert_decisions(rt: &impl Abort, decisions: &[Decision]) {
-    assert_eq!(rt; decisions.len(), 2);
-    if let [first, second] = decisions {
-        assert_decision(rt, first, "ann", 3, Choice::Cancel);
-        assert_decision(rt, second, "B_o-b", 1, Choice::Keep);
-    }
+fn are_both(decisions: &[Decision]) -> bool {
+    let [first, second] = decisions else {
+        return false;
+    };
+    is(first, "ann", 3, Choice::Cancel) && is(second, "B_o-b", 1, Choice::Keep)
 }
 
 #[test]
@@ -71,7 +73,7 @@ fn reads_a_site(rt: HostRuntime) -> Result<(), Fail> {
     assert!(rt; site.table().make("/ab")?.is_none());
     assert!(rt; signals(alloc, &site, PAGE, OTHER)?);
     assert!(rt; !signals(alloc, &site, PAGE, PAGE)?);
-    assert_decisions(&rt, site.decisions());
+    assert!(rt; are_both(site.decisions()));
     Ok(())
 }
 
@@ -93,12 +95,17 @@ const NUMBERS: &[(&str, u64, u32)] = &[
     (r#"{"workers":32}"#, 1_048_576, 32),
 ];
 
+fn has(rt: &impl Asserts, line: &str, quota: u64, workers: u32) -> Result<(), Fail> {
+    let site = Site::read(rt.alloc(), line.as_bytes())?;
+    assert!(rt; site.quota().bytes() == quota, "{line}");
+    assert!(rt; site.workers() == workers, "{line}");
+    Ok(())
+}
+
 #[test]
 fn has_a_quota_and_workers(rt: HostRuntime) -> Result<(), Fail> {
     for &(line, quota, workers) in NUMBERS {
-        let site = Site::read(rt.alloc(), line.as_bytes())?;
-        assert_eq!(rt; site.quota().bytes(), quota, "{line}");
-        assert_eq!(rt; site.workers(), workers, "{line}");
+        has(&rt, line, quota, workers)?;
     }
     Ok(())
 }
@@ -123,7 +130,7 @@ const REFUSED: &[(&[u8], SiteFault)] = &[
 #[test]
 fn tells_no_json_and_no_site_apart(rt: HostRuntime) {
     for &(line, fault) in REFUSED {
-        assert_eq!(rt; Site::read(rt.alloc(), line).err(), Some(fault));
+        assert!(rt; Site::read(rt.alloc(), line).err() == Some(fault));
     }
 }
 
@@ -136,7 +143,7 @@ const CODES: &[(SiteFault, &str)] = &[
 #[test]
 fn writes_a_fault_as_its_code(rt: HostRuntime) -> Result<(), Fail> {
     for &(fault, code) in CODES {
-        assert_eq!(rt; format!(in rt.alloc(); "{fault}")?.as_str(), code);
+        assert!(rt; format!(in rt.alloc(); "{fault}")?.as_str() == code);
     }
     Ok(())
 }

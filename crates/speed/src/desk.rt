@@ -1,8 +1,8 @@
 //! Decides all conflicts of one client's docket.
-use crate::micros;
+use crate::clock::{Moment, between, micros, now};
 use conflict_desk::{Case, Cases, Choice, Desk, Docket, Standing, are_dockets};
 use std::alloc::Global;
-use std::time::{Clock, Duration, Instant};
+use std::time::{Clock, Duration};
 use upload_reader::Client;
 use visit_replay::{ConflictKind, Outcome, Requests};
 
@@ -56,22 +56,33 @@ fn print_times<T: Print>(rt: &T, times: &Times) {
 
 fn time_desk<T: Clock>(rt: &T, alloc: Global, count: u64, chain: u64) -> Option<Times> {
     let client = Client::read(alloc, "c1").ok()?;
-    let start = Instant::now(rt).ok()?;
+    let start = now(rt);
     let mut desk = desk_of(alloc, count, chain)?;
-    let opened = Instant::now(rt).ok()?;
-    let first = decide(&mut desk, &client, count / 3);
-    let half = Instant::now(rt).ok()?;
-    let _ = count_cancelled(&desk, &client, count);
-    let asked = Instant::now(rt).ok()?;
-    let rest = decide(&mut desk, &client, count);
-    let done = Instant::now(rt).ok()?;
+    time_decisions(rt, &mut desk, &client, count, start)
+}
+
+// On a desk that was opened since that moment.
+fn time_decisions<T: Clock>(
+    rt: &T,
+    desk: &mut Desk,
+    client: &Client,
+    count: u64,
+    start: Moment,
+) -> Option<Times> {
+    let opened = now(rt);
+    let first = decide(desk, client, count / 3);
+    let half = now(rt);
+    let _ = count_cancelled(desk, client, count);
+    let asked = now(rt);
+    let rest = decide(desk, client, count);
+    let done = now(rt);
     Some(Times {
-        open: opened.saturating_duration_since(start),
-        first: half.saturating_duration_since(opened),
-        standings: asked.saturating_duration_since(half),
-        rest: done.saturating_duration_since(asked),
+        open: between(start, opened)?,
+        first: between(opened, half)?,
+        standings: between(half, asked)?,
+        rest: between(asked, done)?,
         decided: first.saturating_add(rest),
-        cancelled: count_cancelled(&desk, &client, count),
+        cancelled: count_cancelled(desk, client, count),
     })
 }
 

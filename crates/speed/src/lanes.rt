@@ -1,12 +1,12 @@
 //! Takes lanes by `gather`, and the same in turn on one thread.
-use crate::millis;
+use crate::clock::{Moment, between, millis, now};
 use crate::silent::print_silent;
 use crate::uploads::{Made, Plan, Reader, make, schedule_of};
 use client_log::Quota;
 use lane_queue::Room;
 use std::sync::Wait;
 use std::thread::Threads;
-use std::time::{Clock, CpuClock, Duration, Instant};
+use std::time::{Clock, CpuClock, Duration};
 use upload_lanes::{Gathered, gather, gather_in_order};
 
 /// How many messages a queue holds: as many as the server's do where several clients upload.
@@ -67,7 +67,7 @@ fn time_in_turn<T: AllocGlobal + Clock>(rt: &T, lanes: u32, bytes: usize) -> Tak
     let quota = Quota::new(u64::from(u32::MAX)).ok()?;
     let Made { uploads, messages } = make(alloc, lanes, plan(bytes))?;
     let schedule = schedule_of(alloc, lanes, messages)?;
-    let start = Instant::now(rt).ok()?;
+    let start = now(rt);
     let gathered = gather_in_order(alloc, uploads, quota, schedule.as_slice()).ok()?;
     measure(rt, &gathered, start)
 }
@@ -81,16 +81,16 @@ fn time_on_threads<T: AllocGlobal + Threads + Wait + Clock + Sync>(
     let room = Room::new(ROOM).ok()?;
     let Made { uploads, .. } = make(rt.alloc(), lanes, plan(bytes))?;
     let halt = |_items: u64| -> bool { false };
-    let start = Instant::now(rt).ok()?;
+    let start = now(rt);
     let gathered = gather(rt, uploads, quota, room, &halt).ok()?;
     measure(rt, &gathered, start)
 }
 
-fn measure<T: Clock>(rt: &T, gathered: &Gathered<Reader>, start: Instant) -> Taken {
-    let now = Instant::now(rt).ok()?;
+fn measure<T: Clock>(rt: &T, gathered: &Gathered<Reader>, start: Moment) -> Taken {
+    let time = between(start, now(rt))?;
     let mut messages = 0u64;
     for lane in gathered.clients.values() {
         messages = messages.saturating_add(lane.taken);
     }
-    Some((messages, now.saturating_duration_since(start)))
+    Some((messages, time))
 }

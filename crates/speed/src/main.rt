@@ -2,6 +2,7 @@
 //! Without a word all is done with few of each, and what is counted then is always the same.
 #![tactic(auto)]
 
+mod clock;
 mod desk;
 mod lanes;
 mod queue;
@@ -14,7 +15,7 @@ use std::process::ExitCode;
 use std::rt::Env;
 use std::sync::Wait;
 use std::thread::Threads;
-use std::time::{Clock, CpuClock, Duration};
+use std::time::{Clock, CpuClock};
 
 fn main(rt: HostRuntime) -> ExitCode {
     let Some((case, figure)) = words(&rt) else {
@@ -53,12 +54,4 @@ fn print_case<T: AllocGlobal + Threads + Wait + Clock + CpuClock + Print + Sync>
             let _ = println!(rt; "{case}: desk, lanes, queue and workers are known");
         }
     }
-}
-
-pub(crate) fn micros(time: Duration) -> u64 {
-    u64::try_from(time.as_micros()).unwrap_or(u64::MAX)
-}
-
-pub(crate) fn millis(time: Duration) -> u64 {
-    u64::try_from(time.as_millis()).unwrap_or(u64::MAX)
 }

@@ -3,6 +3,7 @@ mod channel;
 mod lanes;
 mod waiting;
 
+use crate::clock::micros;
 use std::sync::Wait;
 use std::thread::Threads;
 use std::time::{Clock, CpuClock, Duration};
@@ -50,7 +51,7 @@ fn print<T: Print>(rt: &T, name: &str, senders: u32, figure: Figure, timed: bool
         return;
     };
     if timed {
-        let rate = items.saturating_mul(1_000) / crate::micros(time).max(1);
+        let rate = items.saturating_mul(1_000) / micros(time).max(1);
         let _ = println!(rt; "{senders} senders, {name}: {rate} thousand items a second");
     } else {
         let _ = println!(rt; "{senders} senders, {name}: {items} items in order");

@@ -3,8 +3,8 @@ ghost use Rattle.std.specs.Prelude.{IfSome};
 ghost use Rattle.std.specs.List.{AllByRecursion};
 ghost use Rattle.upload_reader.specs.Upload.{IsUntouched};
 
+use crate::clock::micros;
 use crate::lanes::ROOM;
-use crate::micros;
 use crate::uploads::upload_over;
 use byte_streams::Fed;
 use client_log::Quota;
@@ -30,19 +30,15 @@ const HELLOS: [&str; 2] = [
 #[derive(Drop)]
 struct Silent<'r, T> {
     rt: &'r T,
-    text: &'static str,
+    text: &'static [u8],
 }
 
 impl<'r, T: Clock> Read for Silent<'r, T> {
     fn read(&mut self, buf: &mut [u8]) -> io::Result<usize> {
-        let count = self.text.len().min(buf.len());
-        if count == 0 {
+        if self.text.is_empty() {
             thread::sleep(self.rt, Duration::from_secs(SILENCE));
-            return Ok(0);
         }
-        buf[..count].copy_from_slice(&self.text.as_bytes()[..count]);
-        self.text = "";
-        Ok(count)
+        self.text.read(buf)
     }
 }
 
@@ -80,6 +76,7 @@ fn uploads<T: Clock + Sync>(rt: &T, alloc: Global) -> Option<Vec<Upload<Fed<Sile
 {
     let mut uploads = Vec::new(alloc);
     for text in HELLOS {
+        let text = text.as_bytes();
         let reader = Fed::new(Silent { rt, text });
         uploads.push(upload_over(alloc, reader)?).ok()?;
     }

@@ -15,10 +15,14 @@ const PIECE: usize = 65_536;
 
 pub(crate) const ADDRESS: &str = "/a";
 
-pub(crate) const PAGE: &str =
+const PAGE: &str =
     r#"{"n":"html","c":[{"n":"body","c":[{"n":"p","c":["Write to us"]},{"n":"form","a":{"action":"/send","method":"post"},"c":[{"n":"input","a":{"name":"subject"}},{"n":"textarea","a":{"name":"text"}},{"n":"button","a":{"name":"go","value":"1"},"c":["Send"]}]}]}]}"#;
 
-const WORDS: &str = "however the threads run, each message once and in order";
+// What stands behind the time of an input and of a submit.
+const TYPED: &str =
+    "\"target\":\"/html/body/form/textarea\",\"value\":\"however the threads run, each message once and in order\"}\n";
+
+const SENT: &str = "\"target\":\"/html/body/form\",\"by\":\"/html/body/form/button\",\"req\":1}\n";
 
 /// What an upload is: visits up to so many, or until it has so many bytes; in each so many inputs and a submit. Chained ones are opened by the submit before.
 #[derive(Clone, Copy)]
@@ -87,24 +91,28 @@ fn text_of(alloc: Global, lane: u32, plan: Plan) -> Result<(String, u64), AllocE
 fn add_visit(text: &mut String, before: u64, plan: Plan) -> Result<(), AllocError> {
     let visit = before.saturating_add(1);
     let at = visit.saturating_mul(plan.inputs.saturating_mul(10));
-    write!(text, "{{\"t\":\"load\",\"visit\":{visit},\"at\":{at},")?;
+    add_head(text, "load", visit, at)?;
     if plan.chained && before > 0 {
         write!(text, "\"parent\":{before},\"from\":1,")?;
     }
     write!(text, "\"path\":\"{ADDRESS}\",\"page\":{PAGE}}}\n")?;
     for input in 0..plan.inputs {
-        let at = at.saturating_add(1).saturating_add(input);
-        write!(
+        add_head(
             text,
-            "{{\"t\":\"input\",\"visit\":{visit},\"at\":{at},\"target\":\"/html/body/form/textarea\",\"value\":\"{WORDS}\"}}\n"
+            "input",
+            visit,
+            at.saturating_add(1).saturating_add(input),
         )?;
+        text.push_str(TYPED)?;
     }
     let at = at.saturating_add(plan.inputs.saturating_mul(2));
-    write!(
-        text,
-        "{{\"t\":\"submit\",\"visit\":{visit},\"at\":{at},\"target\":\"/html/body/form\",\"by\":\"/html/body/form/button\",\"req\":1}}\n"
-    )?;
+    add_head(text, "submit", visit, at)?;
+    text.push_str(SENT)?;
     write!(text, "{{\"t\":\"end\",\"visit\":{visit},\"at\":{at}}}\n")
+}
+
+fn add_head(text: &mut String, kind: &str, visit: u64, at: u64) -> Result<(), AllocError> {
+    write!(text, "{{\"t\":\"{kind}\",\"visit\":{visit},\"at\":{at},")
 }
 
 /// Each lane in turn, so often as it has messages and once more for its end.

@@ -1,14 +1,13 @@
 //! Replays visits to a page with a form, by themselves or each opened by the form that the one before it sent.
-use crate::millis;
-use crate::uploads::{ADDRESS, Made, PAGE, Plan, Reader, make, schedule_of};
-use client_log::Quota;
-use page_tree::{Page, Text};
+use crate::clock::{between, millis, now};
+use crate::uploads::{ADDRESS, Made, Plan, Reader, make, schedule_of};
+use client_log::{Quota, Visit};
+use page_tree::Text;
 use replay_workers::replay_all;
-use serde_json::Value;
 use site_hooks::Table;
 use std::alloc::Global;
 use std::thread::Threads;
-use std::time::{Clock, Duration, Instant};
+use std::time::{Clock, Duration};
 use upload_lanes::{Gathered, gather_in_order};
 use visit_replay::{Outcome, Patch};
 
@@ -66,20 +65,17 @@ fn time_replay<T: AllocGlobal + Threads + Clock + Sync>(
         inputs,
         chained,
     };
-    let site = site(rt.alloc())?;
     let patch = patch(rt.alloc())?;
     let gathered = gathered(rt.alloc(), plan)?;
     let visits = gathered.clients.values().next()?.log.visits();
     if visits.len() > 1_000_000 {
         return None;
     }
-    let start = Instant::now(rt).ok()?;
+    let site = site(rt.alloc(), visits.first()?)?;
+    let start = now(rt);
     let outcomes = replay_all(rt, workers, &site, &patch, visits).ok()?;
-    let end = Instant::now(rt).ok()?;
-    Some((
-        count_done(outcomes.as_slice()),
-        end.saturating_duration_since(start),
-    ))
+    let time = between(start, now(rt))?;
+    Some((count_done(outcomes.as_slice()), time))
 }
 
 fn count_done(outcomes: &[Outcome]) -> u64 {
@@ -100,13 +96,11 @@ fn gathered(alloc: Global, plan: Plan) -> Option<Gathered<Reader>> {
     gather_in_order(alloc, uploads, quota, schedule.as_slice()).ok()
 }
 
-// It has that page at the address of all visits.
-fn site(alloc: Global) -> Option<Table> {
-    let value = Value::from_str(alloc, PAGE).ok()?;
-    let page = Page::from_value(alloc, &value).ok()?;
+// It has the visit's page at the address of all visits.
+fn site(alloc: Global, visit: &Visit) -> Option<Table> {
+    let address = Text::from_str(alloc, ADDRESS).ok()?;
     let mut site = Table::new(alloc);
-    site.add_page(Text::from_str(alloc, ADDRESS).ok()?, page)
-        .ok()?;
+    site.add_page(address, visit.page.copy().ok()?).ok()?;
     Some(site)
 }
 

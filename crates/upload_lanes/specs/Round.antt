@@ -1,5 +1,5 @@
 -- What a round of lanes gives, taken in turn as a schedule says: this project's own rule.
-use Rattle.std.specs.Prelude.{◌≡◌, ℕ, ◌+◌, ◌<◌, List, [], ◌∷◌, length, map, take, Bool, true, false, ◌||◌, ◌==◌, if◌then◌else◌, bytes_eq, is_some, count_by, slice_get, Option, Some, None}
+use Rattle.std.specs.Prelude.{◌≡◌, ◌≢◌, ℕ, ◌+◌, ◌<◌, List, [], ◌∷◌, length, map, take, Bool, true, false, ◌||◌, ◌==◌, if◌then◌else◌, bytes_eq, is_some, count_by, slice_get, Option, Some, None}
 use Rattle.std.specs.List.{list_all, list_any}
 use Rattle.std.specs.Option.{option_map_or}
 use Rattle.indexmap.specs.IndexMap.{get, insert_all, IsUnchanged}
@@ -11,6 +11,7 @@ use Rattle.client_log.specs.Log.{empty_log}
 use Rattle.upload_lanes.specs.Lane.{IsTaken}
 use Rattle.upload_lanes.specs.declared.fault.GatherFault.{GatherFault}
 use Rattle.upload_lanes.specs.declared.fault.GatherFault.TheVariants as fault
+use Rattle.upload_lanes.specs.declared.fault.RefusedRound.{RefusedRound}
 use Rattle.upload_lanes.specs.declared.gathered.Gathered.{Gathered}
 use Rattle.upload_lanes.specs.declared.gathered.LaneResult.{LaneResult}
 use Rattle.upload_lanes.specs.declared.gathered.Stop.{Stop}
@@ -137,9 +138,10 @@ module _ {R : Type 0} where
   abbrev pub IsFirst : (Gathered R → Type 0) → Type 0
   IsFirst Gathering = (earlier : Gathered R) × (earlier.clients.entries ≡ []) × Gathering earlier
 
--- The round is refused for that, and what was gathered before comes back.
-pub record RefusesRound {R : Type 0} (earlier : Gathered R) (uploads : List (UploadState R)) (fault : GatherFault)
-    (back : Gathered R) : Type 0 where
-  pub why : IsNoRound uploads fault
-  pub clients : IsUnchanged earlier.clients back.clients
-  pub stop : back.stop ≡ earlier.stop
+-- The round is refused for that. What was gathered before comes back, and the uploads too where memory isn't why.
+pub record RefusesRound {R : Type 0} (earlier : Gathered R) (uploads : List (UploadState R))
+    (again : RefusedRound R) : Type 0 where
+  pub why : IsNoRound uploads again.fault
+  pub clients : IsUnchanged earlier.clients again.earlier.clients
+  pub stop : again.earlier.stop ≡ earlier.stop
+  pub unread : again.fault ≢ fault.NoMemory → again.uploads.items ≡ uploads

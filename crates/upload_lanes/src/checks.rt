@@ -23,8 +23,8 @@ pub(crate) fn check_round<R: Source>(uploads: &[Upload<R>]) -> Result<(), Gather
     Ok(())
 }
 
-/// Whether two of these uploads are of one client. It compares each with each: a round has 16 at most.
-pub fn has_twice<R: Source>(uploads: &[Upload<R>]) -> bool
+// Whether two of these uploads are of one client. It compares each with each: a round has 16 at most.
+fn has_twice<R: Source>(uploads: &[Upload<R>]) -> bool
     ensures { result ≡ has_twice (clients_of uploads.now) }
 {
     let mut rest = uploads;

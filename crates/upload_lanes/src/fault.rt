@@ -4,9 +4,10 @@ ghost use Rattle.upload_lanes.specs.Fault.{gather_fault_code};
 
 use crate::gathered::Gathered;
 use byte_streams::Source;
-use std::alloc::AllocError;
+use std::alloc::Global;
 use std::error::Error;
 use std::fmt;
+use upload_reader::Upload;
 
 /// Why there is no round. Its text is its code, as `G1`.
 #[derive(Clone, Copy, Debug, PartialEq, Eq)]
@@ -24,6 +25,20 @@ pub enum GatherFault {
 pub struct RefusedRound<R: Source> {
     pub fault: GatherFault,
     pub earlier: Gathered<R>,
+    /// The round's uploads, of which no message was asked for. Where memory was refused they are gone.
+    pub uploads: Vec<Upload<R>>,
+}
+
+/// The round is refused for want of memory.
+pub(crate) fn no_memory<R: Source>(alloc: Global, earlier: Gathered<R>) -> RefusedRound<R>
+    ensures fault { result.fault ≡ NoMemory }
+    ensures earlier { result.earlier ≡ earlier }
+{
+    RefusedRound {
+        fault: GatherFault::NoMemory,
+        earlier,
+        uploads: Vec::new(alloc),
+    }
 }
 
 impl fmt::Display for GatherFault {
@@ -39,11 +54,3 @@ impl fmt::Display for GatherFault {
 }
 
 impl Error for GatherFault {}
-
-impl From<AllocError> for GatherFault {
-    ghost from_gives = { λ _ e. e ≡ NoMemory };
-
-    fn from(_: AllocError) -> GatherFault {
-        GatherFault::NoMemory
-    }
-}

@@ -1,7 +1,7 @@
 //! What the uploaders of a round wait for before they read.
 use std::sync::{OnceLock, Wait};
 
-/// Opened once all threads of a round were started, or shut where one could not be: no upload is read before.
+/// Opened once all threads of a round were started, or shut where one could not be: no message is asked for before.
 #[derive(Drop)]
 pub(crate) struct Gate {
     open: OnceLock<bool>,

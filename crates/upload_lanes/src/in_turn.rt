@@ -5,7 +5,8 @@ ghost use Rattle.upload_reader.specs.Upload.{IsUntouched};
 ghost use Rattle.upload_lanes.specs.Round.{GathersInTurn, IsFirst, IsNoRound, RefusesRound};
 ghost use Rattle.upload_lanes.specs.inside.Lanes.{one_more, only, none, HaveFewTaken, AskLanes, FollowsSchedule};
 
-use crate::fault::{GatherFault, RefusedRound};
+use crate::checks::check_round;
+use crate::fault::{GatherFault, RefusedRound, no_memory};
 use crate::gathered::{Gathered, LaneResult, Stop};
 use crate::lane::have_ended;
 use crate::round::{begin_round, put_back, rest_all};
@@ -35,7 +36,8 @@ pub fn gather_in_order<R: Source + Drop>(
 }
 
 /// A later round. A client that is known goes on behind its log and the session of that, with its own quota; a new one begins with this quota. Known clients
-/// stand first, in their order. One without a lane keeps its log. Where there is no round, what was gathered before comes back.
+/// stand first, in their order. One without a lane keeps its log. Where there is no round, what was gathered before comes back, and the uploads too where
+/// memory isn't why.
 pub fn gather_again_in_order<R: Source + Drop>(
     alloc: Global,
     earlier: Gathered<R>,
@@ -45,11 +47,18 @@ pub fn gather_again_in_order<R: Source + Drop>(
 ) -> Result<Gathered<R>, RefusedRound<R>>
     requires untouched { AllByRecursion IsUntouched uploads.items }
     ensures ok { IfOk result (λ gathered. GathersInTurn earlier uploads.items quota schedule.now gathered) }
-    ensures refused { IfErr result (λ again. RefusesRound earlier uploads.items again.fault again.earlier) }
+    ensures refused { IfErr result (RefusesRound earlier uploads.items) }
 {
+    if let Err(fault) = check_round(uploads.as_slice()) {
+        return Err(RefusedRound {
+            fault,
+            earlier,
+            uploads,
+        });
+    }
     let mut earlier = earlier;
     match begin_round(alloc, &mut earlier.clients, uploads, quota) {
-        Err(fault) => Err(RefusedRound { fault, earlier }),
+        Err(_) => Err(no_memory(alloc, earlier)),
         Ok(lanes) => {
             let mut lanes = lanes;
             let stop = take_all(lanes.as_mut_slice(), schedule);

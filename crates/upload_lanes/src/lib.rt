@@ -26,7 +26,6 @@ mod sent;
 mod threads;
 mod uploader;
 
-pub use checks::has_twice;
 pub use fault::{GatherFault, RefusedRound};
 pub use gathered::{Gathered, LaneResult, Stop};
 pub use in_turn::{gather_again_in_order, gather_in_order};

@@ -41,7 +41,7 @@ struct Sending<R: Source> {
     uploads: Vec<PromisedHandle<Uploaded<R>, Uploads<R>>>,
 }
 
-/// Starts the threads of these lanes. The uploaders wait at the gate.
+/// Starts the threads of these lanes. The uploaders wait at the gate. Where one can't be started, those before it find the gate shut.
 pub(crate) fn start_party<'s, E, H: Halt + 's, R: Source + Drop + Send + 's, W: Wait + Sync>(
     scope: &Scope<'s, E>,
     rt: &'s W,
@@ -149,7 +149,7 @@ pub(crate) fn join_party<H: Halt, R: Source + Drop, T: Threads + Wait>(
     (lanes, stop)
 }
 
-/// Ends the lanes of uploaders that found the gate shut, so that their recorder ends.
+/// Ends the lanes of uploaders that found the gate shut, so that their recorder ends; the scope waits for it.
 pub(crate) fn end_party<H: Halt, R: Source + Drop, T: Threads + Wait>(rt: &T, party: Party<H, R>)
     requires { IsRunning party }
 {

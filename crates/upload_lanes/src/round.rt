@@ -3,12 +3,10 @@ ghost use Rattle.std.specs.Prelude.{◌≡◌, ◌+◌, ◌≤◌, ◌<◌, leng
 ghost use Rattle.std.specs.List.{AllByRecursion};
 ghost use Rattle.indexmap.specs.IndexMap.{get, spare, insert_entry, insert_all, set_value_at, IsUnchanged};
 ghost use Rattle.upload_reader.specs.Upload.{IsUntouched};
-ghost use Rattle.upload_lanes.specs.Round.{IsRound, IsNoRound, resumed, rested, all_rested};
+ghost use Rattle.upload_lanes.specs.Round.{resumed, rested, all_rested};
 ghost use Rattle.upload_lanes.specs.inside.Lanes.{new_lane, begun_lane};
 ghost use Rattle.upload_lanes.specs.declared.gathered.LaneResult.{LaneResult};
 
-use crate::checks::check_round;
-use crate::fault::GatherFault;
 use crate::gathered::LaneResult;
 use byte_streams::Source;
 use client_log::{ClientLog, Quota};
@@ -23,15 +21,12 @@ pub(crate) fn begin_round<R: Source + Drop>(
     clients: &mut IndexMap<Client, LaneResult<R>>,
     uploads: Vec<Upload<R>>,
     quota: Quota,
-) -> Result<Vec<(Client, LaneResult<R>)>, GatherFault>
+) -> Result<Vec<(Client, LaneResult<R>)>, NoMemory>
     requires untouched { AllByRecursion IsUntouched uploads.items }
     ensures same { IsUnchanged clients.old clients.new }
-    ensures round { IfOk result (λ _. IsRound uploads.items) }
     ensures lanes { IfOk result (λ lanes. lanes.items ≡ map (begun_lane (get bytes_eq clients.old) quota) uploads.items) }
     ensures room { IfOk result (λ lanes. length lanes.items ≤ spare clients.new) }
-    ensures refused { IfErr result (IsNoRound uploads.items) }
 {
-    check_round(uploads.as_slice())?;
     let lanes = begin_all(alloc, clients, uploads, quota)?;
     clients.reserve(lanes.len())?;
     Ok(lanes)

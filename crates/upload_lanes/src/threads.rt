@@ -9,7 +9,8 @@ ghost use Rattle.upload_lanes.specs.Threads.{recorders_of, AreTaken, Gathers, Ga
 ghost use Rattle.upload_lanes.specs.inside.Lanes.{IsFreshLane, TakeLanes};
 
 use crate::alone::take_only;
-use crate::fault::{GatherFault, RefusedRound};
+use crate::checks::check_round;
+use crate::fault::{GatherFault, RefusedRound, no_memory};
 use crate::gathered::{Gathered, LaneResult, Stop};
 use crate::halt::{Asks, Halt};
 use crate::parties::take_hands;
@@ -18,6 +19,7 @@ use byte_streams::Source;
 use client_log::Quota;
 use indexmap::IndexMap;
 use lane_queue::Room;
+use page_tree::NoMemory;
 use round_robin::{collect, deal};
 use std::alloc::{AllocError, Global};
 use std::sync::Wait;
@@ -55,7 +57,8 @@ pub fn gather<
 }
 
 /// A later round. A client that is known goes on behind its log and the session of that, with its own quota; a new one begins with this quota. Known clients
-/// stand first, in their order. One without a lane keeps its log. Where there is no round, what was gathered before comes back.
+/// stand first, in their order. One without a lane keeps its log. Where there is no round, what was gathered before comes back, and the uploads too where
+/// memory isn't why.
 pub fn gather_again<
     H: Fn(u64) -> bool + Sync,
     R: Source + Drop + Send,
@@ -71,8 +74,15 @@ pub fn gather_again<
     requires untouched { AllByRecursion IsUntouched uploads.items }
     requires halt { (n : ℕ) → n ≤ max_items → H.pre halt.now n }
     ensures ok { IfOk result (λ gathered. Gathers (H.post halt.now) earlier uploads.items quota gathered) }
-    ensures refused { IfErr result (λ again. RefusesRound earlier uploads.items again.fault again.earlier) }
+    ensures refused { IfErr result (RefusesRound earlier uploads.items) }
 {
+    if let Err(fault) = check_round(uploads.as_slice()) {
+        return Err(RefusedRound {
+            fault,
+            earlier,
+            uploads,
+        });
+    }
     let mut earlier = earlier;
     match take_round(
         rt,
@@ -83,7 +93,7 @@ pub fn gather_again<
         room,
         &Asks { halt },
     ) {
-        Err(fault) => Err(RefusedRound { fault, earlier }),
+        Err(_) => Err(no_memory(rt.alloc(), earlier)),
         Ok((lanes, stop)) => {
             rest_all(&mut earlier.clients);
             put_back(&mut earlier.clients, lanes);
@@ -102,15 +112,14 @@ fn take_round<H: Halt, R: Source + Drop + Send, T: Threads + Wait + Sync>(
     quota: Quota,
     room: Room,
     halt: &H,
-) -> Result<(Vec<(Client, LaneResult<R>)>, Stop), GatherFault>
+) -> Result<(Vec<(Client, LaneResult<R>)>, Stop), NoMemory>
     requires untouched { AllByRecursion IsUntouched uploads.items }
+    requires round { IsRound uploads.items }
     requires halt { (n : ℕ) → n ≤ max_items → H.may halt.now n }
     ensures same { IsUnchanged clients.old clients.new }
-    ensures round { IfOk result (λ _. IsRound uploads.items) }
     ensures taken { IfOk result (λ taken.
         AreTaken (H.allows halt.now) (get bytes_eq clients.old) quota uploads.items taken.0.items taken.1) }
     ensures room { IfOk result (λ taken. length taken.0.items ≤ spare clients.new) }
-    ensures refused { IfErr result (IsNoRound uploads.items) }
 {
     let lanes = begin_round(alloc, clients, uploads, quota)?;
     Ok(take_lanes(rt, alloc, lanes, room, halt)?)

@@ -4,7 +4,8 @@ ghost use Rattle.std.specs.List.{AllByRecursion};
 ghost use Rattle.upload_reader.specs.Upload.{IsUntouched};
 
 use crate::tests::{
-    BYE, CLICK, END, LOAD, Reader, THREE_CLICKS, add_lines, begin, client_name, hello, many, told,
+    BYE, CLICK, END, LOAD, Reader, THREE_CLICKS, add_lines, begin, client_name, hello, many, tells,
+    told,
 };
 use crate::thread_tests::{are_whole, is_whole, items_by_recorder, take_until};
 use byte_streams::Fed;
@@ -95,11 +96,8 @@ fn are_same(
     gathered: &Gathered<Reader>,
     in_turn: &Gathered<Reader>,
 ) -> Result<(), Fail> {
-    let text = told(alloc, gathered)?;
-    let want = told(alloc, in_turn)?;
-    assert_eq!(rt; text.as_str(), want.as_str());
     assert!(rt; have_same_logs(alloc, gathered, in_turn)?);
-    Ok(())
+    tells(rt, alloc, gathered, told(alloc, in_turn)?.as_str())
 }
 
 // ---- many messages

@@ -133,18 +133,6 @@ fn each_lane_has_its_own_end(rt: HostRuntime) -> Result<(), Fail> {
 
 // ---- recorders that are stopped
 
-// What becomes of a lane of five messages whose taking is stopped at so many items, and why that stopped.
-const UNTIL: &[(u64, &str, &str)] = &[
-    (0, "taken 0 end None", "Asked"),
-    (1, "taken 1 end None visit 1 events 0 ended false", "Asked"),
-    (3, "taken 3 end None visit 1 events 2 ended false", "Asked"),
-    (5, "taken 5 end None visit 1 events 3 ended true", "Asked"),
-    // The end is an item too, behind which there is no question.
-    (6, WHOLE, "None"),
-    (7, WHOLE, "None"),
-    (NEVER, WHOLE, "None"),
-];
-
 fn stops<T: AllocGlobal + Threads + Wait + Abort + Sync>(
     rt: &T,
     lanes: u32,
@@ -155,23 +143,44 @@ fn stops<T: AllocGlobal + Threads + Wait + Abort + Sync>(
     tells(rt, rt.alloc(), &gathered, want)
 }
 
-// Each of two lanes has a recorder.
-#[test]
-fn a_recorder_is_stopped_at_that_many_items(rt: HostRuntime) -> Result<(), Fail> {
-    for &(items, lane, stop) in UNTIL {
-        let want = format!(in rt.alloc(); "c1 {lane}; c2 {lane}; stop {stop}")?;
-        stops(&rt, 2, items, want.as_str())?;
-    }
-    Ok(())
+// What becomes of a lane of five messages whose taking is stopped at so many items, alone and beside another one with a recorder of its own.
+fn stop<T: AllocGlobal + Threads + Wait + Abort + Sync>(
+    rt: &T,
+    items: u64,
+    lane: &str,
+    stop: &str,
+) -> Result<(), Fail> {
+    let one = format!(in rt.alloc(); "c1 {lane}; stop {stop}")?;
+    stops(rt, 1, items, one.as_str())?;
+    let two = format!(in rt.alloc(); "c1 {lane}; c2 {lane}; stop {stop}")?;
+    stops(rt, 2, items, two.as_str())
 }
 
 #[test]
-fn one_lane_is_taken_until_the_question(rt: HostRuntime) -> Result<(), Fail> {
-    for &(items, lane, stop) in UNTIL {
-        let want = format!(in rt.alloc(); "c1 {lane}; stop {stop}")?;
-        stops(&rt, 1, items, want.as_str())?;
-    }
-    Ok(())
+fn a_recorder_is_stopped_at_that_many_items(rt: HostRuntime) -> Result<(), Fail> {
+    stop(&rt, 0, "taken 0 end None", "Asked")?;
+    stop(
+        &rt,
+        1,
+        "taken 1 end None visit 1 events 0 ended false",
+        "Asked",
+    )?;
+    stop(
+        &rt,
+        3,
+        "taken 3 end None visit 1 events 2 ended false",
+        "Asked",
+    )?;
+    stop(
+        &rt,
+        5,
+        "taken 5 end None visit 1 events 3 ended true",
+        "Asked",
+    )?;
+    // The end is an item too, behind which there is no question.
+    stop(&rt, 6, WHOLE, "None")?;
+    stop(&rt, 7, WHOLE, "None")?;
+    stop(&rt, NEVER, WHOLE, "None")
 }
 
 // How many items were taken of that lane: its messages and its end.
@@ -194,8 +203,7 @@ pub(crate) fn items_by_recorder(gathered: &Gathered<Reader>) -> [u64; 4] {
 
 // Such a lane came to its end.
 pub(crate) fn is_whole<R: Source>(rt: &impl Abort, lane: &LaneResult<R>, taken: u64) {
-    assert_eq!(rt; lane.taken, taken);
-    assert_eq!(rt; lane.end, Some(Ending::Over(LaneEnd::Bye)));
+    assert!(rt; lane.taken == taken && lane.end == Some(Ending::Over(LaneEnd::Bye)));
 }
 
 // All of so many lanes did.
@@ -205,8 +213,7 @@ pub(crate) fn are_whole<R: Source>(
     lanes: usize,
     taken: u64,
 ) {
-    assert_eq!(rt; gathered.stop, Stop::None);
-    assert_eq!(rt; gathered.clients.len(), lanes);
+    assert!(rt; gathered.stop == Stop::None && gathered.clients.len() == lanes);
     for lane in gathered.clients.values() {
         is_whole(rt, lane, taken);
     }
@@ -216,8 +223,8 @@ pub(crate) fn are_whole<R: Source>(
 #[test]
 fn a_recorder_that_is_stopped_leaves_the_others_alone(rt: HostRuntime) -> Result<(), Fail> {
     let gathered = take_until(&rt, many(rt.alloc(), 5, THREE_CLICKS)?, 2, 6)?;
-    assert_eq!(rt; gathered.stop, Stop::Asked);
-    assert_eq!(rt; items_by_recorder(&gathered), [6, 6, 6, 6]);
+    assert!(rt; gathered.stop == Stop::Asked);
+    assert!(rt; items_by_recorder(&gathered) == [6, 6, 6, 6]);
     for lane in gathered.clients.values().skip(1).take(3) {
         is_whole(&rt, lane, 5);
     }
@@ -243,21 +250,22 @@ fn fault_of<T: AllocGlobal + Threads + Wait + Sync>(
     Ok(gather(rt, uploads, quota, room, &halt).err())
 }
 
-// The fault of a round with so many lanes.
-const COUNTS: &[(u32, Option<GatherFault>)] = &[
-    (0, Some(GatherFault::BadLanes)),
-    (1, None),
-    (2, None),
-    (16, None),
-    (17, Some(GatherFault::BadLanes)),
-];
+// That of a round with so many lanes.
+fn fault_of_many<T: AllocGlobal + Threads + Wait + Sync>(
+    rt: &T,
+    lanes: u32,
+) -> Result<Option<GatherFault>, Fail> {
+    fault_of(rt, many(rt.alloc(), lanes, ONE_CLICK)?)
+}
 
 // G1
 #[test]
 fn refuses_no_lane_and_more_than_16(rt: HostRuntime) -> Result<(), Fail> {
-    for &(lanes, want) in COUNTS {
-        let fault = fault_of(&rt, many(rt.alloc(), lanes, ONE_CLICK)?)?;
-        assert_eq!(rt; fault, want);
+    for lanes in [0, 17] {
+        assert!(rt; fault_of_many(&rt, lanes)? == Some(GatherFault::BadLanes));
+    }
+    for lanes in [1, 2, 16] {
+        assert!(rt; fault_of_many(&rt, lanes)?.is_none());
     }
     Ok(())
 }
@@ -266,7 +274,7 @@ fn refuses_no_lane_and_more_than_16(rt: HostRuntime) -> Result<(), Fail> {
 #[test]
 fn refuses_two_lanes_of_a_client(rt: HostRuntime) -> Result<(), Fail> {
     let twice = uploads(rt.alloc(), &[("c1", THREE_CLICKS), ("c1", THREE_CLICKS)])?;
-    assert_eq!(rt; fault_of(&rt, twice)?, Some(GatherFault::DuplicateClient));
+    assert!(rt; fault_of(&rt, twice)? == Some(GatherFault::DuplicateClient));
     Ok(())
 }
 

@@ -6,7 +6,6 @@ use Rattle.std.specs.Cmp.Lexicographic.{nat_list_eq_equiv}
 use Rattle.std.proofs.lemmas.Bool.{cond-true, cond-false, or_parts}
 use Rattle.indexmap.specs.IndexMap.{get, insert_all, insert_entry}
 use Rattle.indexmap.proofs.MapLemmas.{insert_entry-absent, absent_from_lookup, absent_before}
-use Rattle.visit_replay.specs.RepairedSite.{RepairedSite}
 use Rattle.upload_reader.specs.Upload.{UploadState}
 use Rattle.conflict_desk.specs.Book.{Book, with_decision}
 use Rattle.conflict_desk.specs.Desk.{Books, book_of, decided_on, decided_in, refusal, unless_refused, after_call, after_calls, new_books}

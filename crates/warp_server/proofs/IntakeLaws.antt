@@ -1,9 +1,9 @@
 -- What reading the site line and the hello behind it gives, by how lines are cut.
-use Rattle.std.proofs.Common.{◌≡◌, ℕ, List, drop, Option, Some, Result, Ok, Err, refl, sym, subst, ◌∙◌, inl, inr}
+use Rattle.std.proofs.Common.{◌≡◌, ℕ, List, Option, Some, Ok, Err, refl, sym, subst, ◌∙◌, inl, inr}
 use Rattle.serde_json.specs.Data.{Data}
 use Rattle.byte_streams.specs.Answers.{Answer}
 use Rattle.byte_streams.specs.Cutting.{ending_of, StopsAtEnd}
-use Rattle.byte_streams.specs.Reading.{Reading, ReadsWhile, Advances, Tells, input}
+use Rattle.byte_streams.specs.Reading.{Reading, ReadsWhile, Advances, input}
 use Rattle.byte_streams.specs.Writing.{CallWrites, WritesNothing}
 use Rattle.byte_streams.specs.declared.fault.LineFault.{LineFault}
 use Rattle.upload_reader.specs.Upload as upload

@@ -8,13 +8,13 @@ use Rattle.byte_streams.specs.declared.fault.LineFault.{LineFault}
 use Rattle.byte_streams.proofs.CutLaws.{cut_longer}
 use Rattle.byte_streams.proofs.ReadingLaws.{bytes_of-append, made_then}
 use Rattle.upload_reader.specs.Greeting.{Greeting, IsGreetingOf}
-use Rattle.upload_reader.specs.Stream.{Costed, StreamStart, IsStreamOf}
+use Rattle.upload_reader.specs.Stream.{Costed, IsStreamOf}
 use Rattle.upload_reader.specs.Upload.{UploadState, Begins, NotGreeted}
 use Rattle.upload_reader.specs.declared.hello_fault.HelloFault.{HelloFault}
 use Rattle.site_line.specs.Site.{Site as PlainSite, IsSiteLine}
 use Rattle.site_line.specs.declared.site.Site.{Site}
 use Rattle.upload_lanes.specs.Lane.{NotOver}
-use Rattle.warp_server.specs.program.Run.{site_line, max_site_bytes, HasReport, HasBadSite, Opening, IsUndecided, ReadWhileUndecided}
+use Rattle.warp_server.specs.program.Run.{site_line, max_site_bytes, HasReport, Opening, IsUndecided, ReadWhileUndecided}
 use Rattle.warp_server.specs.program.Callers.{unread}
 use Rattle.warp_server.specs.inside.Intake.{IsBehindSite}
 use Rattle.warp_server.proofs.OpeningLaws.{greets, lane_place, same_lines, same_said, greeting_once, end_once, opens_stays}

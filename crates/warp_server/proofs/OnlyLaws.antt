@@ -1,5 +1,5 @@
 -- A round with one lane, whose recorder is never asked to stop.
-use Rattle.std.proofs.Common.{◌≡◌, ℕ, List, [], ◌∷◌, Bool, true, false, is_some, bytes_eq, Option, Some, None, inl, inr, ◌⊎◌, refl, sym, ap, subst, ◌∙◌, true≢false}
+use Rattle.std.proofs.Common.{◌≡◌, ℕ, List, [], ◌∷◌, Bool, false, is_some, bytes_eq, Option, Some, None, inl, inr, ◌⊎◌, refl, sym, ap, subst, ◌∙◌, true≢false}
 use Rattle.std.specs.Prelude.{IsSome}
 use Rattle.std.specs.Map.{lookup}
 use Rattle.std.proofs.Math.Bool.{and-true}

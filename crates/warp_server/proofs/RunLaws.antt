@@ -10,7 +10,7 @@ use Rattle.byte_streams.specs.Cutting.{ending_of, StopsAtEnd}
 use Rattle.byte_streams.specs.Reading.{input}
 use Rattle.byte_streams.specs.Writing.{CallWrites}
 use Rattle.byte_streams.specs.declared.fault.LineFault.{LineFault}
-use Rattle.upload_reader.specs.Stream.{Costed, StreamStart, Stream, IsStreamOf, BeginsWith}
+use Rattle.upload_reader.specs.Stream.{Costed, Stream, IsStreamOf, BeginsWith}
 use Rattle.upload_reader.specs.Upload.{UploadState}
 use Rattle.upload_reader.specs.declared.ending.Ending.{Ending}
 use Rattle.upload_reader.specs.declared.ending.Ending.TheVariants.{Over, GaveUp}
@@ -26,7 +26,6 @@ use Rattle.visit_replay.specs.declared.outcome.Outcome.{Outcome}
 use Rattle.visit_replay.specs.declared.outcome.Outcome.TheVariants.{Untouched}
 use Rattle.visit_replay.specs.Following.{Replayed, following, outcomes}
 use Rattle.visit_replay.specs.RepairedSite.{RepairedSite}
-use Rattle.conflict_desk.specs.declared.docket.Case.{Case}
 use Rattle.site_line.specs.Site.{Site as PlainSite}
 use Rattle.site_line.specs.Reading.{AnswersAs, site_quota, site_decisions}
 use Rattle.site_line.specs.declared.site.Site.{Site}
@@ -49,7 +48,6 @@ use Rattle.warp_server.specs.inside.Answering.{written_status}
 use Rattle.warp_server.specs.inside.Intake.{IsOpened}
 use Rattle.warp_server.specs.declared.program.status.Status.{Status}
 use Rattle.warp_server.specs.declared.program.status.Status.TheVariants.{Done, OutOfMemory}
-use Rattle.warp_server.proofs.OpeningLaws.{lane_place}
 use Rattle.warp_server.proofs.NeededLaws.{goes_nowhere, opening, start_is, lane_needed}
 use Rattle.warp_server.proofs.IntakeLaws.{given_back}
 use Rattle.warp_server.proofs.OnlyLaws.{IsWholeLane, HasEnded}

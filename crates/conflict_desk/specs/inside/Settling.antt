@@ -6,7 +6,8 @@ use Rattle.conflict_desk.specs.inside.Links.{Follows}
 use Rattle.conflict_desk.specs.declared.docket.Case.{Case}
 use Rattle.conflict_desk.specs.declared.links.Link.{Link}
 
--- the flags before that place say it
+-- `said k` is a statement of the case at place k, in the code that its visit is cancelled; the flags before that place
+-- say it
 abbrev pub Tell : (ℕ → Bool) → ℕ → List Bool → Type 0
 Tell said to flags = (k : ℕ) → k < to → slice_index_or flags k false ≡ said k
 

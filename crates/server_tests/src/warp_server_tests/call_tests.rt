@@ -69,10 +69,12 @@ fn called(alloc: Global, words: &[&str]) -> Result<Vec<String>, AllocError> {
     Ok(called)
 }
 
-// What a call with these words is understood as.
-fn understood(alloc: Global, words: &[&str]) -> Result<String, AllocError> {
-    let called = called(alloc, words)?;
-    shown(alloc, accept_call(Ok(called.into_iter())))
+// A call with these words is understood so.
+fn means(rt: &impl Asserts, words: &[&str], meaning: &str) -> Result<(), AllocError> {
+    let called = called(rt.alloc(), words)?;
+    let shown = shown(rt.alloc(), accept_call(Ok(called.into_iter())))?;
+    assert!(rt; shown.as_str() == meaning, "{shown}, not {meaning}");
+    Ok(())
 }
 
 fn shown(alloc: Global, call: Result<Call, CallFault>) -> Result<String, AllocError> {
@@ -90,7 +92,7 @@ fn shown(alloc: Global, call: Result<Call, CallFault>) -> Result<String, AllocEr
 #[test]
 fn takes_words_that_have_a_meaning(rt: HostRuntime) -> Result<(), Fail> {
     for &(words, meaning) in TAKEN {
-        assert_eq!(rt; understood(rt.alloc(), words)?.as_str(), meaning);
+        means(&rt, words, meaning)?;
     }
     Ok(())
 }
@@ -99,20 +101,14 @@ fn takes_words_that_have_a_meaning(rt: HostRuntime) -> Result<(), Fail> {
 fn needs_no_name(rt: HostRuntime) -> Result<(), Fail> {
     let alloc = rt.alloc();
     let nothing = accept_call(Ok(Vec::new(alloc).into_iter()));
-    assert_eq!(rt; shown(alloc, nothing)?.as_str(), "run");
-    Ok(())
-}
-
-fn refuses(rt: &impl Asserts, words: &[&str]) -> Result<(), Fail> {
-    let understood = understood(rt.alloc(), words)?;
-    assert_eq!(rt; understood.as_str(), USAGE, "{words:?}");
+    assert!(rt; shown(alloc, nothing)?.as_str() == "run");
     Ok(())
 }
 
 #[test]
 fn refuses_other_words(rt: HostRuntime) -> Result<(), Fail> {
     for words in NO_CALLS {
-        refuses(&rt, words)?;
+        means(&rt, words, USAGE)?;
     }
     Ok(())
 }
@@ -120,7 +116,7 @@ fn refuses_other_words(rt: HostRuntime) -> Result<(), Fail> {
 #[test]
 fn refuses_other_numbers(rt: HostRuntime) -> Result<(), Fail> {
     for &(port, lanes, rounds) in NO_NUMBERS {
-        refuses(&rt, &["listen", port, lanes, "f", rounds])?;
+        means(&rt, &["listen", port, lanes, "f", rounds], USAGE)?;
     }
     Ok(())
 }
@@ -128,17 +124,17 @@ fn refuses_other_numbers(rt: HostRuntime) -> Result<(), Fail> {
 #[test]
 fn takes_no_word_that_is_no_text(rt: HostRuntime) -> Result<(), Fail> {
     let unread = io::Error::from(ErrorKind::InvalidData);
-    assert_eq!(rt; accept_call(Err(unread)).err(), Some(CallFault::Words));
+    assert!(rt; accept_call(Err(unread)).err() == Some(CallFault::Words));
     let refused = io::Error::from(ErrorKind::OutOfMemory);
-    assert_eq!(rt; accept_call(Err(refused)).err(), Some(CallFault::NoMemory));
+    assert!(rt; accept_call(Err(refused)).err() == Some(CallFault::NoMemory));
     Ok(())
 }
 
 #[test]
 fn answers_words_with_status_2_and_the_usage(rt: HostRuntime) -> Result<(), Fail> {
-    assert_eq!(rt; CallFault::Words.code(), 2);
-    assert_eq!(rt; CallFault::Words.line(), USAGE);
-    assert_eq!(rt; CallFault::NoMemory.code(), 5);
-    assert_eq!(rt; CallFault::NoMemory.line(), "no memory");
+    assert!(rt; CallFault::Words.code() == 2);
+    assert!(rt; CallFault::Words.line() == USAGE);
+    assert!(rt; CallFault::NoMemory.code() == 5);
+    assert!(rt; CallFault::NoMemory.line() == "no memory");
     Ok(())
 }

@@ -1,5 +1,5 @@
 use crate::fixtures::{
-    Asserts, BYE, CHILD, CLICK, END, GRANDCHILD, LOAD, MOVED_SITE, Reader, Runs, assert_front,
+    BYE, CHILD, CLICK, GRANDCHILD, HELLO, LOAD, Lanes, MOVED_SITE, Reader, Runs, SECOND_CLICK,
     reported, uploads,
 };
 use client_log::Quota;
@@ -11,10 +11,7 @@ use upload_lanes::{Gathered, gather_in_order};
 use warp_server::{Repaired, repair};
 
 // The first client's click opened a second visit and this a third; the second client only clicked.
-const LANES: &[(&str, &[&str])] = &[
-    ("c1", &[LOAD, CLICK, CHILD, GRANDCHILD, BYE]),
-    ("c2", &[LOAD, CLICK, END, BYE]),
-];
+const LANES: Lanes = &[&[HELLO, LOAD, CLICK, CHILD, GRANDCHILD, BYE], SECOND_CLICK];
 
 const BOTH_WHOLE: &[u32] = &[0, 1, 1, 0, 0, 1, 0, 1, 0];
 
@@ -29,25 +26,33 @@ fn gathered(alloc: Global, schedule: &[u32]) -> Result<Gathered<Reader>, Fail> {
     gather_in_order(alloc, uploads, Quota::new(1_048_576)?, schedule).map_err(Fail::from)
 }
 
-// Why so many workers repair nothing of this, if so.
-fn fault_of(
+fn repaired(
     rt: &impl Runs,
     workers: u32,
     gathered: &Gathered<Reader>,
-) -> Result<Option<PoolFault>, Fail> {
+) -> Result<Result<Repaired, PoolFault>, Fail> {
     let site = Site::read(rt.alloc(), MOVED_SITE.as_bytes())?;
-    Ok(repair(rt, workers, site.table(), site.patch(), gathered).err())
+    Ok(repair(rt, workers, site.table(), site.patch(), gathered))
 }
 
-fn have_limits(rt: &impl Runs, gathered: &Gathered<Reader>) -> Result<(), Fail> {
-    for workers in [0, 33, u32::MAX] {
-        let fault = fault_of(rt, workers, gathered)?;
-        assert_eq!(rt; fault, Some(PoolFault::BadWorkers), "{workers} workers");
-    }
-    for workers in [1, 32] {
-        assert_eq!(rt; fault_of(rt, workers, gathered)?, None, "{workers} workers");
-    }
+// So many workers end so.
+fn ends(
+    rt: &impl Runs,
+    workers: u32,
+    gathered: &Gathered<Reader>,
+    fault: Option<PoolFault>,
+) -> Result<(), Fail> {
+    assert!(rt; repaired(rt, workers, gathered)?.err() == fault);
     Ok(())
+}
+
+// F1: no worker, or more than 32.
+fn have_limits(rt: &impl Runs, gathered: &Gathered<Reader>) -> Result<(), Fail> {
+    ends(rt, 0, gathered, Some(PoolFault::BadWorkers))?;
+    ends(rt, 33, gathered, Some(PoolFault::BadWorkers))?;
+    ends(rt, u32::MAX, gathered, Some(PoolFault::BadWorkers))?;
+    ends(rt, 1, gathered, None)?;
+    ends(rt, 32, gathered, None)
 }
 
 // Of two clients with visits, of two without, and of none.
@@ -58,35 +63,20 @@ fn workers_have_limits(rt: HostRuntime) -> Result<(), Fail> {
     have_limits(&rt, &Gathered::new(rt.alloc()))
 }
 
-fn repaired(rt: &impl Runs, workers: u32, schedule: &[u32]) -> Result<Repaired, Fail> {
-    let site = Site::read(rt.alloc(), MOVED_SITE.as_bytes())?;
+// That is the report on what so many workers repair.
+fn reports(rt: &impl Runs, workers: u32, schedule: &[u32], want: &str) -> Result<(), Fail> {
     let gathered = gathered(rt.alloc(), schedule)?;
-    Ok(repair(rt, workers, site.table(), site.patch(), &gathered)?)
-}
-
-// That is the report, however many workers; nothing is decided, and that visit of the first client waits.
-fn assert_repaired(
-    rt: &impl Asserts,
-    repaired: &Repaired,
-    workers: u32,
-    want: &str,
-    front: Option<u64>,
-) -> Result<(), Fail> {
-    let report = reported(rt.alloc(), repaired, 4096)?;
-    assert_eq!(rt; report.as_str(), want, "{workers} workers");
-    assert!(rt; repaired.decided.as_slice().is_empty());
-    assert_front(rt, &repaired.desk, "c1", front)?;
-    assert_front(rt, &repaired.desk, "c2", None)
+    let repaired = repaired(rt, workers, &gathered)??;
+    assert!(rt; reported(rt.alloc(), &repaired, 4096)?.as_str() == want);
+    Ok(())
 }
 
 // However many workers.
 #[test]
 fn repairs_each_client_in_its_order(rt: HostRuntime) -> Result<(), Fail> {
     for workers in [1, 3, 32] {
-        let whole = repaired(&rt, workers, BOTH_WHOLE)?;
-        assert_repaired(&rt, &whole, workers, REPORT, Some(2))?;
-        let nothing = repaired(&rt, workers, &[])?;
-        assert_repaired(&rt, &nothing, workers, NOTHING_TAKEN, None)?;
+        reports(&rt, workers, BOTH_WHOLE, REPORT)?;
+        reports(&rt, workers, &[], NOTHING_TAKEN)?;
     }
     Ok(())
 }

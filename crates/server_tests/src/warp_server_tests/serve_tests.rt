@@ -1,9 +1,12 @@
 ghost use Rattle.std.specs.Prelude.{◌≡◌, [], ◌∷◌, ◌++◌, IfSome, IfNone};
 ghost use Rattle.std.specs.Vec.{vec_len};
 
-use crate::fixtures::{BYE, CLICK, END, LOAD, REPORT, Runs, SITE, joined, with_hello};
+use crate::fixtures::{
+    BYE, CLICK, END, HELLO, LOAD, Lanes, ONE_CLICK, REPORT, Runs, SECOND_CLICK, SECOND_HELLO, SITE,
+    joined,
+};
 use byte_streams::Fed;
-use std::alloc::{AllocError, Global};
+use std::alloc::Global;
 use std::cell::Cell;
 use std::io;
 use std::io::ErrorKind;
@@ -12,30 +15,21 @@ use std::test::Fail;
 use stream_fakes::{Drip, Refusal, Sips};
 use warp_server::{Callers, Site, Status, Told, serve, serve_callers};
 
-// Who comes: a client with the lines behind its hello; or, without a client, lines that have no hello.
-type Coming = &'static [(Option<&'static str>, &'static [&'static str])];
-
 /// Answers each accept by the next caller's upload, in pieces of seven bytes. Behind the last it fails.
 #[derive(Drop)]
 struct Called {
     alloc: Global,
-    callers: Coming,
+    callers: Lanes,
     next: Cell<usize>,
 }
 
 impl Called {
-    fn text(&self, at: usize) -> io::Result<String> {
-        let Some(&(client, lines)) = self.callers.get(at) else {
+    fn upload(&self, at: usize) -> io::Result<Drip> {
+        let Some(&lines) = self.callers.get(at) else {
             return Err(io::Error::from(ErrorKind::ConnectionAborted));
         };
-        Ok(upload_text(self.alloc, client, lines)?)
-    }
-}
-
-fn upload_text(alloc: Global, client: Option<&str>, lines: &[&str]) -> Result<String, AllocError> {
-    match client {
-        Some(client) => with_hello(alloc, client, lines),
-        None => joined(alloc, lines),
+        let text = joined(self.alloc, lines)?;
+        Ok(Drip::new(self.alloc, text.as_bytes(), 7)?)
     }
 }
 
@@ -45,16 +39,14 @@ impl OpenListener for Called {
     fn accept(&self) -> io::Result<(Drip, SocketAddr)> {
         let at = self.next.get();
         self.next.set(at.saturating_add(1));
-        let text = self.text(at)?;
-        let upload = Drip::new(self.alloc, text.as_bytes(), 7)?;
-        Ok((upload, SocketAddr::from(([127, 0, 0, 1], 0))))
+        Ok((self.upload(at)?, SocketAddr::from(([127, 0, 0, 1], 0))))
     }
 }
 
 // How serving these callers ends, in rounds of so many lanes. Where there can be no round, the test has a mistake.
 fn served(
     rt: &impl Runs,
-    callers: Coming,
+    callers: Lanes,
     lanes: u32,
     rounds: u32,
     sips: &mut Sips,
@@ -73,104 +65,117 @@ fn served(
 
 // ---- one round and several
 
-const ONE_CLICK: &[&str] = &[LOAD, CLICK, END, BYE];
+const THIRD_CLICK: &[&str] = &[r#"{"t":"hello","client":"c3"}"#, LOAD, CLICK, END, BYE];
 
 const PLAIN_CLICK: &str = r#"{"t":"click","visit":1,"at":2,"target":"/html/body/a"}"#;
 
 // Breaks off behind two clicks.
-const TWO_CLICKS: &[&str] = &[LOAD, PLAIN_CLICK, PLAIN_CLICK];
+const TWO_CLICKS: &[&str] = &[HELLO, LOAD, PLAIN_CLICK, PLAIN_CLICK];
 
-const GOES_ON: &[&str] = &[PLAIN_CLICK, END, BYE];
+const SECOND_CLICKS: &[&str] = &[SECOND_HELLO, LOAD, PLAIN_CLICK, PLAIN_CLICK];
 
-// The callers, lanes and rounds, and the status with the report.
-const SERVED: &[(Coming, u32, u32, &str)] = &[
+const GOES_ON: &[&str] = &[HELLO, PLAIN_CLICK, END, BYE];
+
+// The callers, lanes and rounds, the status, and what is written.
+const SERVED: &[(Lanes, u32, u32, Status, &str)] = &[
     (
-        &[(Some("c1"), ONE_CLICK), (Some("c2"), ONE_CLICK)],
+        &[ONE_CLICK, SECOND_CLICK],
         2,
         1,
-        "0 stop none\nclient c1 taken 3 end bye cost 187 lost 0\nvisit 1 done\nload 0 \"/a\"\nget 1 \"/b\"\nclient c2 taken 3 end bye cost 187 lost 0\nvisit 1 done\nload 0 \"/a\"\nget 1 \"/b\"\n",
+        Status::Done,
+        "stop none\nclient c1 taken 3 end bye cost 187 lost 0\nvisit 1 done\nload 0 \"/a\"\nget 1 \"/b\"\nclient c2 taken 3 end bye cost 187 lost 0\nvisit 1 done\nload 0 \"/a\"\nget 1 \"/b\"\n",
     ),
     (
-        &[(Some("c1"), ONE_CLICK), (Some("c2"), &[])],
+        &[ONE_CLICK, &[SECOND_HELLO]],
         2,
         1,
-        "0 stop none\nclient c1 taken 3 end bye cost 187 lost 0\nvisit 1 done\nload 0 \"/a\"\nget 1 \"/b\"\nclient c2 taken 0 end E3@2 cost 0 lost 0\n",
+        Status::Done,
+        "stop none\nclient c1 taken 3 end bye cost 187 lost 0\nvisit 1 done\nload 0 \"/a\"\nget 1 \"/b\"\nclient c2 taken 0 end E3@2 cost 0 lost 0\n",
     ),
     // a later round goes on behind the one before
     (
-        &[(Some("c1"), TWO_CLICKS), (Some("c1"), GOES_ON)],
+        &[TWO_CLICKS, GOES_ON],
         1,
         2,
-        "0 stop none\nclient c1 taken 2 end bye cost 287 lost 0\nvisit 1 done\nload 0 \"/a\"\n",
+        Status::Done,
+        "stop none\nclient c1 taken 2 end bye cost 287 lost 0\nvisit 1 done\nload 0 \"/a\"\n",
     ),
     (
-        &[(Some("c1"), TWO_CLICKS), (Some("c1"), TWO_CLICKS)],
+        &[TWO_CLICKS, TWO_CLICKS],
         1,
         2,
-        "0 stop none\nclient c1 taken 0 end E9.S1@2 cost 233 lost 0\nvisit 1 done\nload 0 \"/a\"\n",
+        Status::Done,
+        "stop none\nclient c1 taken 0 end E9.S1@2 cost 233 lost 0\nvisit 1 done\nload 0 \"/a\"\n",
     ),
     (
-        &[(Some("c1"), TWO_CLICKS), (Some("c2"), TWO_CLICKS)],
+        &[TWO_CLICKS, SECOND_CLICKS],
         1,
         2,
-        "0 stop none\nclient c1 taken 0 end none cost 233 lost 0\nvisit 1 done\nload 0 \"/a\"\nclient c2 taken 3 end E3@5 cost 233 lost 0\nvisit 1 done\nload 0 \"/a\"\n",
+        Status::Done,
+        "stop none\nclient c1 taken 0 end none cost 233 lost 0\nvisit 1 done\nload 0 \"/a\"\nclient c2 taken 3 end E3@5 cost 233 lost 0\nvisit 1 done\nload 0 \"/a\"\n",
     ),
     (
-        &[
-            (Some("c1"), TWO_CLICKS),
-            (Some("c2"), ONE_CLICK),
-            (Some("c3"), ONE_CLICK),
-            (Some("c1"), GOES_ON),
-        ],
+        &[TWO_CLICKS, SECOND_CLICK, THIRD_CLICK, GOES_ON],
         2,
         2,
-        "0 stop none\nclient c1 taken 2 end bye cost 287 lost 0\nvisit 1 done\nload 0 \"/a\"\nclient c2 taken 0 end none cost 187 lost 0\nvisit 1 done\nload 0 \"/a\"\nget 1 \"/b\"\nclient c3 taken 3 end bye cost 187 lost 0\nvisit 1 done\nload 0 \"/a\"\nget 1 \"/b\"\n",
+        Status::Done,
+        "stop none\nclient c1 taken 2 end bye cost 287 lost 0\nvisit 1 done\nload 0 \"/a\"\nclient c2 taken 0 end none cost 187 lost 0\nvisit 1 done\nload 0 \"/a\"\nget 1 \"/b\"\nclient c3 taken 3 end bye cost 187 lost 0\nvisit 1 done\nload 0 \"/a\"\nget 1 \"/b\"\n",
     ),
     // two of one client
     (
-        &[
-            (Some("c1"), ONE_CLICK),
-            (Some("c2"), ONE_CLICK),
-            (Some("c2"), ONE_CLICK),
-        ],
+        &[ONE_CLICK, SECOND_CLICK, SECOND_CLICK],
         3,
         1,
-        "4 ",
+        Status::BadHello,
+        "",
     ),
     // no hello, in a first round and in a later one
-    (&[(Some("c1"), ONE_CLICK), (None, ONE_CLICK)], 2, 1, "4 "),
     (
-        &[(Some("c1"), ONE_CLICK), (Some("c 2"), ONE_CLICK)],
+        &[ONE_CLICK, &[LOAD, CLICK, END, BYE]],
+        2,
+        1,
+        Status::BadHello,
+        "",
+    ),
+    (
+        &[
+            ONE_CLICK,
+            &[r#"{"t":"hello","client":"c 2"}"#, LOAD, CLICK, END, BYE],
+        ],
         1,
         2,
-        "4 ",
+        Status::BadHello,
+        "",
     ),
     // no more callers
-    (&[(Some("c1"), ONE_CLICK)], 2, 1, "6 "),
+    (&[ONE_CLICK], 2, 1, Status::InputOutput, ""),
 ];
 
-// The status, and what is written.
-fn said(rt: &impl Runs, callers: Coming, lanes: u32, rounds: u32) -> Result<String, Fail> {
+fn serves(
+    rt: &impl Runs,
+    callers: Lanes,
+    lanes: u32,
+    rounds: u32,
+    status: Status,
+    report: &str,
+) -> Result<(), Fail> {
     let mut sips = Sips::new(rt.alloc(), 50, None);
-    let status = served(rt, callers, lanes, rounds, &mut sips)?;
-    let text = String::from_utf8(sips.taken)?;
-    Ok(format!(in rt.alloc(); "{} {}", status.code(), text.as_str())?)
+    assert!(rt; served(rt, callers, lanes, rounds, &mut sips)? == status);
+    assert!(rt; sips.taken.as_slice() == report.as_bytes(), "{report}");
+    Ok(())
 }
 
 #[test]
 fn serves_rounds_of_callers(rt: HostRuntime) -> Result<(), Fail> {
-    for &(callers, lanes, rounds, want) in SERVED {
-        assert_eq!(rt; said(&rt, callers, lanes, rounds)?.as_str(), want);
+    for &(callers, lanes, rounds, status, report) in SERVED {
+        serves(&rt, callers, lanes, rounds, status, report)?;
     }
     Ok(())
 }
 
-const ONE_CALLER: Coming = &[(Some("c1"), ONE_CLICK)];
-
 fn fails_at(rt: &impl Runs, at: u32, refusal: Refusal) -> Result<(), Fail> {
     let mut sips = Sips::new(rt.alloc(), 1, Some((at, refusal)));
-    let status = served(rt, ONE_CALLER, 1, 1, &mut sips)?;
-    assert_eq!(rt; status, Status::InputOutput);
+    assert!(rt; served(rt, &[ONE_CLICK], 1, 1, &mut sips)? == Status::InputOutput);
     assert!(rt; REPORT.as_bytes().get(..at as usize) == Some(sips.taken.as_slice()));
     Ok(())
 }
@@ -215,83 +220,69 @@ impl Callers for Queue {
     }
 }
 
-fn queue_of(alloc: Global, callers: Coming) -> Result<Queue, Fail> {
+fn queue_of(alloc: Global, callers: Lanes) -> Result<Queue, Fail> {
     let mut waiting = Vec::new(alloc);
-    for &(client, lines) in callers.iter().rev() {
-        let text = upload_text(alloc, client, lines)?;
+    for &lines in callers.iter().rev() {
+        let text = joined(alloc, lines)?;
         waiting.push(Fed::new(Drip::new(alloc, text.as_bytes(), 7)?))?;
     }
     Ok(Queue { waiting, back: 0 })
 }
 
-// The callers, lanes and rounds; then the status, how many still wait, and how many sources were given back.
-const QUEUES: &[(Coming, u32, u32, &str)] = &[
-    (
-        &[
-            (Some("c1"), TWO_CLICKS),
-            (Some("c2"), ONE_CLICK),
-            (Some("c3"), ONE_CLICK),
-            (Some("c1"), GOES_ON),
-        ],
-        2,
-        2,
-        "0 wait 0 back 4",
-    ),
-    // one more is there than is asked for
-    (
-        &[(Some("c1"), ONE_CLICK), (Some("c2"), ONE_CLICK)],
-        1,
-        1,
-        "0 wait 1 back 1",
-    ),
-    // too few in the second round, a client twice, and no hello
-    (
-        &[
-            (Some("c1"), ONE_CLICK),
-            (Some("c2"), ONE_CLICK),
-            (Some("c3"), ONE_CLICK),
-        ],
-        2,
-        2,
-        "6 wait 0 back 2",
-    ),
-    (
-        &[(Some("c1"), ONE_CLICK), (Some("c1"), ONE_CLICK)],
-        2,
-        1,
-        "4 wait 0 back 2",
-    ),
-    (
-        &[(Some("c1"), ONE_CLICK), (None, ONE_CLICK)],
-        1,
-        2,
-        "4 wait 0 back 1",
-    ),
-];
-
 // How serving these ends, in rounds of so many lanes.
 fn queued(rt: &impl Runs, queue: &mut Queue, lanes: u32, rounds: u32) -> Result<Status, Fail> {
-    let alloc = rt.alloc();
-    let site = Site::read(alloc, SITE.as_bytes())?;
+    let site = Site::read(rt.alloc(), SITE.as_bytes())?;
     if lanes == 0 || lanes > 16 {
         return Err(Fail::from("no round"));
     }
-    let mut sips = Sips::new(alloc, 50, None);
-    let mut writer = Told::new(&mut sips);
-    Ok(serve_callers(rt, queue, lanes, rounds, &site, &mut writer))
+    let mut sips = Sips::new(rt.alloc(), 50, None);
+    Ok(serve_callers(rt, queue, lanes, rounds, &site, &mut Told::new(&mut sips)))
 }
 
-fn queue_left(rt: &impl Runs, callers: Coming, lanes: u32, rounds: u32) -> Result<String, Fail> {
+// The callers, lanes and rounds; then the status, how many still wait, and how many sources were given back.
+const QUEUES: &[(Lanes, u32, u32, (Status, usize, usize))] = &[
+    (
+        &[TWO_CLICKS, SECOND_CLICK, THIRD_CLICK, GOES_ON],
+        2,
+        2,
+        (Status::Done, 0, 4),
+    ),
+    // one more is there than is asked for
+    (&[ONE_CLICK, SECOND_CLICK], 1, 1, (Status::Done, 1, 1)),
+    // too few in the second round, a client twice, and no hello
+    (
+        &[ONE_CLICK, SECOND_CLICK, THIRD_CLICK],
+        2,
+        2,
+        (Status::InputOutput, 0, 2),
+    ),
+    (&[ONE_CLICK, ONE_CLICK], 2, 1, (Status::BadHello, 0, 2)),
+    (
+        &[ONE_CLICK, &[LOAD, CLICK, END, BYE]],
+        1,
+        2,
+        (Status::BadHello, 0, 1),
+    ),
+];
+
+fn leaves(
+    rt: &impl Runs,
+    callers: Lanes,
+    lanes: u32,
+    rounds: u32,
+    (status, wait, back): (Status, usize, usize),
+) -> Result<(), Fail> {
     let mut queue = queue_of(rt.alloc(), callers)?;
-    let code = queued(rt, &mut queue, lanes, rounds)?.code();
-    let (wait, back) = (queue.waiting.len(), queue.back);
-    Ok(format!(in rt.alloc(); "{code} wait {wait} back {back}")?)
+    assert!(rt; queued(rt, &mut queue, lanes, rounds)? == status);
+    assert!(rt; queue.waiting.len() == wait);
+    assert!(rt; queue.back == back);
+    Ok(())
 }
 
 #[test]
 fn gives_each_source_back_when_its_round_is_over(rt: HostRuntime) -> Result<(), Fail> {
-    for &(callers, lanes, rounds, want) in QUEUES {
-        assert_eq!(rt; queue_left(&rt, callers, lanes, rounds)?.as_str(), want);
+    for &(callers, lanes, rounds, left) in QUEUES {
+        leaves(&rt, callers, lanes, rounds, left)?;
     }
     Ok(())
 }

@@ -1,5 +1,5 @@
 //! Uploads over sockets, by client threads.
-use crate::fixtures::{BYE, CLICK, END, LOAD, Runs, SITE};
+use crate::fixtures::{BYE, CLICK, END, HELLO, LOAD, Runs, SITE, joined};
 use std::alloc::{AllocError, Global};
 use std::io::{ErrorKind, Read, Write};
 use std::net::{Net, Shutdown, SocketAddr, TcpListener, TcpStream};
@@ -139,14 +139,15 @@ fn served(
     }
 }
 
-// What is written of these uploads in so many rounds, each text that of a connection. It is written once all connections are closed.
-fn reported(
+// That is written of these uploads in so many rounds, each text that of a connection. It is written once all connections are closed.
+fn reports(
     rt: &(impl Runs + Net<Listener = TcpListener, Stream = TcpStream>),
     texts: Vec<String>,
     lanes: u32,
     rounds: u32,
     piece: usize,
-) -> Result<String, Fail> {
+    report: &str,
+) -> Result<(), Fail> {
     let closed = AtomicU64::new(0);
     let mut writer = AfterAll {
         closed: &closed,
@@ -155,9 +156,9 @@ fn reported(
     };
     let listener = TcpListener::bind(rt, local(0))?;
     let callers = called(rt, &listener, texts, piece)?;
-    let status = served(rt, &listener, callers, lanes, rounds, &mut writer)?;
-    let text = String::from_utf8(writer.sips.taken)?;
-    Ok(format!(in rt.alloc(); "{} {}", status.code(), text.as_str())?)
+    assert!(rt; served(rt, &listener, callers, lanes, rounds, &mut writer)? == Status::Done);
+    assert!(rt; writer.sips.taken.as_slice() == report.as_bytes());
+    Ok(())
 }
 
 // ---- uploads
@@ -215,7 +216,7 @@ fn uploads(alloc: Global, clients: &[(usize, &str)]) -> Result<Vec<String>, Allo
 }
 
 fn report(alloc: Global, clients: &[(usize, &str)]) -> Result<String, AllocError> {
-    let mut text = String::from_str(alloc, "0 stop none\n")?;
+    let mut text = String::from_str(alloc, "stop none\n")?;
     let mut number = 0usize;
     for &(_, said) in clients {
         write!(text, "client c{number:x} {said}")?;
@@ -232,10 +233,8 @@ fn takes(
     piece: usize,
 ) -> Result<(), Fail> {
     let texts = uploads(rt.alloc(), clients)?;
-    let got = reported(rt, texts, lanes, 1, piece)?;
-    let want = report(rt.alloc(), clients)?;
-    assert_eq!(rt; got.as_str(), want.as_str());
-    Ok(())
+    let report = report(rt.alloc(), clients)?;
+    reports(rt, texts, lanes, 1, piece, report.as_str())
 }
 
 // Two and sixteen clients, in large pieces and byte by byte.
@@ -255,19 +254,17 @@ fn a_client_that_breaks_off_hurts_its_own_upload_alone(rt: HostRuntime) -> Resul
 const PLAIN_CLICK: &str = r#"{"t":"click","visit":1,"at":2,"target":"/html/body/a"}"#;
 
 fn in_two_parts(alloc: Global) -> Result<Vec<String>, AllocError> {
-    let hello = r#"{"t":"hello","client":"c0"}"#;
     let mut texts = Vec::new(alloc);
-    texts.push(format!(in alloc; "{hello}\n{LOAD}\n{PLAIN_CLICK}\n{PLAIN_CLICK}\n")?)?;
-    texts.push(format!(in alloc; "{hello}\n{PLAIN_CLICK}\n{END}\n{BYE}\n")?)?;
+    texts.push(joined(alloc, &[HELLO, LOAD, PLAIN_CLICK, PLAIN_CLICK])?)?;
+    texts.push(joined(alloc, &[HELLO, PLAIN_CLICK, END, BYE])?)?;
     Ok(texts)
 }
+
+const BOTH_PARTS: &str =
+    "stop none\nclient c1 taken 2 end bye cost 287 lost 0\nvisit 1 done\nload 0 \"/a\"\n";
 
 // The client breaks off behind two clicks, and comes again.
 #[test]
 fn a_client_that_comes_again_goes_on(rt: HostRuntime) -> Result<(), Fail> {
-    let got = reported(&rt, in_two_parts(rt.alloc())?, 1, 2, 4_096)?;
-    let want =
-        "0 stop none\nclient c0 taken 2 end bye cost 287 lost 0\nvisit 1 done\nload 0 \"/a\"\n";
-    assert_eq!(rt; got.as_str(), want);
-    Ok(())
+    reports(&rt, in_two_parts(rt.alloc())?, 1, 2, 4_096, BOTH_PARTS)
 }

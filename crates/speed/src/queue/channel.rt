@@ -1,11 +1,12 @@
 //! The same items through a bounded channel.
+use crate::clock::{between, now};
 use crate::queue::{Figure, ROOM, count, sum};
 use crossbeam_channel::{Receiver, Sender, bounded};
 use std::alloc::{AllocError, Global};
 use std::sync::Wait;
 use std::thread;
 use std::thread::{Scope, Threads};
-use std::time::{Clock, Instant};
+use std::time::Clock;
 
 // The sender, and what it sends.
 type Counted = (u32, u64);
@@ -19,9 +20,9 @@ pub(crate) fn time_channel<R: Threads + Wait + Clock + Sync>(
 ) -> Figure {
     let (to, from) = bounded(alloc, ROOM).ok()?;
     let mut counts = Vec::from_elem(alloc, 0, senders as usize).ok()?;
-    let start = Instant::now(rt).ok()?;
+    let start = now(rt);
     let whole = run_senders(rt, to, &from, senders, each, counts.as_mut_slice()).ok()?;
-    let time = start.elapsed(rt).ok()?;
+    let time = between(start, now(rt))?;
     if whole {
         Some((sum(&counts), time))
     } else {
@@ -30,10 +31,9 @@ pub(crate) fn time_channel<R: Threads + Wait + Clock + Sync>(
 }
 
 fn send_all<R: Wait>(rt: &R, to: Sender<Counted, Global>, sender: u32, each: u32) {
-    for body in 0..each {
-        let _ = to.send(rt, (sender, u64::from(body)));
+    for body in 0..u64::from(each).saturating_add(1) {
+        let _ = to.send(rt, (sender, body));
     }
-    let _ = to.send(rt, (sender, u64::from(each)));
 }
 
 fn receive_all<R: Wait>(rt: &R, from: &Receiver<Counted, Global>, counts: &mut [u64]) -> bool {

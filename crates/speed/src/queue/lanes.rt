@@ -3,13 +3,14 @@ ghost use Rattle.std.specs.Prelude.{All};
 ghost use Rattle.lane_queue.specs.Opened.{IsNewPutterOf};
 ghost use Rattle.lane_queue.specs.Queue.{IsPassOf};
 
+use crate::clock::{between, now};
 use crate::queue::{Figure, ROOM, count, sum};
 use lane_queue::{LaneQueue, Putter, Room, Take, Taker};
 use std::alloc::{AllocError, Global};
 use std::sync::Wait;
 use std::thread;
 use std::thread::{Scope, Threads};
-use std::time::{Clock, Instant};
+use std::time::Clock;
 
 /// So many putters put so many items each, and a last one.
 pub(crate) fn time_lane_queue<R: Threads + Wait + Clock + Sync>(
@@ -23,9 +24,9 @@ pub(crate) fn time_lane_queue<R: Threads + Wait + Clock + Sync>(
         return None;
     };
     let mut counts = Vec::from_elem(alloc, 0, putters as usize).ok()?;
-    let start = Instant::now(rt).ok()?;
+    let start = now(rt);
     let whole = run_putters(rt, &lanes, &mut taker, ends, each, counts.as_mut_slice()).ok()?;
-    let time = start.elapsed(rt).ok()?;
+    let time = between(start, now(rt))?;
     if whole {
         Some((sum(&counts), time))
     } else {

@@ -3,19 +3,19 @@ ghost use Rattle.std.specs.Prelude.{◌≤◌, length};
 ghost use Rattle.crossbeam_queue.specs.Passes.{view};
 ghost use Rattle.lane_queue.specs.Queue.{IsPassOf};
 
-use crate::micros;
+use crate::clock::{Moment, between, micros, now};
 use lane_queue::{LaneQueue, Putter, Room, Taker};
 use std::alloc::{AllocError, Global};
 use std::sync::Wait;
 use std::thread;
 use std::thread::Threads;
-use std::time::{Clock, CpuClock, Duration, Instant};
+use std::time::{Clock, CpuClock, Duration};
 
 /// In seconds.
 const WAIT: u64 = 2;
 
 /// The processor time of a wait, and when it was over. None where a clock was refused.
-type Waited = Option<(Duration, Instant)>;
+type Waited = Option<(Duration, Moment)>;
 
 /// A taker waits at an empty queue, and then a putter at a full one, each on a thread of its own.
 pub(crate) fn print_waits<R: AllocGlobal + Threads + Wait + Clock + CpuClock + Print + Sync>(
@@ -54,14 +54,19 @@ fn waits<R: Threads + Wait + Clock + CpuClock + Sync>(
         return None;
     };
     let mut putter = putters.pop()?;
-    let (waited, end) = if full {
+    let waited = if full {
         let _ = putter.put(rt, &lanes, ());
-        run_putter(rt, &lanes, taker, putter).ok()?
+        run_putter(rt, &lanes, taker, putter)
     } else {
-        run_taker(rt, &lanes, taker, putter).ok()?
+        run_taker(rt, &lanes, taker, putter)
     };
+    late(waited.ok()?)
+}
+
+// The cost of a wait, and how long after that moment it was over.
+fn late((waited, end): (Waited, Moment)) -> Option<(Duration, Duration)> {
     let (busy, over) = waited?;
-    Some((busy, over.saturating_duration_since(end?)))
+    Some((busy, between(end, over)?))
 }
 
 fn run_taker<R: Threads + Wait + Clock + CpuClock + Sync>(
@@ -69,14 +74,14 @@ fn run_taker<R: Threads + Wait + Clock + CpuClock + Sync>(
     lanes: &LaneQueue<()>,
     taker: Taker<()>,
     putter: Putter<()>,
-) -> Result<(Waited, Option<Instant>), AllocError>
+) -> Result<(Waited, Moment), AllocError>
     requires taker { IsPassOf lanes.now taker }
     requires putter { IsPassOf lanes.now putter × (length (view putter).put ≤ 1) }
 {
     thread::scope(
         thread::scope_env(),
         rt,
-        move |scope| -> Result<(Waited, Option<Instant>), AllocError>
+        move |scope| -> Result<(Waited, Moment), AllocError>
             requires { IsPassOf lanes.now taker × IsPassOf lanes.now putter × (length (view putter).put ≤ 1) }
         {
             let wait = move || -> Waited
@@ -84,7 +89,7 @@ fn run_taker<R: Threads + Wait + Clock + CpuClock + Sync>(
             { take_timed(rt, lanes, taker) };
             let waiting = scope.spawn(wait)?;
             thread::sleep(rt, Duration::from_secs(WAIT));
-            let end = Instant::now(rt).ok();
+            let end = now(rt);
             let mut putter = putter;
             let _ = putter.put(rt, lanes, ());
             Ok((waiting.join(rt), end))
@@ -97,14 +102,14 @@ fn run_putter<R: Threads + Wait + Clock + CpuClock + Sync>(
     lanes: &LaneQueue<()>,
     taker: Taker<()>,
     putter: Putter<()>,
-) -> Result<(Waited, Option<Instant>), AllocError>
+) -> Result<(Waited, Moment), AllocError>
     requires taker { IsPassOf lanes.now taker }
     requires putter { IsPassOf lanes.now putter × (length (view putter).put ≤ 1) }
 {
     thread::scope(
         thread::scope_env(),
         rt,
-        move |scope| -> Result<(Waited, Option<Instant>), AllocError>
+        move |scope| -> Result<(Waited, Moment), AllocError>
             requires { IsPassOf lanes.now taker × IsPassOf lanes.now putter × (length (view putter).put ≤ 1) }
         {
             let wait = move || -> Waited
@@ -112,7 +117,7 @@ fn run_putter<R: Threads + Wait + Clock + CpuClock + Sync>(
             { put_timed(rt, lanes, putter) };
             let waiting = scope.spawn(wait)?;
             thread::sleep(rt, Duration::from_secs(WAIT));
-            let end = Instant::now(rt).ok();
+            let end = now(rt);
             let mut taker = taker;
             let _ = taker.take(rt, lanes);
             Ok((waiting.join(rt), end))
@@ -124,11 +129,9 @@ fn take_timed<R: Wait + Clock + CpuClock>(rt: &R, lanes: &LaneQueue<()>, taker: 
     requires { IsPassOf lanes.now taker }
 {
     let mut taker = taker;
-    let start = rt.thread_cpu_time().ok()?;
+    let start = used(rt);
     let _ = taker.take(rt, lanes);
-    let over = Instant::now(rt).ok()?;
-    let end = rt.thread_cpu_time().ok()?;
-    Some((end.saturating_sub(start), over))
+    waited(rt, start)
 }
 
 fn put_timed<R: Wait + Clock + CpuClock>(
@@ -139,9 +142,18 @@ fn put_timed<R: Wait + Clock + CpuClock>(
     requires { IsPassOf lanes.now putter × (length (view putter).put ≤ 1) }
 {
     let mut putter = putter;
-    let start = rt.thread_cpu_time().ok()?;
+    let start = used(rt);
     let _ = putter.put(rt, lanes, ());
-    let over = Instant::now(rt).ok()?;
-    let end = rt.thread_cpu_time().ok()?;
-    Some((end.saturating_sub(start), over))
+    waited(rt, start)
+}
+
+// That of a wait which is over now.
+fn waited<R: Clock + CpuClock>(rt: &R, start: Option<Duration>) -> Waited {
+    let over = now(rt);
+    Some((used(rt)?.saturating_sub(start?), over))
+}
+
+// The processor time of this thread so far.
+fn used<R: CpuClock>(rt: &R) -> Option<Duration> {
+    rt.thread_cpu_time().ok()
 }

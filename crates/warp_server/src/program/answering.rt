@@ -6,11 +6,11 @@ ghost use Rattle.site_hooks.specs.Closures.{AtAddresses, AtPages, MakesBy, Tells
 ghost use Rattle.site_hooks.specs.Table.{table_page, signals_in};
 ghost use Rattle.conflict_desk.specs.Laws.{AllLeaveInOrder, IsInOrder};
 ghost use Rattle.byte_streams.specs.Writing.{WritesNothing, writes_of};
-ghost use Rattle.upload_lanes.specs.Round.{IsNoRound};
+ghost use Rattle.upload_lanes.specs.Round.{RefusesRound};
 ghost use Rattle.upload_lanes.specs.Threads.{Gathers, GathersFirst};
 ghost use Rattle.site_line.specs.Reading.{site_patch, site_quota};
 ghost use Rattle.warp_server.specs.Answer.{never, IsNoAnswer, repaired_site, site_of_table, site_settled};
-ghost use Rattle.warp_server.specs.declared.program.answering.AnswerFault.TheVariants.{Round, NoMemory};
+ghost use Rattle.warp_server.specs.declared.program.answering.AnswerFault.TheVariants.{NoMemory};
 ghost use Rattle.warp_server.specs.Headline.{Headline};
 ghost use Rattle.warp_server.specs.Repair.{repaired_of};
 ghost use Rattle.warp_server.specs.Report.{WritesReport, report_text};
@@ -28,10 +28,10 @@ use site_line::Site;
 use std::alloc::AllocError;
 use std::sync::Wait;
 use std::thread::Threads;
-use upload_lanes::{GatherFault, Gathered, gather_again};
+use upload_lanes::{GatherFault, Gathered, RefusedRound, gather_again};
 use upload_reader::Upload;
 
-/// The room that `gather` is given for one client. It makes no queue then: what is read is recorded on the same thread.
+/// The room that `gather_again` is given for one client. It makes no queue then: what is read is recorded on the same thread.
 const ROOM_FOR_ONE: usize = 64;
 
 /// How many messages wait in each queue of a round of several clients, at the most. At a smaller one uploaders stop too often.
@@ -51,18 +51,10 @@ pub struct Answered<R: Source> {
 /// Why uploads have no answer.
 #[derive(Clone, Copy, Debug, PartialEq, Eq)]
 pub enum AnswerFault {
-    /// There is no round of them (G1, G2), or memory was refused before the first message was taken (G3).
+    /// There is no round of them (G1, G2), or memory, or the start of a thread, was refused before the first message was taken (G3).
     Round(GatherFault),
     /// Memory was refused behind the round, before the report was composed.
     NoMemory,
-}
-
-impl From<GatherFault> for AnswerFault {
-    ghost from_gives = { λ fault e. e ≡ Round fault };
-
-    fn from(fault: GatherFault) -> AnswerFault {
-        AnswerFault::Round(fault)
-    }
 }
 
 impl From<AllocError> for AnswerFault {
@@ -98,7 +90,10 @@ pub fn answer<R: Source + Drop + Send, W: Sink, T: AllocGlobal + Threads + Wait 
     ensures nothing { IfErr result (λ _. WritesNothing (writes_of W.puts W.contents writer.old writer.new)) }
 {
     let none = Gathered::new(rt.alloc());
-    let gathered = take_to_ends(rt, none, uploads, site.quota())?;
+    let gathered = match take_to_ends(rt, none, uploads, site.quota()) {
+        Ok(gathered) => gathered,
+        Err(refused) => return Err(AnswerFault::Round(refused.fault)),
+    };
     let Concluded { repaired, report } = conclude(rt, site, &gathered, writer)?;
     Ok(Answered {
         gathered,
@@ -139,16 +134,13 @@ pub(crate) fn take_to_ends<R: Source + Drop + Send, T: AllocGlobal + Threads + W
     earlier: Gathered<R>,
     uploads: Vec<Upload<R>>,
     quota: Quota,
-) -> Result<Gathered<R>, GatherFault>
+) -> Result<Gathered<R>, RefusedRound<R>>
     requires untouched { AllByRecursion IsUntouched uploads.items }
     ensures ok { IfOk result (Gathers never earlier uploads.items quota) }
-    ensures refused { IfErr result (IsNoRound uploads.items) }
+    ensures refused { IfErr result (RefusesRound earlier uploads.items) }
 {
     let room = room_for(uploads.len());
-    match gather_again(rt, earlier, uploads, quota, room, &|_items: u64| false) {
-        Ok(gathered) => Ok(gathered),
-        Err(again) => Err(again.fault),
-    }
+    Ok(gather_again(rt, earlier, uploads, quota, room, &|_items: u64| false)?)
 }
 
 // As much as a queue holds where so many clients upload.

@@ -6,7 +6,6 @@ ghost use Rattle.lane_queue.specs.Limits.{AreLanes};
 ghost use Rattle.upload_reader.specs.Upload.{UploadState, IsUntouched};
 ghost use Rattle.byte_streams.specs.Reading.{WasRead};
 ghost use Rattle.site_line.specs.Reading.{site_quota};
-ghost use Rattle.upload_lanes.specs.Round.{has_twice, clients_of};
 ghost use Rattle.upload_lanes.specs.Threads.{Gathers};
 ghost use Rattle.warp_server.specs.Answer.{never};
 ghost use Rattle.warp_server.specs.Rounds.{let_go};
@@ -25,7 +24,7 @@ use indexmap::IndexMap;
 use site_line::Site;
 use std::sync::Wait;
 use std::thread::Threads;
-use upload_lanes::{GatherFault, Gathered, LaneResult, has_twice};
+use upload_lanes::{GatherFault, Gathered, LaneResult};
 use upload_reader::{Client, Upload};
 
 /// What so many rounds of these callers gather, each of so many uploads. A round in which memory is refused is the last.
@@ -85,34 +84,14 @@ fn gather_round<
         lanes callers.old callers.new) }
 {
     let uploads = accept_uploads(rt.alloc(), callers, lanes)?;
-    if has_twice(uploads.as_slice()) {
-        give_back(callers, uploads);
-        return Err(Status::BadHello);
-    }
-    match take_behind(rt, earlier, uploads, site.quota()) {
+    match take_to_ends(rt, earlier, uploads, site.quota()) {
         Ok(round) => Ok(give_back_all(callers, round)),
-        Err(status) => Err(status),
-    }
-}
-
-// The same of a round of these lanes: only memory may be wanting.
-fn take_behind<R: Source + Drop + Send, T: AllocGlobal + Threads + Wait + Sync>(
-    rt: &T,
-    earlier: Gathered<R>,
-    uploads: Vec<Upload<R>>,
-    quota: Quota,
-) -> Result<Gathered<R>, Status>
-    requires untouched { AllByRecursion IsUntouched uploads.items }
-    requires lanes { AreLanes (length uploads.items) }
-    requires apart { has_twice (clients_of uploads.items) ≡ false }
-    ensures ok { IfOk result (Gathers never earlier uploads.items quota) }
-    ensures refused { IfErr result (λ status. status ≡ OutOfMemory) }
-{
-    match take_to_ends(rt, earlier, uploads, quota) {
-        Ok(gathered) => Ok(gathered),
-        Err(fault) => match fault {
+        Err(refused) => match refused.fault {
             GatherFault::BadLanes => unreachable!(),
-            GatherFault::DuplicateClient => unreachable!(),
+            GatherFault::DuplicateClient => {
+                give_back(callers, refused.uploads);
+                Err(Status::BadHello)
+            }
             GatherFault::NoMemory => Err(Status::OutOfMemory),
         },
     }

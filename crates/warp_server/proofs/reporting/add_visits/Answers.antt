@@ -1,4 +1,4 @@
-use Rattle.std.proofs.Common.{length, string_bytes, slice_get, Some, ap, sym, ◌∙◌, refl}
+use Rattle.std.proofs.Common.{length, string_bytes, slice_get, ap, sym, ◌∙◌, refl}
 use Rattle.std.proofs.lemmas.Option.{slice_get_read}
 use Rattle.warp_server.proofs.ReportLaws.{visit_step}
 use Rattle.warp_server.proofs.reporting.add_visits.Goals as goal

@@ -7,9 +7,9 @@ use Rattle.warp_server.proofs.program.answering.answer.Goals as goal
 
 pub returns-clause-headline : goal.returns-clause-headline
 returns-clause-headline g c =
-    let gathered = c.in_ok-gathered.gathered in
+    let gathered = c.in-Ok.gathered in
     record {
-      has = all_prefixes (site_quota c.args.site.now) never c.args.uploads.items gathered (subst (λ quota. GathersFirst never c.args.uploads.items quota gathered) c.quota.ensures (c.new-none.result, c.new-none.ensures.clients, c.in_ok-gathered.ensures.ok));
+      has = all_prefixes (site_quota c.args.site.now) never c.args.uploads.items gathered (subst (λ quota. GathersFirst never c.args.uploads.items quota gathered) c.quota.ensures (c.new-none.result, c.new-none.ensures.clients, c.in-Ok.ensures.ok));
       replayed = rw c.in_ok-repaired.ensures.repaired (replayed c.args.site.now gathered);
       leave = c.in_ok-repaired.ensures.leave;
     }

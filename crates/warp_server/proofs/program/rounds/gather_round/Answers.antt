@@ -1,12 +1,14 @@
-use Rattle.std.proofs.Common.{inr, ap, sym, subst, ◌∙◌}
-use Rattle.upload_lanes.specs.Round.{has_twice, clients_of}
+use Rattle.std.proofs.Common.{inr, subst}
+use Rattle.upload_lanes.specs.Round.{IsNoRound}
 use Rattle.upload_lanes.specs.Threads.{Gathers}
+use Rattle.byte_streams.specs.Reading.{WasRead}
 use Rattle.warp_server.specs.Answer.{never}
+use Rattle.warp_server.specs.program.Callers.{sayings, OneByOne, GivesBack}
 use Rattle.warp_server.proofs.RoundSteps.{all_untouched}
 use Rattle.warp_server.proofs.program.rounds.gather_round.Goals as goal
 
-pub take_behind-requires-clause-untouched : goal.take_behind-requires-clause-untouched
-take_behind-requires-clause-untouched g c κs within = all_untouched c.in_ok-uploads.uploads.items c.in_ok-uploads.ensures.ok.greeted
+pub take_to_ends-requires-clause-untouched : goal.take_to_ends-requires-clause-untouched
+take_to_ends-requires-clause-untouched g c κs within = all_untouched c.in_ok-uploads.uploads.items c.in_ok-uploads.ensures.ok.greeted
 
 pub returns-in-Ok-clause-ok : goal.returns-in-Ok-clause-ok
 returns-in-Ok-clause-ok g c = (
@@ -25,15 +27,15 @@ returns-in-Ok-clause-ok g c = (
   },
 )
 
-pub returns-then-has_twice-clause-refused : goal.returns-then-has_twice-clause-refused
-returns-then-has_twice-clause-refused g c =
+pub returns-in-DuplicateClient-clause-refused : goal.returns-in-DuplicateClient-clause-refused
+returns-in-DuplicateClient-clause-refused g c =
+    let refused = c.in-Err.ensures.refused in
+    let twice = c.in-DuplicateClient.is in
+    let unread = refused.unread (λ no. cc) in
     inr record {
       uploads = c.in_ok-uploads.uploads.items;
-      twice = ap (λ uploads. has_twice (clients_of uploads)) (sym c.as_slice.ensures.value) ∙ sym c.has_twice.ensures ∙ c.if-has_twice.true;
+      twice = (subst (IsNoRound c.in_ok-uploads.uploads.items) c.in-DuplicateClient.is refused.why).1;
       begun = c.accept_uploads.new.callers;
       came = c.in_ok-uploads.ensures.ok;
-      back = c.give_back.ensures;
+      back = subst (λ items. OneByOne (GivesBack (sayings (WasRead g.R.Source.answers g.R.Read.remaining) g.C.Callers.brings g.C.Callers.brings_none g.C.Callers.takes_back)) c.accept_uploads.new.callers items c.give_back.new.callers) unread c.give_back.ensures;
     }
-
-pub returns-in-Err-clause-refused : goal.returns-in-Err-clause-refused
-returns-in-Err-clause-refused g c = rw c.in-Err.ensures.refused tt

@@ -3,7 +3,7 @@ use Rattle.byte_streams.specs.Reading.{WasRead}
 use Rattle.upload_lanes.specs.Threads.{GathersFirst}
 use Rattle.site_line.specs.Reading.{site_quota}
 use Rattle.warp_server.specs.Answer.{never}
-use Rattle.warp_server.proofs.OnlyLaws.{IsWholeLane, whole_lane, has_only}
+use Rattle.warp_server.proofs.OnlyLaws.{whole_lane, has_only}
 use Rattle.warp_server.proofs.RunLaws.{met}
 use Rattle.warp_server.proofs.program.running.run_upload.Goals as goal
 

@@ -2,7 +2,7 @@ use Rattle.std.proofs.Common.{arith, ◌∙◌, ap, length, sym, Vec}
 use Rattle.std.specs.Global.{Global}
 use Rattle.round_robin.specs.Dealt.{every}
 use Rattle.round_robin.proofs.Dealing.{every_share, every_back}
-use Rattle.round_robin.proofs.tests.there_and_back.Goals as goal
+use Rattle.upload_lanes_tests.proofs.dealing_tests.there_and_back.Goals as goal
 
 pub collect-requires-clause-shares : goal.collect-requires-clause-shares
 collect-requires-clause-shares g c = λ hand held there.
