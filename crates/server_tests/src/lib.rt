@@ -1,11 +1,16 @@
-//! Tests of `conflict_desk`, `site_line` and `warp_server` by their public names: what no site line, upload and report can show.
+//! Tests of `warp_server` by its public names: several clients, rounds, calls, connections, readers and writers that fail, which one input of the program can't
+//! show.
 #![tactic(auto)]
 
 #[cfg(test)]
-mod conflict_desk_tests;
+mod answer_tests;
+#[cfg(test)]
+mod call_tests;
 #[cfg(test)]
 mod fixtures;
 #[cfg(test)]
-mod site_line_tests;
+mod repairing_tests;
 #[cfg(test)]
-mod warp_server_tests;
+mod serve_tests;
+#[cfg(test)]
+mod socket_tests;

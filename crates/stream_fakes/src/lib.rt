@@ -1,6 +1,11 @@
-//! Readers and writers for tests and benchmarks: they cut what they move into pieces, and fail where they are told to. No code of the server uses them.
+//! Readers and writers for tests and benchmarks: they cut what they move into pieces, and fail where they are told to. And lines for them. No code of the server
+//! uses them.
 #![tactic(auto)]
 
+mod given;
+pub mod lines;
+
+pub use given::{Asserts, Runs};
 use std::alloc::{AllocError, Global};
 use std::io;
 use std::io::{ErrorKind, Read, Write};

@@ -9,15 +9,14 @@ use Rattle.lane_queue.specs.Limits.{max_lanes}
 use Rattle.round_robin.proofs.Dealing.{every_length, every_zip}
 use Rattle.round_robin.specs.Dealt.{every}
 use Rattle.upload_lanes.proofs.JoinLaws.{some_at}
-use Rattle.upload_lanes.proofs.RoundLaws.{in_map, pick_false, pick_true}
+use Rattle.lanes_in_turn.proofs.RoundLaws.{in_map, pick_false, pick_true}
 use Rattle.upload_lanes.proofs.Zips.{all_each, all_more, empty, mapped_at, zip_get, zip_length, zip_push}
-use Rattle.upload_lanes.specs.Threads.{both_stops, recorders_of, stop_of, Stops}
-use Rattle.upload_lanes.specs.inside.Lanes.{IsFreshLane, TakesLane, TakeLanes}
-use Rattle.upload_lanes.specs.inside.Party.{Hand, IsFreshHand, TakeEach, TakesParty}
-use Rattle.upload_lanes.specs.inside.Party.{IsRunning, RunsBy, TakesByOne}
-use Rattle.upload_lanes.specs.declared.gathered.LaneResult.{LaneResult}
-use Rattle.upload_lanes.specs.declared.gathered.Stop.{Stop}
-use Rattle.upload_lanes.specs.declared.gathered.Stop.TheVariants as stops
+use Rattle.lanes_in_turn.specs.Taking.{Stops, IsFreshLane, TakesLane}
+use Rattle.upload_lanes.specs.Threads.{both_stops, recorders_of, stop_of, AreTaken}
+use Rattle.upload_lanes.specs.inside.Party.{Hand, IsFreshHand, TakeEach, TakesParty, IsRunning, RunsBy, TakesByOne}
+use Rattle.lanes_in_turn.specs.declared.gathered.LaneResult.{LaneResult}
+use Rattle.lanes_in_turn.specs.declared.gathered.Stop.{Stop}
+use Rattle.lanes_in_turn.specs.declared.gathered.Stop.TheVariants as stops
 use Rattle.upload_lanes.specs.declared.party.Party.{Party}
 
 -- ---- hands
@@ -77,7 +76,7 @@ module _ {R : Type 0} (fresh : List (List ℕ × LaneResult R)) (hands : List (H
 
     pub take_lanes : (lanes : List (List ℕ × LaneResult R)) → length lanes ≡ length fresh
         → ((g : ℕ) (held : Hand R) → slice_get taken g ≡ Some held → held.items ≡ every (length taken) g lanes)
-        → n ≡ recorders_of (length fresh) → 0 < n → TakeLanes allows fresh lanes stop
+        → n ≡ recorders_of (length fresh) → 0 < n → AreTaken allows fresh lanes stop
     take_lanes lanes size each recorders some = record {
       lanes_are = every_zip TakesLane n fresh lanes (sym size) some (λ g within.
           let (one, one_at) = some_at takes.made g (omega (arith, within, made_count)) in

@@ -17,9 +17,9 @@ use Rattle.upload_reader.specs.contracts.upload.Upload.TheInside as inside
 use Rattle.client_log.specs.contracts.log.ClientLog as log
 use Rattle.client_log.proofs.log.ClientLog.TheSendSync as logs
 use Rattle.lane_queue.proofs.taker.Taker.TheSendSync as taker
-use Rattle.upload_lanes.proofs.gathered.Stop.TheSendSync as stop
+use Rattle.lanes_in_turn.proofs.gathered.Stop.TheSendSync as stop
 use Rattle.upload_lanes.proofs.sent.Sent.TheSendSync as sent
-use Rattle.upload_lanes.specs.contracts.gathered.LaneResult as lane
+use Rattle.lanes_in_turn.specs.contracts.gathered.LaneResult as lane
 use Rattle.upload_lanes.specs.contracts.recorder.Duty as duty
 use Rattle.upload_lanes.specs.contracts.recorder.HandedBack as recorded
 

@@ -9,11 +9,11 @@ use Rattle.upload_reader.specs.Next.{next_of, IfOver}
 use Rattle.upload_reader.specs.Stream.{Costed}
 use Rattle.upload_reader.specs.Upload.{UploadState, EndsBy}
 use Rattle.upload_reader.specs.declared.ending.Ending.{Ending}
-use Rattle.upload_lanes.specs.Lane.{Continues, EndsWith, IsTaken}
+use Rattle.lanes_in_turn.specs.Lane.{Continues, EndsWith, IsTaken}
 use Rattle.upload_lanes.specs.inside.Sent.{sent, bodies, sent_messages, ending_behind, is_last, IsMarked, IsPut}
 use Rattle.upload_lanes.specs.inside.Party.{TellsUpload}
 use Rattle.upload_lanes.specs.inside.Recording.{IsLaneRecorded}
-use Rattle.upload_lanes.specs.declared.gathered.LaneResult.{LaneResult}
+use Rattle.lanes_in_turn.specs.declared.gathered.LaneResult.{LaneResult}
 use Rattle.upload_lanes.specs.declared.sent.Sent.{Sent}
 use Rattle.upload_lanes.specs.declared.sent.Sent.TheVariants.{One, Last}
 

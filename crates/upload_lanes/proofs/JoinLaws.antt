@@ -5,9 +5,9 @@ use Rattle.std.proofs.lemmas.Option.{slice_get_within}
 use Rattle.lane_queue.specs.Items.{of_lane}
 use Rattle.lane_queue.specs.declared.item.Item.{Item}
 use Rattle.upload_reader.specs.Upload.{UploadState}
-use Rattle.upload_lanes.proofs.RoundLaws.{in_set}
+use Rattle.lanes_in_turn.proofs.RoundLaws.{in_set}
 use Rattle.upload_lanes.specs.inside.Party.{TellsUpload, IsJoined, AreJoined, with_upload}
-use Rattle.upload_lanes.specs.declared.gathered.LaneResult.{LaneResult}
+use Rattle.lanes_in_turn.specs.declared.gathered.LaneResult.{LaneResult}
 use Rattle.upload_lanes.specs.declared.sent.Sent.{Sent}
 use Rattle.upload_lanes.specs.declared.uploader.Uploads.{Uploads}
 

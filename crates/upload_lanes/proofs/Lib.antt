@@ -1,5 +1,3 @@
-pub mod LaneSteps
-pub mod RoundLaws
 pub mod UploaderLaws
 pub mod Crossing
 pub mod RecorderLaws
@@ -11,5 +9,4 @@ pub mod SendingLaws
 pub mod PartyLaws
 pub mod TakenLaws
 pub mod CollectedLaws
-pub mod OneLane
-pub mod AloneLaws
+pub mod OnlyLaws

@@ -10,11 +10,11 @@ use Rattle.lane_queue.specs.Opened.{ArePutters, IsOpenedQueue, IsNewPutterOf, fr
 use Rattle.lane_queue.specs.Queue.{Queue}
 use Rattle.lane_queue.specs.declared.item.Item.{Item}
 use Rattle.lane_queue.specs.declared.view.QueueView.{QueueView}
-use Rattle.upload_lanes.proofs.RoundLaws.{all_at, in_map}
-use Rattle.upload_lanes.specs.inside.Lanes.{IsBegun, IsFreshLane}
+use Rattle.lanes_in_turn.proofs.RoundLaws.{all_at, in_map}
+use Rattle.lanes_in_turn.specs.Taking.{IsBegun, IsFreshLane}
 use Rattle.upload_lanes.specs.inside.Party.{AreEnds, without_upload}
 use Rattle.upload_lanes.specs.inside.Recording.{AreBegun, IsDuty}
-use Rattle.upload_lanes.specs.declared.gathered.LaneResult.{LaneResult}
+use Rattle.lanes_in_turn.specs.declared.gathered.LaneResult.{LaneResult}
 use Rattle.upload_lanes.specs.declared.recorder.Duty.{Duty}
 use Rattle.upload_lanes.specs.declared.sent.Sent.{Sent}
 

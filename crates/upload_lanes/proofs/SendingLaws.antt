@@ -8,9 +8,9 @@ use Rattle.lane_queue.specs.Queue.{Queue}
 use Rattle.lane_queue.specs.declared.item.Item.{Item}
 use Rattle.lane_queue.specs.declared.view.QueueView.{QueueView}
 use Rattle.upload_lanes.proofs.Zips.{empty}
-use Rattle.upload_lanes.specs.inside.Lanes.{IsFreshLane}
+use Rattle.lanes_in_turn.specs.Taking.{IsFreshLane}
 use Rattle.upload_lanes.specs.inside.Party.{AreEnds, AreUploads, AreSending, own_upload, without_upload}
-use Rattle.upload_lanes.specs.declared.gathered.LaneResult.{LaneResult}
+use Rattle.lanes_in_turn.specs.declared.gathered.LaneResult.{LaneResult}
 use Rattle.upload_lanes.specs.declared.sent.Sent.{Sent}
 use Rattle.upload_lanes.specs.declared.uploader.Uploads.{Uploads}
 

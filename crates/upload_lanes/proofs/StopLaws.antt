@@ -11,17 +11,16 @@ use Rattle.upload_lanes.proofs.GroupLaws.{ends_in, gave_more, lane_count, lane_e
 use Rattle.upload_lanes.proofs.JoinLaws.{some_at}
 use Rattle.upload_lanes.proofs.RecorderLaws.{total, lanes_total}
 use Rattle.upload_lanes.proofs.Zips.{mapped_at, zip_at}
-use Rattle.upload_lanes.specs.Lane.{IsTaken}
-use Rattle.upload_lanes.specs.Round.{have_ended}
-use Rattle.upload_lanes.specs.Threads.{is_ended, items_of, items_taken, refused_by, GaveMore, Stops}
-use Rattle.upload_lanes.specs.inside.Lanes.{TakesLane}
+use Rattle.lanes_in_turn.specs.Lane.{IsTaken}
+use Rattle.lanes_in_turn.specs.Round.{have_ended}
+use Rattle.lanes_in_turn.specs.Taking.{is_ended, items_of, items_taken, refused_by, GaveMore, Stops, TakesLane}
 use Rattle.upload_lanes.specs.inside.Party.{TellsUpload, IsJoined, AreJoined, TakesByOne, own_upload, without_upload}
 use Rattle.upload_lanes.specs.inside.Sent.{is_last}
 use Rattle.upload_lanes.specs.inside.Recording as Recorder
 use Rattle.upload_lanes.specs.inside.Recording.{IsHalted, IsRecording, IsUnrecorded}
-use Rattle.upload_lanes.specs.declared.gathered.LaneResult.{LaneResult}
-use Rattle.upload_lanes.specs.declared.gathered.Stop.{Stop}
-use Rattle.upload_lanes.specs.declared.gathered.Stop.TheVariants as stops
+use Rattle.lanes_in_turn.specs.declared.gathered.LaneResult.{LaneResult}
+use Rattle.lanes_in_turn.specs.declared.gathered.Stop.{Stop}
+use Rattle.lanes_in_turn.specs.declared.gathered.Stop.TheVariants as stops
 use Rattle.upload_lanes.specs.declared.sent.Sent.{Sent}
 use Rattle.upload_lanes.specs.declared.uploader.Uploads.{Uploads}
 

@@ -1,28 +1,20 @@
 -- From the lanes of a round to what was taken of its uploads.
-use Rattle.std.proofs.Common.{ℕ, List, [], ◌∷◌, map, Bool, Option, Some, None, refl, ap, ◌∙◌}
-use Rattle.std.proofs.lemmas.List.{length-map}
-use Rattle.std.specs.List.{AllByRecursion, AllZip}
-use Rattle.upload_reader.specs.Upload.{UploadState, IsUntouched}
-use Rattle.upload_lanes.specs.Round.{resumed}
-use Rattle.upload_lanes.specs.Threads.{recorders_of, AreTaken, IsLaneOf}
-use Rattle.upload_lanes.specs.inside.Lanes.{begun_lane, IsFreshLane, TakesLane, TakeLanes}
-use Rattle.upload_lanes.specs.declared.gathered.LaneResult.{LaneResult}
-use Rattle.upload_lanes.specs.declared.gathered.Stop.{Stop}
+use Rattle.std.proofs.Common.{◌≡◌, ℕ, List, [], ◌∷◌, map, Option, refl}
+use Rattle.std.specs.List.{AllZip}
+use Rattle.upload_reader.specs.Upload.{UploadState}
+use Rattle.lanes_in_turn.specs.Lane.{IsTaken}
+use Rattle.lanes_in_turn.specs.Round.{log_before, resumed}
+use Rattle.lanes_in_turn.specs.Taking.{begun_lane, TakesLane}
+use Rattle.lanes_in_turn.specs.declared.gathered.LaneResult.{LaneResult}
 
 module _ {R : Type 0} (known : List ℕ → Option (LaneResult R)) (quota : ℕ) where
-  fresh_behind : (upload : UploadState R) (found : Option (LaneResult R)) → IsUntouched upload → IsUntouched (resumed upload found)
-  fresh_behind upload None untouched = untouched
-  fresh_behind upload (Some lane) untouched = record { given = untouched.given; ending = untouched.ending; place = untouched.place }
+  -- that upload's lane, and nothing of another's went into it
+  pub record IsLaneOf (upload : UploadState R) (lane : List ℕ × LaneResult R) : Type 0 where
+    pub client : lane.0 ≡ upload.client
+    pub is_taken : IsTaken (log_before quota upload (known upload.client)) (resumed upload (known upload.client)) lane.1
 
-  pub fresh_begun : (uploads : List (UploadState R)) → AllByRecursion IsUntouched uploads → AllByRecursion IsFreshLane (map (begun_lane known quota) uploads)
-  fresh_begun [] all = tt
-  fresh_begun (upload ∷ uploads) all = (
-    record { upload = resumed upload (known upload.client); upload_is = refl; untouched = fresh_behind upload (known upload.client) all.0; begun = record { taken = refl; end = refl } },
-    fresh_begun uploads all.1,
-  )
-
-  lanes_of : (uploads : List (UploadState R)) (lanes : List (List ℕ × LaneResult R)) → AllZip TakesLane (map (begun_lane known quota) uploads) lanes
-      → AllZip (IsLaneOf known quota) uploads lanes
+  pub lanes_of : (uploads : List (UploadState R)) (lanes : List (List ℕ × LaneResult R)) → AllZip TakesLane (map (begun_lane known quota) uploads) lanes
+      → AllZip IsLaneOf uploads lanes
   lanes_of [] [] all = tt
   lanes_of [] (lane ∷ lanes) all = absurd all
   lanes_of (upload ∷ uploads) [] all = absurd all
@@ -30,13 +22,3 @@ module _ {R : Type 0} (known : List ℕ → Option (LaneResult R)) (quota : ℕ)
     record { client = all.0.client; is_taken = all.0.is_taken (resumed upload (known upload.client)) refl },
     lanes_of uploads lanes all.1,
   )
-
-  pub are_taken : (allows : ℕ → Bool → Type 0) (uploads : List (UploadState R)) (lanes : List (List ℕ × LaneResult R)) (stop : Stop)
-      → TakeLanes allows (map (begun_lane known quota) uploads) lanes stop → AreTaken allows known quota uploads lanes stop
-  are_taken allows uploads lanes stop takes = record {
-    lanes_are = lanes_of uploads lanes takes.lanes_are;
-    stops = takes.stops;
-    count = takes.count ∙ ap recorders_of (length-map uploads (begun_lane known quota));
-    each = takes.each;
-    stop_is = takes.stop_is;
-  }

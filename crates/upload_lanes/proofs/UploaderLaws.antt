@@ -17,9 +17,9 @@ use Rattle.upload_reader.specs.Upload.{UploadState, IsUntouched, GivesFirst, End
 use Rattle.upload_reader.specs.declared.ending.Ending.{Ending}
 use Rattle.upload_reader.specs.declared.next.Next.{Next}
 use Rattle.upload_reader.specs.declared.next.Next.TheVariants.{Got, Over, GaveUp}
-use Rattle.upload_lanes.proofs.LaneSteps.{read_on}
-use Rattle.upload_lanes.proofs.RoundLaws.{nothing_first}
-use Rattle.upload_lanes.specs.Lane.{NotOver}
+use Rattle.lanes_in_turn.proofs.LaneSteps.{read_on}
+use Rattle.lanes_in_turn.proofs.RoundLaws.{nothing_first}
+use Rattle.lanes_in_turn.specs.Lane.{NotOver}
 use Rattle.upload_lanes.specs.inside.Sent.{sent, bodies, is_last, IsMarked, IsReadOn, IsPutting, IsPut, Sends}
 use Rattle.upload_lanes.specs.declared.sent.Sent.{Sent}
 use Rattle.upload_lanes.specs.declared.sent.Sent.TheVariants.{One, Last}

@@ -1,5 +1,2 @@
-pub mod Fault
-pub mod Lane
-pub mod Round
 pub mod Threads
 pub mod inside

@@ -1,4 +1,3 @@
-pub mod Lanes
 pub mod Sent
 pub mod Recording
 pub mod Party

@@ -8,11 +8,10 @@ ghost use Rattle.upload_lanes.specs.inside.Party.{IsFreshHand, TakeEach, TakesPa
 ghost use Rattle.upload_lanes.specs.inside.Party.{IsRunning, TakesByOne};
 
 use crate::gate::Gate;
-use crate::gathered::{LaneResult, Stop};
-use crate::halt::Halt;
 use crate::party::{Party, end_party, join_party, start_party};
 use byte_streams::Source;
 use lane_queue::Room;
+use lanes_in_turn::{Halt, LaneResult, Stop};
 use std::alloc::{AllocError, Global};
 use std::sync::Wait;
 use std::thread;

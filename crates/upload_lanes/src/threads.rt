@@ -1,25 +1,21 @@
 //! Lanes on threads: an uploader for each, and up to four recorders.
-ghost use Rattle.std.specs.Prelude.{ℕ, ◌≡◌, ◌≤◌, length, bytes_eq, IfOk, IfErr};
+ghost use Rattle.std.specs.Prelude.{ℕ, ◌≡◌, ◌≤◌, length, IfOk, IfErr};
 ghost use Rattle.std.specs.List.{AllByRecursion};
-ghost use Rattle.indexmap.specs.IndexMap.{get, spare, IsUnchanged};
 ghost use Rattle.lane_queue.specs.Limits.{AreLanes, max_items};
 ghost use Rattle.upload_reader.specs.Upload.{IsUntouched};
-ghost use Rattle.upload_lanes.specs.Round.{IsRound, IsNoRound, RefusesRound};
-ghost use Rattle.upload_lanes.specs.Threads.{recorders_of, AreTaken, Gathers, GathersFirst};
-ghost use Rattle.upload_lanes.specs.inside.Lanes.{IsFreshLane, TakeLanes};
+ghost use Rattle.lanes_in_turn.specs.Round.{IsNoRound, RefusesRound};
+ghost use Rattle.upload_lanes.specs.Threads.{recorders_of, Gathers, GathersFirst, AreTaken};
+ghost use Rattle.lanes_in_turn.specs.Taking.{IsFreshLane};
 
 use crate::alone::take_only;
-use crate::checks::check_round;
-use crate::fault::{GatherFault, RefusedRound, no_memory};
-use crate::gathered::{Gathered, LaneResult, Stop};
-use crate::halt::{Asks, Halt};
 use crate::parties::take_hands;
-use crate::round::{begin_round, put_back, rest_all};
 use byte_streams::Source;
 use client_log::Quota;
-use indexmap::IndexMap;
 use lane_queue::Room;
-use page_tree::NoMemory;
+use lanes_in_turn::{
+    Asks, BegunRound, GatherFault, Gathered, Halt, LaneResult, RefusedRound, Stop, begin_round,
+    end_round,
+};
 use round_robin::{collect, deal};
 use std::alloc::{AllocError, Global};
 use std::sync::Wait;
@@ -56,9 +52,7 @@ pub fn gather<
     }
 }
 
-/// A later round. A client that is known goes on behind its log and the session of that, with its own quota; a new one begins with this quota. Known clients
-/// stand first, in their order. One without a lane keeps its log. Where there is no round, what was gathered before comes back, and the uploads too where
-/// memory isn't why.
+/// A later round, as `begin_round` and `end_round` of `lanes_in_turn` say.
 pub fn gather_again<
     H: Fn(u64) -> bool + Sync,
     R: Source + Drop + Send,
@@ -76,53 +70,11 @@ pub fn gather_again<
     ensures ok { IfOk result (λ gathered. Gathers (H.post halt.now) earlier uploads.items quota gathered) }
     ensures refused { IfErr result (RefusesRound earlier uploads.items) }
 {
-    if let Err(fault) = check_round(uploads.as_slice()) {
-        return Err(RefusedRound {
-            fault,
-            earlier,
-            uploads,
-        });
+    let BegunRound { earlier, lanes } = begin_round(rt.alloc(), earlier, uploads, quota)?;
+    match take_lanes(rt, rt.alloc(), lanes, room, &Asks { halt }) {
+        Err(_) => Err(RefusedRound::no_memory(rt.alloc(), earlier)),
+        Ok((lanes, stop)) => Ok(end_round(earlier, lanes, stop)),
     }
-    let mut earlier = earlier;
-    match take_round(
-        rt,
-        rt.alloc(),
-        &mut earlier.clients,
-        uploads,
-        quota,
-        room,
-        &Asks { halt },
-    ) {
-        Err(_) => Err(no_memory(rt.alloc(), earlier)),
-        Ok((lanes, stop)) => {
-            rest_all(&mut earlier.clients);
-            put_back(&mut earlier.clients, lanes);
-            earlier.stop = stop;
-            Ok(earlier)
-        }
-    }
-}
-
-// The lanes of a round, with room for all of them among the clients.
-fn take_round<H: Halt, R: Source + Drop + Send, T: Threads + Wait + Sync>(
-    rt: &T,
-    alloc: Global,
-    clients: &mut IndexMap<Client, LaneResult<R>>,
-    uploads: Vec<Upload<R>>,
-    quota: Quota,
-    room: Room,
-    halt: &H,
-) -> Result<(Vec<(Client, LaneResult<R>)>, Stop), NoMemory>
-    requires untouched { AllByRecursion IsUntouched uploads.items }
-    requires round { IsRound uploads.items }
-    requires halt { (n : ℕ) → n ≤ max_items → H.may halt.now n }
-    ensures same { IsUnchanged clients.old clients.new }
-    ensures taken { IfOk result (λ taken.
-        AreTaken (H.allows halt.now) (get bytes_eq clients.old) quota uploads.items taken.0.items taken.1) }
-    ensures room { IfOk result (λ taken. length taken.0.items ≤ spare clients.new) }
-{
-    let lanes = begin_round(alloc, clients, uploads, quota)?;
-    Ok(take_lanes(rt, alloc, lanes, room, halt)?)
 }
 
 // Takes these lanes, side by side where there are more than one.
@@ -136,7 +88,7 @@ fn take_lanes<H: Halt, R: Source + Drop + Send, T: Threads + Wait + Sync>(
     requires fresh { AllByRecursion IsFreshLane lanes.items }
     requires lanes { AreLanes (length lanes.items) }
     requires halt { (n : ℕ) → n ≤ max_items → H.may halt.now n }
-    ensures { IfOk result (λ taken. TakeLanes (H.allows halt.now) lanes.items taken.0.items taken.1) }
+    ensures { IfOk result (λ taken. AreTaken (H.allows halt.now) lanes.items taken.0.items taken.1) }
 {
     if lanes.len() == 1 {
         return Ok(take_only(rt, lanes, halt));

@@ -6,9 +6,10 @@ use Rattle.std.proofs.lemmas.Option.{slice_get-map}
 use Rattle.indexmap.specs.IndexMap.{set_value_at}
 use Rattle.byte_streams.specs.Reading.{Reading}
 use Rattle.upload_reader.specs.Upload.{UploadState, Begins, IsUntouched}
-use Rattle.upload_lanes.specs.declared.gathered.LaneResult.{LaneResult}
+use Rattle.lanes_in_turn.specs.declared.gathered.LaneResult.{LaneResult}
 use Rattle.warp_server.specs.Rounds.{let_go}
-use Rattle.warp_server.specs.program.Callers.{OneByOne, unread, IsGreeted}
+use Rattle.warp_server.specs.program.Callers.{OneByOne, IsGreeted}
+use Rattle.warp_run.specs.Run.{unread}
 
 pub all_weaker : {X : Type 0} (P Q : X → Type 0) → ((x : X) → P x → Q x) → (xs : List X) → AllByRecursion P xs → AllByRecursion Q xs
 all_weaker P Q more [] all = tt

@@ -18,11 +18,11 @@ use Rattle.upload_reader.specs.Stream.{Costed}
 use Rattle.upload_reader.specs.Upload.{UploadState}
 use Rattle.client_log.specs.Client.{OfClient}
 use Rattle.client_log.specs.Log.{kept_log}
-use Rattle.upload_lanes.specs.Lane.{IsTaken}
-use Rattle.upload_lanes.specs.Round.{behind_log, new_log, log_before, resumed, rested, clients_of}
-use Rattle.upload_lanes.specs.Threads.{IsLaneOf}
-use Rattle.upload_lanes.specs.declared.gathered.Gathered.{Gathered}
-use Rattle.upload_lanes.specs.declared.gathered.LaneResult.{LaneResult}
+use Rattle.lanes_in_turn.specs.Lane.{IsTaken}
+use Rattle.lanes_in_turn.specs.Round.{behind_log, new_log, log_before, resumed, rested, clients_of}
+use Rattle.upload_lanes.proofs.TakenLaws.{IsLaneOf, lanes_of}
+use Rattle.lanes_in_turn.specs.declared.gathered.Gathered.{Gathered}
+use Rattle.lanes_in_turn.specs.declared.gathered.LaneResult.{LaneResult}
 use Rattle.warp_server.specs.Rounds.{let_go, GathersRound, GathersRounds, IsLogAfter, uploads_of, HasLog}
 use Rattle.warp_server.proofs.HeadlineLaws.{distinct, same_keys}
 use Rattle.warp_server.proofs.RoundSteps.{all_weaker}
@@ -260,7 +260,8 @@ module _ {R : Type 0} where
     keys_after g =
         ap keys_of (after_round g) ∙ keys_kept let_go (went g) ∙ keys_insert_all bytes_eq stayed g.gathers.lanes
         ∙ ap (λ keys. set_all bytes_eq keys (keys_of g.gathers.lanes)) (keys_kept rested earlier.clients.entries)
-        ∙ ap (set_all bytes_eq (keys_of earlier.clients.entries)) (same_keys (get bytes_eq earlier.clients) quota uploads g.gathers.lanes g.gathers.taken.lanes_are)
+        ∙ ap (set_all bytes_eq (keys_of earlier.clients.entries)) (same_keys (get bytes_eq earlier.clients) quota uploads g.gathers.lanes
+        (lanes_of (get bytes_eq earlier.clients) quota uploads g.gathers.lanes g.gathers.taken.lanes_are))
 
     round_knows : Knows before earlier → GathersRound quota earlier uploads gathered → Knows (uploads ∷ before) gathered
     round_knows knows g =
@@ -306,13 +307,16 @@ module _ {R : Type 0} where
           has_log quota (uploads ∷ before) lane messages
           (subst (λ client. IsLogAfter quota client (uploads_of client (uploads ∷ before)) messages lane.1.log) (sym is.client) own)
 
+      round_lanes : (g : GathersRound quota earlier uploads gathered) → AllZip (IsLaneOf (get bytes_eq earlier.clients) quota) uploads g.gathers.lanes
+      round_lanes g = lanes_of (get bytes_eq earlier.clients) quota uploads g.gathers.lanes g.gathers.taken.lanes_are
+
       -- a client with no upload in the round keeps its log
       stays_has : (g : GathersRound quota earlier uploads gathered) (entry : Entry (LaneResult R)) → HasLog quota before entry
           → Lacks entry.0 g.gathers.lanes
           → HasLog quota (uploads ∷ before) (entry.0, rested entry.1)
       stays_has g entry has lacks =
           let Other : List ℕ → Type 0 = λ client. bytes_eq entry.0 client ≡ false in
-          let keys = same_keys (get bytes_eq earlier.clients) quota uploads g.gathers.lanes g.gathers.taken.lanes_are in
+          let keys = same_keys (get bytes_eq earlier.clients) quota uploads g.gathers.lanes (round_lanes g) in
           let others = all_of_mapped (λ upload. upload.client) Other uploads (subst (AllByRecursion Other) keys (all_mapped (λ e. e.0) Other g.gathers.lanes lacks)) in
           let none = none_passes (λ upload. bytes_eq entry.0 upload.client) uploads others in
           record {
@@ -330,7 +334,7 @@ module _ {R : Type 0} where
           let both = all_both (λ upload. upload.lane.earlier ≡ []) (λ upload. own_of upload.client uploads ≡ upload ∷ []) (IsNew uploads)
           (λ upload fresh only. record { fresh = fresh; only = only }) uploads fresh only in
           let new = all_beside (IsLaneOf (get bytes_eq earlier.clients) quota) (IsNew uploads) Has lane_has
-          uploads g.gathers.lanes g.gathers.taken.lanes_are both in
+          uploads g.gathers.lanes (round_lanes g) both in
           let old = all_mapped (λ entry. (entry.0, rested entry.1)) (λ e. Lacks e.0 g.gathers.lanes → Has e) earlier.clients.entries
           (all_weaker (HasLog quota before) Stays (stays_has g) earlier.clients.entries had) in
           let all = all_among Has stayed g.gathers.lanes (stayed_apart knows) new old in

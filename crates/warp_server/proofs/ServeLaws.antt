@@ -9,21 +9,21 @@ use Rattle.upload_reader.specs.declared.hello_fault.HelloFault.TheVariants as he
 use Rattle.site_line.specs.Reading.{site_quota}
 use Rattle.site_line.specs.declared.site.Site.{Site}
 use Rattle.conflict_desk.specs.Laws.{AllLeaveInOrder}
-use Rattle.upload_lanes.specs.declared.gathered.Gathered.{Gathered}
-use Rattle.upload_lanes.specs.declared.gathered.LaneResult.{LaneResult}
-use Rattle.upload_lanes.specs.declared.gathered.Stop.{Stop}
-use Rattle.upload_lanes.specs.declared.gathered.Stop.TheVariants as stops
-use Rattle.warp_server.specs.Answer.{site_settled}
-use Rattle.warp_server.specs.Report.{report_text, WritesReport}
+use Rattle.lanes_in_turn.specs.declared.gathered.Gathered.{Gathered}
+use Rattle.lanes_in_turn.specs.declared.gathered.LaneResult.{LaneResult}
+use Rattle.lanes_in_turn.specs.declared.gathered.Stop.{Stop}
+use Rattle.lanes_in_turn.specs.declared.gathered.Stop.TheVariants as stops
+use Rattle.warp_run.specs.Conclusion.{site_settled}
+use Rattle.warp_run.specs.Report.{report_text, WritesReport}
 use Rattle.warp_server.specs.Rounds.{GathersRounds}
-use Rattle.warp_server.specs.program.Shortage.{gave_up, status_by, status_of}
+use Rattle.warp_run.specs.Shortage.{gave_up, status_by, status_of}
 use Rattle.warp_server.specs.program.Callers.{Sayings, CameBadly, RoundFails, MakesRounds, MakesAll, HasServed, Serves}
-use Rattle.warp_server.specs.inside.Answering.{written_status}
-use Rattle.warp_server.specs.inside.Intake.{no_hello}
-use Rattle.warp_server.specs.declared.reporting.fault.ReportFault.{ReportFault}
-use Rattle.warp_server.specs.declared.reporting.fault.ReportFault.TheVariants as report_fault
-use Rattle.warp_server.specs.declared.program.status.Status.{Status}
-use Rattle.warp_server.specs.declared.program.status.Status.TheVariants.{Done, OutOfMemory}
+use Rattle.warp_run.specs.Status.{written_status}
+use Rattle.warp_run.specs.Intake.{no_hello}
+use Rattle.warp_run.specs.declared.reporting.fault.ReportFault.{ReportFault}
+use Rattle.warp_run.specs.declared.reporting.fault.ReportFault.TheVariants as report_fault
+use Rattle.warp_run.specs.declared.status.Status.{Status}
+use Rattle.warp_run.specs.declared.status.Status.TheVariants.{Done, OutOfMemory}
 use Rattle.warp_server.proofs.HeadlineLaws.{replayed}
 use Rattle.warp_server.proofs.RoundSteps.{new_sessions}
 use Rattle.warp_server.proofs.RoundsLaws.{rounds_have, uploads_known}

@@ -12,29 +12,27 @@ use Rattle.visit_replay.specs.RepairedSite.{RepairedSite}
 use Rattle.conflict_desk.specs.Book.{Book}
 use Rattle.conflict_desk.specs.Laws.{AllLeaveInOrder}
 use Rattle.conflict_desk.specs.declared.docket.Docket.{Docket}
-use Rattle.upload_lanes.specs.Lane.{IsTaken}
-use Rattle.upload_lanes.specs.Round.{new_log}
-use Rattle.upload_lanes.specs.declared.gathered.Gathered.{Gathered}
-use Rattle.upload_lanes.specs.declared.gathered.LaneResult.{LaneResult}
-use Rattle.warp_server.specs.Repair.{docket_for}
+use Rattle.lanes_in_turn.specs.Lane.{IsTaken}
+use Rattle.lanes_in_turn.specs.Round.{new_log}
+use Rattle.lanes_in_turn.specs.declared.gathered.Gathered.{Gathered}
+use Rattle.lanes_in_turn.specs.declared.gathered.LaneResult.{LaneResult}
+use Rattle.warp_run.specs.Repair.{docket_for}
 use Rattle.warp_server.specs.Rounds.{GathersRounds, HasLog}
-use Rattle.warp_server.specs.declared.repaired.Repaired.{Repaired}
+use Rattle.warp_run.specs.declared.repaired.Repaired.{Repaired}
 
 -- the client's docket as it was opened, whatever was decided since
 abbrev pub docket_of : List ℕ × Book → Docket
 docket_of entry = record { client = entry.0; cases = entry.1.cases }
 
-module _ {R : Type 0} where
-  -- each visit that is kept has the outcome that replaying it on that site gives
-  abbrev pub AreReplayed : RepairedSite → Gathered R → Repaired → Type 0
-  AreReplayed site gathered repaired = map docket_of repaired.desk ≡ map (docket_for site) gathered.clients.entries
+-- each visit that is kept has the outcome that replaying it on that site gives
+abbrev pub AreReplayed : {R : Type 0} → RepairedSite → Gathered R → Repaired → Type 0
+AreReplayed site gathered repaired = map docket_of repaired.desk ≡ map (docket_for site) gathered.clients.entries
 
-module _ {R : Type 0} (quota : ℕ) where
-  -- The recorder has of the upload's client a prefix of the messages in its stream, each once and in order, and all of
-  -- them where its end is taken.
-  pub record HasPrefix (upload : UploadState R) (entry : List ℕ × LaneResult R) : Type 0 where
-    pub client : entry.0 ≡ upload.client
-    pub is_taken : IsTaken (new_log quota upload.client) upload entry.1
+-- The recorder has of the upload's client a prefix of the messages in its stream, each once and in order, and all of
+-- them where its end is taken.
+pub record HasPrefix {R : Type 0} (quota : ℕ) (upload : UploadState R) (entry : List ℕ × LaneResult R) : Type 0 where
+  pub client : entry.0 ≡ upload.client
+  pub is_taken : IsTaken (new_log quota upload.client) upload entry.1
 
 module _ {R : Type 0} (site : RepairedSite) (quota : ℕ) where
   -- Of these uploads that was gathered, and it was so replayed on the repaired site, and decided.

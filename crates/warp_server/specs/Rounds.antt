@@ -5,15 +5,15 @@ use Rattle.upload_reader.specs.Stream.{Costed}
 use Rattle.upload_reader.specs.Upload.{UploadState}
 use Rattle.client_log.specs.Client.{OfClient}
 use Rattle.client_log.specs.Log.{kept_log}
-use Rattle.upload_lanes.specs.Lane.{IsTaken}
-use Rattle.upload_lanes.specs.Round.{new_log, behind_log}
+use Rattle.lanes_in_turn.specs.Lane.{IsTaken}
+use Rattle.lanes_in_turn.specs.Round.{new_log, behind_log}
 use Rattle.upload_lanes.specs.Threads.{Gathers}
-use Rattle.upload_lanes.specs.declared.gathered.Gathered.{Gathered}
-use Rattle.upload_lanes.specs.declared.gathered.LaneResult.{LaneResult}
-use Rattle.upload_lanes.specs.declared.gathered.Stop.TheVariants as stops
-use Rattle.warp_server.specs.Answer.{never}
-use Rattle.warp_server.specs.program.Shortage.{status_of}
-use Rattle.warp_server.specs.declared.program.status.Status.TheVariants.{Done}
+use Rattle.lanes_in_turn.specs.declared.gathered.Gathered.{Gathered}
+use Rattle.lanes_in_turn.specs.declared.gathered.LaneResult.{LaneResult}
+use Rattle.lanes_in_turn.specs.declared.gathered.Stop.TheVariants as stops
+use Rattle.lanes_in_turn.specs.Taking.{never}
+use Rattle.warp_run.specs.Shortage.{status_of}
+use Rattle.warp_run.specs.declared.status.Status.TheVariants.{Done}
 
 module _ {R : Type 0} where
   -- ---- round by round

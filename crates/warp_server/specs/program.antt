@@ -1,5 +1,2 @@
-pub mod Run
-pub mod Status
-pub mod Shortage
 pub mod Call
 pub mod Callers

@@ -9,11 +9,11 @@ use Rattle.lane_queue.specs.Queue.{Queue}
 use Rattle.lane_queue.specs.declared.item.Item.{Item}
 use Rattle.lane_queue.specs.declared.view.QueueView.{QueueView}
 use Rattle.upload_reader.specs.Upload.{UploadState}
-use Rattle.upload_lanes.specs.Threads.{Stops, stop_of}
-use Rattle.upload_lanes.specs.inside.Lanes.{TakesLane, IsFreshLane}
+use Rattle.lanes_in_turn.specs.Taking.{Stops, TakesLane, IsFreshLane}
+use Rattle.upload_lanes.specs.Threads.{stop_of}
 use Rattle.upload_lanes.specs.inside.Sent.{IsReadOn, IsPut}
-use Rattle.upload_lanes.specs.declared.gathered.LaneResult.{LaneResult}
-use Rattle.upload_lanes.specs.declared.gathered.Stop.{Stop}
+use Rattle.lanes_in_turn.specs.declared.gathered.LaneResult.{LaneResult}
+use Rattle.lanes_in_turn.specs.declared.gathered.Stop.{Stop}
 use Rattle.upload_lanes.specs.declared.party.Party.{Party}
 use Rattle.upload_lanes.specs.declared.sent.Sent.{Sent}
 use Rattle.upload_lanes.specs.declared.uploader.Uploads.{Uploads}

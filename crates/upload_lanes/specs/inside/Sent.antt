@@ -15,7 +15,7 @@ use Rattle.upload_reader.specs.Next.{next_of, IfOver}
 use Rattle.upload_reader.specs.Stream.{Costed}
 use Rattle.upload_reader.specs.Upload.{UploadState, GivesFirst, EndsBy}
 use Rattle.upload_reader.specs.declared.ending.Ending.{Ending}
-use Rattle.upload_lanes.specs.Lane.{ReadsBeforeEnd}
+use Rattle.lanes_in_turn.specs.Lane.{ReadsBeforeEnd}
 use Rattle.upload_lanes.specs.declared.uploader.Uploaded.{Uploaded}
 use Rattle.upload_lanes.specs.declared.sent.Sent.{Sent}
 use Rattle.upload_lanes.specs.declared.sent.Sent.TheVariants.{One, Last}

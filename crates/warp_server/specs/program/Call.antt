@@ -7,13 +7,13 @@ use Rattle.std.specs.Str.Parse.{digits_value}
 use Rattle.std.specs.declared.io.ErrorKind.{ErrorKind}
 use Rattle.std.specs.declared.io.ErrorKind.TheVariants as error
 use Rattle.lane_queue.specs.Limits.{max_lanes, AreLanes}
-use Rattle.warp_server.specs.program.Status.{exit_code}
+use Rattle.warp_run.specs.Status.{exit_code}
 use Rattle.warp_server.specs.declared.program.call.Call.{Call}
 use Rattle.warp_server.specs.declared.program.call.Call.TheVariants.{Run, Listen}
 use Rattle.warp_server.specs.declared.program.call.Listening.{Listening}
 use Rattle.warp_server.specs.declared.program.call.CallFault.{CallFault}
 use Rattle.warp_server.specs.declared.program.call.CallFault.TheVariants.{Words, NoMemory}
-use Rattle.warp_server.specs.declared.program.status.Status.TheVariants.{OutOfMemory}
+use Rattle.warp_run.specs.declared.status.Status.TheVariants.{OutOfMemory}
 
 -- ---- numbers
 

@@ -10,17 +10,19 @@ use Rattle.upload_reader.specs.declared.hello_fault.HelloFault.{HelloFault}
 use Rattle.upload_reader.specs.declared.hello_fault.HelloFault.TheVariants.{NoMemory}
 use Rattle.site_line.specs.Reading.{site_quota}
 use Rattle.site_line.specs.declared.site.Site.{Site}
-use Rattle.upload_lanes.specs.Round.{has_twice, clients_of}
-use Rattle.upload_lanes.specs.declared.gathered.Gathered.{Gathered}
-use Rattle.upload_lanes.specs.declared.gathered.LaneResult.{LaneResult}
-use Rattle.upload_lanes.specs.declared.gathered.Stop.TheVariants as stops
-use Rattle.warp_server.specs.Answer.{repaired_site, site_settled}
+use Rattle.lanes_in_turn.specs.Round.{has_twice, clients_of}
+use Rattle.lanes_in_turn.specs.declared.gathered.Gathered.{Gathered}
+use Rattle.lanes_in_turn.specs.declared.gathered.LaneResult.{LaneResult}
+use Rattle.lanes_in_turn.specs.declared.gathered.Stop.TheVariants as stops
+use Rattle.warp_run.specs.Conclusion.{repaired_site, site_settled}
 use Rattle.warp_server.specs.Headline.{HeadlineOfRounds}
-use Rattle.warp_server.specs.Report.{report_text}
+use Rattle.warp_run.specs.Report.{report_text}
+use Rattle.warp_run.specs.Run.{unread, IsReadOf}
 use Rattle.warp_server.specs.Rounds.{GathersRound}
-use Rattle.warp_server.specs.program.Shortage.{status_of}
-use Rattle.warp_server.specs.declared.program.status.Status.{Status}
-use Rattle.warp_server.specs.declared.program.status.Status.TheVariants.{Done, BadSite, BadHello, OutOfMemory, InputOutput}
+use Rattle.warp_run.specs.Intake.{IsUnopened}
+use Rattle.warp_run.specs.Shortage.{status_of}
+use Rattle.warp_run.specs.declared.status.Status.{Status}
+use Rattle.warp_run.specs.declared.status.Status.TheVariants.{Done, BadSite, BadHello, OutOfMemory, InputOutput}
 
 -- What callers and their sources say of themselves, from the one to the other.
 pub record Sayings (C R : Type 0) : Type 1 where
@@ -48,19 +50,11 @@ OneByOne {C} step callers (x ∷ xs) now = (between : C) × step callers x betwe
 
 -- ---- the sources of a round
 
--- the lines of a source of which nothing was read yet
-abbrev pub unread : {R : Type 0} → R → Reading R
-unread reader = record { first = reader; answers = []; place = 0; line = []; fault = None }
-
 -- the upload behind the hello that its source begins with
 abbrev pub IsGreeted : {R : Type 0} → UploadState R → Type 0
 IsGreeted upload = Begins (unread upload.lines.first) upload
 
 module _ {R : Type 0} (told : R → R → List Answer → Type 0) where
-  -- just these reads were made of the source, and none behind the input's end
-  abbrev pub IsReadOf : R → R → List Answer → Type 0
-  IsReadOf first now reads = told first now reads × StopsAtEnd reads
-
   -- the source doesn't begin with a hello
   pub record BeginsBadly (first : R) : Type 0 where
     pub read : Reading R
@@ -68,7 +62,7 @@ module _ {R : Type 0} (told : R → R → List Answer → Type 0) where
     pub refuses : Refuses (unread first) read fault
     pub not_memory : fault ≢ NoMemory
     pub now : R
-    pub is_read : IsReadOf first now read.answers
+    pub is_read : IsReadOf told first now read.answers
 
   -- one of these doesn't
   abbrev pub OneBeginsBadly : List R → Type 0
@@ -183,10 +177,6 @@ module _ {C R : Type 0} (says : Sayings C R) (site : Site) (lanes rounds : ℕ) 
     Serves BadSite = ⊥
 
 -- ---- a listener
-
--- what it ends by where no site could be read, or no listener made
-abbrev pub IsUnopened : Status → Type 0
-IsUnopened status = (status ≡ BadSite) ⊎ (status ≡ OutOfMemory) ⊎ (status ≡ InputOutput)
 
 -- so it ended, or some site was served to connections
 abbrev pub Listens : {R : Type 0} → (R → R → List Answer → Type 0) → ℕ → ℕ → CallWrites → Status → Type 0

@@ -7,12 +7,12 @@ ghost use Rattle.std.specs.Vec.Iter.{into_iter_items};
 ghost use Rattle.lane_queue.specs.Limits.{AreLanes};
 ghost use Rattle.warp_server.specs.program.Call.{is_number, number_of_word, rounds_in, listening, named_call, call_by, MayListen, fault_of_kind, call_exit_code, call_error_line};
 
-use crate::program::status::Status;
 use lane_queue::MAX_LANES;
 use page_tree::Text;
 use std::env::Args;
 use std::io;
 use std::io::ErrorKind;
+use warp_run::Status;
 
 /// How many rounds of uploads the program takes at the most.
 pub const MAX_ROUNDS: u32 = 1000;

@@ -6,11 +6,10 @@ ghost use Rattle.upload_reader.specs.declared.hello_fault.HelloFault.TheVariants
 ghost use Rattle.warp_server.specs.program.Callers.{sayings, OneByOne, IsGreeted, BeginsBadly, OneBeginsBadly, CameWith, RoundFails};
 
 use crate::program::callers::Callers;
-use crate::program::intake::no_hello;
-use crate::program::status::Status;
 use byte_streams::{Lines, Source};
 use std::alloc::Global;
 use upload_reader::{HelloFault, Upload};
+use warp_run::{Status, no_hello};
 
 /// The uploads of so many callers, in the order in which they came, each behind its hello.
 pub(crate) fn accept_uploads<R: Source + Drop + Send, C: Callers<Reader = R>>(

@@ -7,17 +7,15 @@ ghost use Rattle.upload_reader.specs.Upload.{UploadState, IsUntouched};
 ghost use Rattle.byte_streams.specs.Reading.{WasRead};
 ghost use Rattle.site_line.specs.Reading.{site_quota};
 ghost use Rattle.upload_lanes.specs.Threads.{Gathers};
-ghost use Rattle.warp_server.specs.Answer.{never};
+ghost use Rattle.lanes_in_turn.specs.Taking.{never};
 ghost use Rattle.warp_server.specs.Rounds.{let_go};
 ghost use Rattle.warp_server.specs.program.Callers.{sayings, OneByOne, uploads_in, GivesBack, RoundFails, MakesRound, NoFurtherRound, MakesAll};
-ghost use Rattle.warp_server.specs.program.Shortage.{status_of};
-ghost use Rattle.warp_server.specs.declared.program.status.Status.TheVariants.{Done, OutOfMemory};
+ghost use Rattle.warp_run.specs.Shortage.{status_of};
+ghost use Rattle.warp_run.specs.declared.status.Status.TheVariants.{Done, OutOfMemory};
 
 use crate::program::answering::take_to_ends;
 use crate::program::callers::Callers;
-use crate::program::ending::status_of;
 use crate::program::greeting::accept_uploads;
-use crate::program::status::Status;
 use byte_streams::Source;
 use client_log::Quota;
 use indexmap::IndexMap;
@@ -26,6 +24,7 @@ use std::sync::Wait;
 use std::thread::Threads;
 use upload_lanes::{GatherFault, Gathered, LaneResult};
 use upload_reader::{Client, Upload};
+use warp_run::{Status, status_of};
 
 /// What so many rounds of these callers gather, each of so many uploads. A round in which memory is refused is the last.
 pub(crate) fn gather_rounds<

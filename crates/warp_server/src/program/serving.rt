@@ -5,16 +5,13 @@ ghost use Rattle.byte_streams.specs.declared.source.Fed.{Fed};
 ghost use Rattle.lane_queue.specs.Limits.{AreLanes};
 ghost use Rattle.byte_streams.specs.Reading.{WasRead};
 ghost use Rattle.byte_streams.specs.Writing.{writes_of};
-ghost use Rattle.warp_server.specs.program.Callers.{sayings, silent, Serves, IsUnopened, Listens};
+ghost use Rattle.warp_run.specs.Intake.{IsUnopened};
+ghost use Rattle.warp_server.specs.program.Callers.{sayings, silent, Serves, Listens};
 
-use crate::program::answering::conclude;
 use crate::program::call::Listening;
 use crate::program::callers::Callers;
 use crate::program::connections::Connections;
-use crate::program::ending::{status_of, written_status};
-use crate::program::intake::read_site;
 use crate::program::rounds::gather_rounds;
-use crate::program::status::Status;
 use byte_streams::{Fed, Lines, Sink, Source};
 use site_line::Site;
 use std::alloc::Global;
@@ -25,6 +22,7 @@ use std::rt::Files;
 use std::sync::Wait;
 use std::thread::Threads;
 use std::{fs, io};
+use warp_run::{Status, conclude, read_site, status_of, written_status};
 
 /// Takes rounds of uploads from these callers, replays what the logs keep of all rounds on the site, puts the site's decisions, and writes one report. Each
 /// round waits for so many callers, then reads the hello of each in that order, and then takes all uploads to their ends at once. A client that uploaded in an

@@ -1,7 +1,8 @@
 use Rattle.std.proofs.Common.{slice_set, subst, sym}
 use Rattle.std.specs.List.{AllByRecursion}
-use Rattle.upload_lanes.proofs.AloneLaws.{one_of, takes_alone}
-use Rattle.upload_lanes.specs.inside.Lanes.{IsFreshLane, TakeLanes}
+use Rattle.upload_lanes.proofs.OnlyLaws.{one_of, takes_alone}
+use Rattle.lanes_in_turn.specs.Taking.{IsFreshLane}
+use Rattle.upload_lanes.specs.Threads.{AreTaken}
 use Rattle.upload_lanes.proofs.alone.take_only.Goals as goal
 
 pub take_alone-stop-requires-clause-fresh : goal.take_alone-stop-requires-clause-fresh
@@ -15,5 +16,5 @@ returns g c =
     let new = c.take_alone-stop.new.lane in
     let stop = c.take_alone-stop.result in
     let one = one_of c.args.lanes.items c.index_mut.result.now c.requires.one c.index_mut.ensures.value in
-    subst (λ lanes. TakeLanes allows lanes (slice_set lanes 0 new) stop) (sym one)
+    subst (λ lanes. AreTaken allows lanes (slice_set lanes 0 new) stop) (sym one)
     (takes_alone allows c.index_mut.result.now new stop c.take_alone-stop.ensures.taken c.take_alone-stop.ensures.stops)

@@ -5,7 +5,7 @@ use Rattle.upload_lanes.proofs.CollectedLaws.{IsJoiningAll, joined_all, joined_n
 use Rattle.upload_lanes.specs.Threads.{both_stops}
 use Rattle.upload_lanes.specs.inside.Party.{TakesParty}
 use Rattle.upload_lanes.specs.inside.Party.{IsRunning}
-use Rattle.upload_lanes.specs.declared.gathered.Stop.TheVariants as stops
+use Rattle.lanes_in_turn.specs.declared.gathered.Stop.TheVariants as stops
 use Rattle.upload_lanes.proofs.parties.join_parties.Goals as goal
 
 pub loop-party-init : goal.loop-party-init

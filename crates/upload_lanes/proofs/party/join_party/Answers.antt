@@ -1,7 +1,7 @@
 use Rattle.std.proofs.Common.{Some, ap, arith, length, map, subst, sym, ◌∙◌}
 use Rattle.std.proofs.lemmas.List.{length-map}
 use Rattle.crossbeam_queue.specs.Passes.{view}
-use Rattle.upload_lanes.proofs.RoundLaws.{written}
+use Rattle.lanes_in_turn.proofs.RoundLaws.{written}
 use Rattle.upload_lanes.proofs.StopLaws.{takes_by_one}
 use Rattle.upload_lanes.specs.inside.Party.{AreJoined, AreUploads, TakesByOne, own_upload, without_upload}
 use Rattle.upload_lanes.proofs.party.join_party.Goals as goal

@@ -1,28 +1,45 @@
-use Rattle.std.proofs.Common.{ap, bytes_eq, refl, subst, sym, ◌∙◌}
-use Rattle.indexmap.specs.IndexMap.{insert_all}
-use Rattle.upload_lanes.specs.Round.{IsRound, IsNoRound, all_rested}
+use Rattle.std.proofs.Common.{ℕ, Bool, ap, arith, bytes_eq, length, map, subst, sym, ◌∙◌}
+use Rattle.std.proofs.lemmas.List.{length-map}
+use Rattle.indexmap.specs.IndexMap.{get, insert_all}
+use Rattle.lane_queue.specs.Limits.{AreLanes}
+use Rattle.lanes_in_turn.specs.Round.{IsNoRound, all_rested}
+use Rattle.lanes_in_turn.specs.Taking.{begun_lane, TakesLane}
+use Rattle.upload_lanes.specs.Threads.{AreTaken}
+use Rattle.upload_lanes.proofs.Zips.{zip_length}
 use Rattle.upload_lanes.proofs.threads.gather_again.Goals as goal
 
+pub take_lanes-requires-clause-fresh : goal.take_lanes-requires-clause-fresh
+take_lanes-requires-clause-fresh g c = λ κs within. c.in_ok-earlier.ensures.fresh
+
+pub take_lanes-requires-clause-lanes : goal.take_lanes-requires-clause-lanes
+take_lanes-requires-clause-lanes g c = λ κs within.
+    let begun = c.in_ok-earlier.ensures.begun in
+    subst AreLanes (sym (ap length begun.lanes_are ∙ length-map c.args.uploads.items (begun_lane (get bytes_eq c.args.earlier.clients) c.args.quota))) begun.is_round.lanes
+
+pub end_round-requires-clause-room : goal.end_round-requires-clause-room
+end_round-requires-clause-room g c = λ κs within.
+    let begun = c.in_ok-earlier.ensures.begun in
+    let size = zip_length TakesLane c.in_ok-earlier.field-0.lanes.items c.in-Ok.lanes.items c.in-Ok.ensures.lanes_are in
+    omega (arith, size, begun.room)
+
 pub returns-in-Ok-clause-ok : goal.returns-in-Ok-clause-ok
-returns-in-Ok-clause-ok g c = record {
-  is_round = subst IsRound c.as_slice.ensures.value c.in_default.ensures.ok;
-  lanes = c.in-Ok.lanes.items;
-  taken = c.in-Ok.ensures.taken;
-  clients_are = c.put_back.ensures ∙ ap (λ entries. insert_all bytes_eq entries c.in-Ok.lanes.items) (c.rest_all.ensures.rested ∙ ap all_rested c.in-Ok.ensures.same);
-}
+returns-in-Ok-clause-ok g c =
+    let begun = c.in_ok-earlier.ensures.begun in let lanes = c.in-Ok.lanes.items in let known = get bytes_eq c.args.earlier.clients in
+    let allows : ℕ → Bool → Type 0 = λ n answer. g.H.Fn.post c.args.halt.now (n, tt) answer in
+    record {
+      is_round = begun.is_round;
+      lanes = lanes;
+      taken = subst (AreTaken allows (map (begun_lane known c.args.quota) c.args.uploads.items) lanes) (sym c.end_round.ensures.stop)
+          (subst (λ fresh. AreTaken allows fresh lanes c.in-Ok.stop) begun.lanes_are c.in-Ok.ensures);
+      clients_are = c.end_round.ensures.clients ∙ ap (λ entries. insert_all bytes_eq (all_rested entries) lanes) begun.clients;
+    }
 
 pub returns-in-Err-clause-refused : goal.returns-in-Err-clause-refused
-returns-in-Err-clause-refused g c = record {
-  why = subst (λ uploads. IsNoRound uploads c.in-Err.fault) c.as_slice.ensures.value c.in-Err.ensures.refused.1;
-  clients = refl;
-  stop = refl;
-  unread = λ differs. refl;
-}
-
-pub returns-in-Err-take_round-clause-refused : goal.returns-in-Err-take_round-clause-refused
-returns-in-Err-take_round-clause-refused g c = record {
-  why = subst (IsNoRound c.args.uploads.items) (sym c.no_memory.ensures.fault) (subst IsRound c.as_slice.ensures.value c.in_default.ensures.ok);
-  clients = ap (λ earlier. earlier.clients.entries) c.no_memory.ensures.earlier ∙ c.take_round.ensures.same;
-  stop = ap (λ earlier. earlier.stop) c.no_memory.ensures.earlier;
-  unread = λ differs. absurd (differs c.no_memory.ensures.fault);
-}
+returns-in-Err-clause-refused g c =
+    let begun = c.in_ok-earlier.ensures.begun in
+    record {
+      why = subst (IsNoRound c.args.uploads.items) (sym c.no_memory.ensures.fault) begun.is_round;
+      clients = ap (λ earlier. earlier.clients.entries) c.no_memory.ensures.earlier ∙ begun.clients;
+      stop = ap (λ earlier. earlier.stop) c.no_memory.ensures.earlier ∙ begun.stop;
+      unread = λ differs. absurd (differs c.no_memory.ensures.fault);
+    }

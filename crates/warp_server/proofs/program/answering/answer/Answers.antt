@@ -1,7 +1,7 @@
 use Rattle.std.proofs.Common.{subst}
 use Rattle.site_line.specs.Reading.{site_quota}
 use Rattle.upload_lanes.specs.Threads.{GathersFirst}
-use Rattle.warp_server.specs.Answer.{never}
+use Rattle.lanes_in_turn.specs.Taking.{never}
 use Rattle.warp_server.proofs.HeadlineLaws.{all_prefixes, replayed}
 use Rattle.warp_server.proofs.program.answering.answer.Goals as goal
 

@@ -1,7 +1,7 @@
 use Rattle.std.proofs.Common.{ap, subst, sym, ◌∙◌}
 use Rattle.upload_reader.specs.Upload.{Begins, Refuses}
 use Rattle.byte_streams.specs.Reading.{WasRead}
-use Rattle.warp_server.specs.program.Callers.{unread}
+use Rattle.warp_run.specs.Run.{unread}
 use Rattle.warp_server.proofs.program.greeting.greet.Goals as goal
 
 pub returns-in-Ok-hello-clause-greeted : goal.returns-in-Ok-hello-clause-greeted

@@ -1,8 +1,8 @@
 use Rattle.std.proofs.Common.{inr, subst}
-use Rattle.upload_lanes.specs.Round.{IsNoRound}
+use Rattle.lanes_in_turn.specs.Round.{IsNoRound}
 use Rattle.upload_lanes.specs.Threads.{Gathers}
 use Rattle.byte_streams.specs.Reading.{WasRead}
-use Rattle.warp_server.specs.Answer.{never}
+use Rattle.lanes_in_turn.specs.Taking.{never}
 use Rattle.warp_server.specs.program.Callers.{sayings, OneByOne, GivesBack}
 use Rattle.warp_server.proofs.RoundSteps.{all_untouched}
 use Rattle.warp_server.proofs.program.rounds.gather_round.Goals as goal

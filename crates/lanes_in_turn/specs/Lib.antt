@@ -1,0 +1,5 @@
+pub mod Fault
+pub mod Lane
+pub mod Round
+pub mod Taking
+pub mod inside

@@ -1,0 +1,58 @@
+//! Lines of uploads and of sites.
+use std::alloc::{AllocError, Global};
+
+/// The lines, each with its line end.
+pub fn joined(alloc: Global, lines: &[&str]) -> Result<String, AllocError> {
+    let mut text = String::new(alloc);
+    for line in lines {
+        text.push_str(line)?;
+        text.push_str("\n")?;
+    }
+    Ok(text)
+}
+
+/// The first visit's page: one link in the body, to `/b`.
+pub const LOAD: &str =
+    r#"{"t":"load","visit":1,"at":1,"path":"/a","page":{"n":"html","c":[{"n":"body","c":[{"n":"a","a":{"href":"/b"},"c":["go"]}]}]}}"#;
+
+pub const CLICK: &str = r#"{"t":"click","visit":1,"at":2,"target":"/html/body/a","req":1}"#;
+
+pub const END: &str = r#"{"t":"end","visit":1,"at":3}"#;
+
+pub const BYE: &str = r#"{"t":"bye"}"#;
+
+pub const HELLO: &str = r#"{"t":"hello","client":"c1"}"#;
+
+pub const SECOND_HELLO: &str = r#"{"t":"hello","client":"c2"}"#;
+
+pub const ONE_CLICK: &[&str] = &[HELLO, LOAD, CLICK, END, BYE];
+
+pub const SECOND_CLICK: &[&str] = &[SECOND_HELLO, LOAD, CLICK, END, BYE];
+
+/// The link is there, so the click can be replayed, and what is said of that.
+pub const SITE: &str =
+    r#"{"patched":["/a"],"pages":{"/a":{"n":"html","c":[{"n":"body","c":[{"n":"a","a":{"href":"/b"},"c":["go"]}]}]}}}"#;
+
+pub const REPORT: &str =
+    "stop none\nclient c1 taken 3 end bye cost 187 lost 0\nvisit 1 done\nload 0 \"/a\"\nget 1 \"/b\"\n";
+
+/// A visit that the click opened, and one that it opened in turn.
+pub const CHILD: &str =
+    r#"{"t":"load","visit":2,"at":3,"parent":1,"from":1,"path":"/b","page":{"n":"html","c":[{"n":"body","c":[{"n":"a","a":{"href":"/b"},"c":["go"]}]}]}}"#;
+
+pub const GRANDCHILD: &str =
+    r#"{"t":"load","visit":3,"at":4,"parent":2,"path":"/x","page":{"n":"html","c":[{"n":"body","c":[{"n":"a","a":{"href":"/b"},"c":["go"]}]}]}}"#;
+
+/// The link of `/a` leads to `/c` now.
+pub const MOVED_SITE: &str =
+    r#"{"patched":["/a","/b"],"pages":{"/a":{"n":"html","c":[{"n":"body","c":[{"n":"a","a":{"href":"/c"},"c":["go"]}]}]},"/b":{"n":"html","c":[{"n":"body","c":[{"n":"a","a":{"href":"/b"},"c":["go"]}]}]}}}"#;
+
+/// The page `/a` has a second link now.
+pub const OTHER_SITE: &str =
+    r#"{"patched":["/a"],"pages":{"/a":{"n":"html","c":[{"n":"body","c":[{"n":"a","a":{"href":"/b"},"c":["go"]},{"n":"a","a":{"href":"/c"},"c":["no"]}]}]}}}"#;
+
+/// The site with these members more.
+pub fn with_members(alloc: Global, site: &str, members: &str) -> Result<String, AllocError> {
+    let front = site.strip_suffix("}").unwrap_or(site);
+    format!(in alloc; "{front},{members}}}")
+}

@@ -1,9 +1,0 @@
-use Rattle.std.proofs.Common.{◌≡◌, length}
-use Rattle.upload_lanes.specs.Round.{has_twice, clients_of}
-use Rattle.upload_lanes.proofs.checks.has_twice.Given as goal
-
-abbrev pub invariant-loop-first : goal.invariant-loop-first
-invariant-loop-first g l = has_twice (clients_of l.initial.uploads) ≡ has_twice (clients_of l.rest)
-
-abbrev pub decreases-loop-first : goal.decreases-loop-first
-decreases-loop-first g l = length l.rest

@@ -1,0 +1,6 @@
+pub mod OpeningLaws
+pub mod NeededLaws
+pub mod IntakeLaws
+pub mod RunLaws
+pub mod RepairLaws
+pub mod ReportLaws

@@ -1,0 +1,9 @@
+pub mod Repair
+pub mod Settle
+pub mod Report
+pub mod Conclusion
+pub mod Run
+pub mod Intake
+pub mod Status
+pub mod Shortage
+pub mod inside

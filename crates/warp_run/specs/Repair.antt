@@ -1,0 +1,46 @@
+-- What replaying on a repaired site makes of what was gathered: this project's own rule.
+use Rattle.std.specs.Prelude.{ℕ, List, [], map, Option}
+use Rattle.std.specs.List.{zip}
+use Rattle.upload_reader.specs.declared.ending.Ending.{Ending}
+use Rattle.client_log.specs.Log.{Log, cost_of}
+use Rattle.client_log.specs.declared.visit.Visit.{Visit}
+use Rattle.visit_replay.specs.Following.{outcomes}
+use Rattle.visit_replay.specs.RepairedSite.{RepairedSite}
+use Rattle.visit_replay.specs.declared.outcome.Outcome.{Outcome}
+use Rattle.conflict_desk.specs.Desk.{new_books}
+use Rattle.conflict_desk.specs.declared.docket.Case.{Case}
+use Rattle.conflict_desk.specs.declared.docket.Docket.{Docket}
+use Rattle.lanes_in_turn.specs.declared.gathered.Gathered.{Gathered}
+use Rattle.lanes_in_turn.specs.declared.gathered.LaneResult.{LaneResult}
+use Rattle.lanes_in_turn.specs.declared.gathered.Stop.{Stop}
+use Rattle.warp_run.specs.declared.repaired.ClientSummary.{ClientSummary}
+use Rattle.warp_run.specs.declared.repaired.Repaired.{Repaired}
+
+-- what is said of a client beside its visits
+abbrev pub summary_by : List ℕ → ℕ → Option Ending → Log → ClientSummary
+summary_by client taken end log =
+    record { client = client; taken = taken; end = end; cost = cost_of log.visits; lost = log.lost }
+
+abbrev pub summary_of : {R : Type 0} → List ℕ × LaneResult R → ClientSummary
+summary_of entry = summary_by entry.0 entry.1.taken entry.1.end entry.1.log.log
+
+-- a visit with its outcome
+abbrev pub as_case : Visit × Outcome → Case
+as_case one = record { visit = one.0.number; parent = one.0.parent; outcome = one.1 }
+
+-- of these clients with these dockets, on which nothing is decided
+abbrev pub undecided : Stop → List ClientSummary → List Docket → Repaired
+undecided stop clients dockets = record { stop = stop; clients = clients; desk = new_books dockets; decided = [] }
+
+module _ (site : RepairedSite) where
+  -- each visit that the log keeps, with the outcome that it has behind those before it
+  abbrev pub docket_by : List ℕ → Log → Docket
+  docket_by client log = record { client = client; cases = map as_case (zip log.visits (outcomes site log.visits)) }
+
+  abbrev pub docket_for : {R : Type 0} → List ℕ × LaneResult R → Docket
+  docket_for entry = docket_by entry.0 entry.1.log.log
+
+  -- a docket for each client
+  abbrev pub repaired_of : {R : Type 0} → Gathered R → Repaired
+  repaired_of gathered =
+      undecided gathered.stop (map summary_of gathered.clients.entries) (map docket_for gathered.clients.entries)

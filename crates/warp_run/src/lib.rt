@@ -1,0 +1,32 @@
+//! One run of the replay server: a site line and one upload come in, a report goes out.
+//!
+//! The upload is taken (`lanes_in_turn`), `repair` replays what is kept of it, `settle` puts the administrator's decisions to the desk, and `report` writes
+//! what became of it all; the last three for any number of clients. `run` is the program on one upload: its contract says which report was written, or which
+//! fault the input has, by what its reads gave.
+#![tactic(auto)]
+
+mod concluding;
+mod ending;
+mod intake;
+mod listed;
+mod repaired;
+mod repairing;
+mod reporting;
+mod running;
+mod settling;
+mod status;
+
+pub use byte_streams::{Sink, Told};
+pub use concluding::{Concluded, conclude};
+pub use conflict_desk::Decision;
+pub use ending::{status_of, written_status};
+pub use intake::{no_hello, read_site};
+pub use lanes_in_turn::{Gathered, LaneResult, Stop};
+pub use listed::Listed;
+pub use repaired::{ClientSummary, PutDecision, Repaired};
+pub use repairing::repair;
+pub use reporting::{ReportFault, report};
+pub use running::run;
+pub use settling::settle;
+pub use site_line::{Site, SiteFault};
+pub use status::Status;

@@ -1,0 +1,159 @@
+//! Replays what was gathered.
+ghost use Rattle.std.specs.Prelude.{◌≡◌, ◌≢◌, map, IfOk, IfErr};
+ghost use Rattle.std.specs.List.{zip};
+ghost use Rattle.conflict_desk.specs.Desk.{AreDockets, new_books};
+ghost use Rattle.conflict_desk.specs.Laws.{IsInOrder};
+ghost use Rattle.conflict_desk.specs.Docket.{AreAscending};
+ghost use Rattle.visit_replay.specs.RepairedSite.{site_by};
+ghost use Rattle.replay_workers.specs.Limits.{AreWorkers};
+ghost use Rattle.replay_workers.specs.declared.fault.PoolFault.TheVariants.{BadWorkers, NoMemory};
+ghost use Rattle.warp_run.specs.Repair.{as_case, summary_of, docket_by, docket_for, repaired_of};
+
+use crate::listed::Listed;
+use crate::repaired::{ClientSummary, Repaired};
+use byte_streams::Source;
+use client_log::{ClientLog, Visit};
+use conflict_desk::{Case, Cases, Desk, Docket};
+use indexmap::IndexMap;
+use lanes_in_turn::{Gathered, LaneResult};
+use page_tree::NoMemory;
+use replay_workers::{MAX_WORKERS, PoolFault, replay_all};
+use site_hooks::SiteHooks;
+use std::alloc::{AllocError, Global};
+use std::thread::Threads;
+use upload_reader::Client;
+use visit_replay::{Outcome, Patch};
+
+/// Replays the visits that each client's log keeps, client by client, each visit behind its parent, by so many workers, 1 to `replay_workers::MAX_WORKERS`;
+/// and opens a desk with their outcomes, on which nothing is decided. F1 for another number of workers.
+pub fn repair<H: SiteHooks, R: Source, T: AllocGlobal + Threads + Sync>(
+    rt: &T,
+    workers: u32,
+    hooks: &H,
+    patch: &Patch,
+    gathered: &Gathered<R>,
+) -> Result<Repaired, PoolFault>
+    ensures workers { IfOk result (λ _. AreWorkers workers) }
+    ensures ok { IfOk result (λ made. made ≡ repaired_of (site_by H.page_of H.signals hooks.now patch.now) gathered.now) }
+    ensures refused { IfErr result (λ fault. fault ≢ NoMemory → (fault ≡ BadWorkers) × ¬ AreWorkers workers) }
+    ensures memory { IfErr result (λ fault. fault ≡ NoMemory → AreWorkers workers) }
+
+    // Whatever is decided then, each client's conflicts leave in order, none twice, and none below a cancelled visit.
+    ensures leave { IfOk result (λ repaired. IsInOrder repaired.desk) }
+{
+    if workers == 0 || workers > MAX_WORKERS {
+        return Err(PoolFault::BadWorkers);
+    }
+    let clients = summaries(rt.alloc(), &gathered.clients)?;
+    let dockets = replay_lanes(rt, rt.alloc(), workers, hooks, patch, &gathered.clients)?;
+    let desk = open_desk(rt.alloc(), dockets)?;
+    Ok(Repaired {
+        stop: gathered.stop,
+        clients: Listed::from(clients),
+        desk,
+        decided: Listed::new(rt.alloc()),
+    })
+}
+
+// What is said of each client.
+fn summaries<R: Source>(
+    alloc: Global,
+    clients: &IndexMap<Client, LaneResult<R>>,
+) -> Result<Vec<ClientSummary>, NoMemory>
+    ensures { IfOk result (λ all. all.items ≡ map summary_of clients.now.entries) }
+{
+    let mut all = Vec::new(alloc);
+    for (client, lane) in clients.iter() {
+        all.push(summary(client, lane)?)?;
+    }
+    Ok(all)
+}
+
+fn summary<R: Source>(client: &Client, lane: &LaneResult<R>) -> Result<ClientSummary, NoMemory>
+    ensures { IfOk result (λ summary. summary ≡ summary_of (client.now, lane.now)) }
+{
+    Ok(ClientSummary {
+        client: client.copy()?,
+        taken: lane.taken,
+        end: lane.end,
+        cost: lane.log.cost(),
+        lost: lane.log.lost(),
+    })
+}
+
+// A docket of each client, for a desk.
+fn replay_lanes<H: SiteHooks, R: Source, T: AllocGlobal + Threads + Sync>(
+    rt: &T,
+    alloc: Global,
+    workers: u32,
+    hooks: &H,
+    patch: &Patch,
+    clients: &IndexMap<Client, LaneResult<R>>,
+) -> Result<Vec<Docket>, NoMemory>
+    requires workers { AreWorkers workers }
+    ensures dockets { IfOk result (λ all. all.items ≡
+        map (docket_for (site_by H.page_of H.signals hooks.now patch.now)) clients.now.entries) }
+    ensures for_desk { IfOk result (λ dockets. AreDockets dockets.items) }
+{
+    let count = clients.len();
+    let mut dockets = Vec::with_capacity(alloc, count)?;
+    for (client, lane) in clients.iter() {
+        dockets.push(replay_lane(rt, alloc, workers, hooks, patch, client, &lane.log)?)?;
+    }
+    Ok(dockets)
+}
+
+// The docket of the client with that log.
+fn replay_lane<H: SiteHooks, T: AllocGlobal + Threads + Sync>(
+    rt: &T,
+    alloc: Global,
+    workers: u32,
+    hooks: &H,
+    patch: &Patch,
+    client: &Client,
+    log: &ClientLog,
+) -> Result<Docket, NoMemory>
+    requires workers { AreWorkers workers }
+    ensures docket { IfOk result (λ docket. docket ≡
+        docket_by (site_by H.page_of H.signals hooks.now patch.now) client.now log.now.log) }
+    ensures ascend { IfOk result (λ docket. AreAscending docket.cases) }
+{
+    let visits = log.visits();
+    let Ok(outcomes) = replay_all(rt, workers, hooks, patch, visits) else {
+        return Err(AllocError);
+    };
+    Ok(Docket {
+        client: client.copy()?,
+        cases: pair_up(alloc, visits, outcomes)?,
+    })
+}
+
+// Each visit with its outcome.
+fn pair_up(alloc: Global, visits: &[Visit], outcomes: Vec<Outcome>) -> Result<Cases, NoMemory>
+    ensures { IfOk result (λ cases. cases ≡ map as_case (zip visits.now outcomes.items)) }
+{
+    let mut cases = Vec::new(alloc);
+    let mut outcomes = outcomes.into_iter();
+    for visit in visits {
+        let Some(outcome) = outcomes.next() else {
+            break;
+        };
+        cases.push(Case {
+            visit: visit.number,
+            parent: visit.parent,
+            outcome,
+        })?;
+    }
+    Ok(Cases::from(cases))
+}
+
+fn open_desk(alloc: Global, dockets: Vec<Docket>) -> Result<Desk, NoMemory>
+    requires { AreDockets dockets.items }
+    ensures opened { IfOk result (λ desk. desk ≡ new_books dockets.items) }
+    ensures leave { IfOk result IsInOrder }
+{
+    match Desk::open(alloc, dockets) {
+        Ok(desk) => Ok(desk),
+        Err(_) => Err(AllocError),
+    }
+}

@@ -1,0 +1,252 @@
+//! The report of what was repaired.
+ghost use Rattle.std.specs.Prelude.{◌≡◌, ◌++◌, IfOk, OnOk, Some, Err, slice_get, string_bytes};
+ghost use Rattle.std.specs.List.{flat_map};
+ghost use Rattle.byte_streams.specs.Writing.{writes_of};
+ghost use Rattle.upload_reader.specs.declared.ending.Ending.TheVariants.{Over};
+ghost use Rattle.conflict_desk.specs.Book.{standing_in, standing_requests};
+ghost use Rattle.warp_run.specs.Report as plain;
+ghost use Rattle.warp_run.specs.Report.{WritesReport, report_text};
+
+mod fault;
+
+use crate::repaired::{ClientSummary, PutDecision, Repaired};
+use byte_streams::{Sink, write_text};
+use conflict_desk::{Case, Choice, Desk, DeskFault, OpenDocket, Standing};
+pub use fault::ReportFault;
+use json::Writer;
+use lanes_in_turn::Stop;
+use page_tree::NoMemory;
+use std::alloc::Global;
+use std::mem;
+use upload_reader::{Ending, LaneEnd};
+use visit_replay::{Method, Outcome, Request};
+
+/// Writes the report: why the taking stopped, then each client with its visits and their requests, and then each decision with its answer. It is composed
+/// whole before the first write. O1 where a write fails or takes nothing, O2 where memory is refused.
+pub fn report<W: Sink>(
+    alloc: Global,
+    repaired: &Repaired,
+    writer: &mut W,
+) -> Result<(), ReportFault>
+    ensures { WritesReport (writes_of W.puts W.contents writer.old writer.new) (report_text repaired.now) result }
+{
+    let text = compose(alloc, repaired)?;
+    Ok(write_text(writer, text.as_bytes())?)
+}
+
+fn compose(alloc: Global, repaired: &Repaired) -> Result<String, NoMemory>
+    ensures { IfOk result (λ text. string_bytes text ≡ report_text repaired.now) }
+{
+    let mut text = String::new(alloc);
+    text.push_str(stop_line(repaired.stop))?;
+    add_clients(&mut text, &repaired.desk, repaired.clients.as_slice())?;
+    add_decisions(&mut text, repaired.decided.as_slice())?;
+    Ok(text)
+}
+
+fn stop_line(stop: Stop) -> &'static str
+    ensures { result.now ≡ plain.stop_line stop }
+{
+    match stop {
+        Stop::None => "stop none\n",
+        Stop::Asked => "stop asked\n",
+        Stop::Memory => "stop memory\n",
+    }
+}
+
+// ---- clients
+
+fn add_clients(text: &mut String, desk: &Desk, clients: &[ClientSummary]) -> Result<(), NoMemory>
+    ensures { OnOk result (string_bytes text.new ≡ string_bytes text.old
+        ++ flat_map (plain.client_text desk.now) clients.now) }
+{
+    for client in clients {
+        add_client(text, desk, client)?;
+    }
+    Ok(())
+}
+
+fn add_client(text: &mut String, desk: &Desk, client: &ClientSummary) -> Result<(), NoMemory>
+    ensures { OnOk result (string_bytes text.new ≡ string_bytes text.old ++ plain.client_text desk.now client.now) }
+{
+    add_client_line(text, client)?;
+    match desk.docket(&client.client) {
+        Some(docket) => add_visits(text, docket),
+        None => Ok(()),
+    }
+}
+
+fn add_client_line(text: &mut String, client: &ClientSummary) -> Result<(), NoMemory>
+    ensures { OnOk result (string_bytes text.new ≡ string_bytes text.old ++ plain.client_line client.now) }
+{
+    let name = client.client.text();
+    let taken = client.taken;
+    write!(text, "client {name} taken {taken} end ")?;
+    add_end(text, client.end)?;
+    let cost = client.cost;
+    let lost = client.lost;
+    write!(text, " cost {cost} lost {lost}\n")
+}
+
+fn add_end(text: &mut String, end: Option<Ending>) -> Result<(), NoMemory>
+    ensures { OnOk result (string_bytes text.new ≡ string_bytes text.old ++ plain.end_word end) }
+{
+    match end {
+        None => text.push_str("none"),
+        Some(Ending::Over(end)) => add_lane_end(text, end),
+        Some(Ending::GaveUp) => text.push_str("gaveup"),
+    }
+}
+
+fn add_lane_end(text: &mut String, end: LaneEnd) -> Result<(), NoMemory>
+    ensures { OnOk result (string_bytes text.new ≡ string_bytes text.old ++ plain.end_word (Some (Over end))) }
+{
+    match end {
+        LaneEnd::Bye => text.push_str("bye"),
+        LaneEnd::Fault { line, kind } => write!(text, "{kind}@{line}"),
+    }
+}
+
+// ---- visits
+
+fn add_visits(text: &mut String, docket: &OpenDocket) -> Result<(), NoMemory>
+    ensures { OnOk result (string_bytes text.new ≡ string_bytes text.old ++ plain.book_text docket.now) }
+{
+    for (place, case) in docket.cases().iter().enumerate() {
+        add_visit(text, docket, place, case)?;
+    }
+    Ok(())
+}
+
+// The visit of the case at that place.
+fn add_visit(
+    text: &mut String,
+    docket: &OpenDocket,
+    place: usize,
+    case: &Case,
+) -> Result<(), NoMemory>
+    requires { slice_get docket.now.cases place ≡ Some case.now }
+    ensures { OnOk result (string_bytes text.new ≡ string_bytes text.old ++ plain.visit_text docket.now case.now) }
+{
+    add_visit_line(text, case.visit, docket.standing_at(place), &case.outcome)?;
+    add_requests(text, docket.requests_at(place))
+}
+
+fn add_visit_line(
+    text: &mut String,
+    visit: u64,
+    standing: Standing,
+    outcome: &Outcome,
+) -> Result<(), NoMemory>
+    ensures { OnOk result (string_bytes text.new ≡ string_bytes text.old ++ plain.visit_line visit standing outcome.now) }
+{
+    let word = standing_word(standing);
+    match outcome {
+        Outcome::Untouched => write!(text, "visit {visit} {word}\n"),
+        Outcome::Done { .. } => write!(text, "visit {visit} {word}\n"),
+        Outcome::Conflict { at, kind, .. } => write!(text, "visit {visit} {word} {kind} at {at}\n"),
+    }
+}
+
+fn standing_word(standing: Standing) -> &'static str
+    ensures { result.now ≡ plain.standing_word standing }
+{
+    match standing {
+        Standing::Untouched => "untouched",
+        Standing::Done => "done",
+        Standing::Waiting => "waiting",
+        Standing::Kept => "kept",
+        Standing::Cancelled => "cancelled",
+    }
+}
+
+// ---- requests
+
+fn add_requests(text: &mut String, requests: &[Request]) -> Result<(), NoMemory>
+    ensures { OnOk result (string_bytes text.new ≡ string_bytes text.old ++ flat_map plain.request_line requests.now) }
+{
+    for request in requests {
+        add_request(text, request)?;
+    }
+    Ok(())
+}
+
+fn add_request(text: &mut String, request: &Request) -> Result<(), NoMemory>
+    ensures { OnOk result (string_bytes text.new ≡ string_bytes text.old ++ plain.request_line request.now) }
+{
+    let number = request.number;
+    match request.method {
+        Method::Load => {
+            write!(text, "load {number} ")?;
+            add_quoted(text, request.address.as_str())?;
+        }
+        Method::Get => {
+            write!(text, "get {number} ")?;
+            add_quoted(text, request.address.as_str())?;
+        }
+        Method::Post => {
+            write!(text, "post {number} ")?;
+            add_quoted(text, request.address.as_str())?;
+            text.push(' ')?;
+            add_quoted(text, request.pairs.as_str())?;
+        }
+    }
+    text.push('\n')
+}
+
+// The word as a JSON string.
+fn add_quoted(text: &mut String, word: &str) -> Result<(), NoMemory>
+    ensures { OnOk result (string_bytes text.new ≡ string_bytes text.old ++ plain.quoted word.now) }
+{
+    let empty = String::new(*text.allocator());
+    let mut writer = Writer::new(mem::replace(text, empty).into_bytes());
+    writer.string(word)?;
+    *text = unsafe { String::from_utf8_unchecked(writer.into_inner()) };
+    Ok(())
+}
+
+// ---- decisions
+
+fn add_decisions(text: &mut String, decided: &[PutDecision]) -> Result<(), NoMemory>
+    ensures { OnOk result (string_bytes text.new ≡ string_bytes text.old ++ flat_map plain.decision_line decided.now) }
+{
+    for put in decided {
+        add_decision(text, put)?;
+    }
+    Ok(())
+}
+
+fn add_decision(text: &mut String, put: &PutDecision) -> Result<(), NoMemory>
+    ensures { OnOk result (string_bytes text.new ≡ string_bytes text.old ++ plain.decision_line put.now) }
+{
+    let client = put.decision.client.text();
+    let visit = put.decision.visit;
+    let choice = choice_word(put.decision.choice);
+    write!(text, "decide {client} {visit} {choice} ")?;
+    match put.answer {
+        Ok(()) => text.push_str("ok\n"),
+        Err(fault) => add_refusal(text, fault),
+    }
+}
+
+// Why a decision wasn't made, and the line's end.
+fn add_refusal(text: &mut String, fault: DeskFault) -> Result<(), NoMemory>
+    ensures { OnOk result (string_bytes text.new ≡ string_bytes text.old
+        ++ plain.report_line (plain.answer_words (Err fault))) }
+{
+    match fault {
+        DeskFault::NotFront(None) => write!(text, "{fault} front none\n"),
+        DeskFault::NotFront(Some(front)) => write!(text, "{fault} front {front}\n"),
+        DeskFault::NoClient => write!(text, "{fault}\n"),
+        DeskFault::NoMemory => write!(text, "{fault}\n"),
+    }
+}
+
+fn choice_word(choice: Choice) -> &'static str
+    ensures { result.now ≡ plain.choice_word choice }
+{
+    match choice {
+        Choice::Cancel => "cancel",
+        Choice::Keep => "keep",
+    }
+}

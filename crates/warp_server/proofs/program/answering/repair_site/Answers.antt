@@ -1,4 +1,0 @@
-use Rattle.warp_server.proofs.program.answering.repair_site.Goals as goal
-
-pub returns-clause-repaired : goal.returns-clause-repaired
-returns-clause-repaired g c = rw c.table-table.ensures at c.repair_by.ensures.repaired
