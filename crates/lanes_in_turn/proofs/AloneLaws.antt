@@ -1,6 +1,7 @@
 -- A lane alone, from item to item.
-use Rattle.std.proofs.Common.{◌≡◌, ℕ, ◌+◌, ◌≤◌, ◌<◌, ◌^◌, List, [], ◌∷◌, length, Bool, true, false, ◌&&◌, if◌then◌else◌, is_some, Option, Some, None, refl, sym, ap, subst, ◌∙◌, arith}
+use Rattle.std.proofs.Common.{◌≡◌, ℕ, ◌+◌, ◌≤◌, ◌<◌, List, [], ◌∷◌, length, Bool, true, false, ◌&&◌, if◌then◌else◌, is_some, Option, Some, None, refl, sym, ap, subst, ◌∙◌, arith}
 use Rattle.std.proofs.lemmas.List.Sums.{sum_by-cons}
+use Rattle.upload_reader.specs.Limits.{max_messages}
 use Rattle.upload_reader.specs.Upload.{UploadState, IsUntouched}
 use Rattle.upload_reader.specs.declared.ending.Ending.{Ending}
 use Rattle.lanes_in_turn.proofs.Counts.{one_lesser}
@@ -48,7 +49,7 @@ module _ {R : Type 0} where
     one_at_most None = omega arith
     one_at_most (Some end) = omega arith
 
-    pub few_items : items ≤ 2 ^ 61
+    pub few_items : items ≤ max_messages + 1
     few_items =
         let taken = way.in_turn.is_taken in
         let one = one_at_most lane.1.end in

@@ -15,8 +15,7 @@ use Rattle.lanes_in_turn.specs.declared.gathered.LaneResult.{LaneResult}
 
 -- what was read tells no end of the lane
 abbrev pub NotOver : {R : Type 0} → UploadState R → List Answer → Type 0
-NotOver upload answers =
-    (messages : List Costed) × IsStreamOf upload.lane (lane_bytes upload (bytes_of answers)) None
+NotOver upload answers = (messages : List Costed) × IsStreamOf upload.lane (lane_bytes upload (bytes_of answers)) None
     (record { messages = messages; end = None })
 
 -- The same upload, read further, each read made before its end: what was read and what its reader still has are

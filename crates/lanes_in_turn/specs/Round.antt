@@ -1,9 +1,8 @@
 -- What a round of lanes gives, taken in turn as a schedule says: this project's own rule.
-use Rattle.std.specs.Prelude.{◌≡◌, ◌≢◌, ℕ, ◌+◌, ◌<◌, List, [], ◌∷◌, length, map, take, Bool, true, false, ◌||◌, ◌==◌, if◌then◌else◌, bytes_eq, is_some, count_by, slice_get, Option, Some, None}
+use Rattle.std.specs.Prelude.{◌≡◌, ◌≢◌, ℕ, ◌+◌, ◌≤◌, ◌<◌, List, [], ◌∷◌, length, map, take, Bool, true, false, ◌||◌, ◌==◌, if◌then◌else◌, bytes_eq, is_some, count_by, slice_get, Option, Some, None}
 use Rattle.std.specs.List.{list_all, list_any}
 use Rattle.std.specs.Option.{option_map_or}
 use Rattle.indexmap.specs.IndexMap.{get, insert_all, IsUnchanged}
-use Rattle.lane_queue.specs.Limits as limits
 use Rattle.upload_reader.specs.Upload.{UploadState}
 use Rattle.upload_reader.specs.declared.ending.Ending.{Ending}
 use Rattle.client_log.specs.Client.{OfClient}
@@ -19,6 +18,15 @@ use Rattle.lanes_in_turn.specs.declared.gathered.Stop.TheVariants as stop
 
 -- ---- the lanes of a round
 
+-- how many lanes a round has at the most; their clients are compared each with each
+abbrev pub max_round_lanes : ℕ
+max_round_lanes = 16
+
+-- so many lanes may a round have; any other number is G1
+pub record AreRoundLanes (lanes : ℕ) : Type 0 where
+  pub some : 1 ≤ lanes
+  pub few : lanes ≤ max_round_lanes
+
 abbrev pub has_twice : List (List ℕ) → Bool
 has_twice [] = false
 has_twice (client ∷ clients) = list_any (bytes_eq client) clients || has_twice clients
@@ -28,13 +36,13 @@ clients_of uploads = map (λ upload. upload.client) uploads
 
 -- there are as many lanes as a round may have, each of a client of its own
 pub record IsRound {R : Type 0} (uploads : List (UploadState R)) : Type 0 where
-  pub lanes : limits.AreLanes (length uploads)
+  pub lanes : AreRoundLanes (length uploads)
   pub clients : has_twice (clients_of uploads) ≡ false
 
 -- why there is no round, the first in this order: G1, G2, G3
 abbrev pub IsNoRound : {R : Type 0} → List (UploadState R) → GatherFault → Type 0
-IsNoRound uploads fault.BadLanes = limits.AreLanes (length uploads) → ⊥
-IsNoRound uploads fault.DuplicateClient = limits.AreLanes (length uploads) × (has_twice (clients_of uploads) ≡ true)
+IsNoRound uploads fault.BadLanes = AreRoundLanes (length uploads) → ⊥
+IsNoRound uploads fault.DuplicateClient = AreRoundLanes (length uploads) × (has_twice (clients_of uploads) ≡ true)
 IsNoRound uploads fault.NoMemory = IsRound uploads
 
 -- ---- what a lane begins behind

@@ -1,7 +1,7 @@
 //! A lane alone, on the thread that calls.
-ghost use Rattle.std.specs.Prelude.{ℕ, ◌≡◌, ◌≤◌, [], ◌∷◌, ◌<◌, IfOk};
+ghost use Rattle.std.specs.Prelude.{ℕ, ◌≡◌, ◌+◌, ◌≤◌, [], ◌∷◌, ◌<◌, IfOk};
 ghost use Rattle.indexmap.specs.IndexMap.{spare};
-ghost use Rattle.lane_queue.specs.Limits.{max_items};
+ghost use Rattle.upload_reader.specs.Limits.{max_messages};
 ghost use Rattle.upload_reader.specs.Upload.{IsUntouched};
 ghost use Rattle.lanes_in_turn.specs.Taking.{IsGatheredAlone, Stops, IsFreshLane, TakesLane};
 
@@ -41,7 +41,7 @@ pub fn take_alone<H: Halt, R: Source + Drop, W: Wait>(
     halt: &H,
 ) -> Stop
     requires fresh { IsFreshLane lane.old }
-    requires halt { (n : ℕ) → n ≤ max_items → H.may halt.now n }
+    requires halt { (n : ℕ) → n ≤ max_messages + 1 → H.may halt.now n }
     ensures taken { TakesLane lane.old lane.new }
     ensures stops { Stops (H.allows halt.now) (lane.new ∷ []) result }
 {

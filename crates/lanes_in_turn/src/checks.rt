@@ -5,8 +5,8 @@ ghost use Rattle.lanes_in_turn.specs.Round.{IsRound, IsNoRound, has_twice, clien
 ghost use Rattle.lanes_in_turn.specs.declared.fault.GatherFault.TheVariants.{NoMemory};
 
 use crate::fault::GatherFault;
+use crate::limits::MAX_ROUND_LANES;
 use byte_streams::Source;
-use lane_queue::MAX_LANES;
 use upload_reader::{Client, Upload};
 
 /// `G1` and `G2`, in this order.
@@ -14,7 +14,7 @@ pub(crate) fn check_round<R: Source>(uploads: &[Upload<R>]) -> Result<(), Gather
     ensures ok { OnOk result (IsRound uploads.now) }
     ensures refused { IfErr result (λ fault. (fault ≢ NoMemory) × IsNoRound uploads.now fault) }
 {
-    if uploads.is_empty() || uploads.len() > MAX_LANES as usize {
+    if uploads.is_empty() || uploads.len() > MAX_ROUND_LANES as usize {
         return Err(GatherFault::BadLanes);
     }
     if has_twice(uploads) {

@@ -1,4 +1,4 @@
-ghost use Rattle.std.specs.Prelude.{◌≡◌, Some};
+ghost use Rattle.std.specs.Prelude.{◌≡◌, [], Some};
 ghost use Rattle.lanes_in_turn.specs.declared.fault.GatherFault.TheVariants.{NoMemory};
 ghost use Rattle.lanes_in_turn.specs.Fault.{gather_fault_code};
 
@@ -12,7 +12,7 @@ use upload_reader::Upload;
 /// Why there is no round. Its text is its code, as `G1`.
 #[derive(Clone, Copy, Debug, PartialEq, Eq)]
 pub enum GatherFault {
-    /// G1: no lane, or more than `lane_queue::MAX_LANES`.
+    /// G1: no lane, or more than `MAX_ROUND_LANES`.
     BadLanes,
     /// G2: two lanes of one client.
     DuplicateClient,
@@ -34,6 +34,7 @@ impl<R: Source> RefusedRound<R> {
     pub fn no_memory(alloc: Global, earlier: Gathered<R>) -> RefusedRound<R>
         ensures fault { result.fault ≡ NoMemory }
         ensures earlier { result.earlier ≡ earlier }
+        ensures uploads { result.uploads.items ≡ [] }
     {
         RefusedRound {
             fault: GatherFault::NoMemory,

@@ -15,7 +15,7 @@ use page_tree::NoMemory;
 use std::alloc::Global;
 use upload_reader::{Client, Upload};
 
-/// Takes messages of 1 to `lane_queue::MAX_LANES` lanes in turn, each of a client of its own: the next of lane 0 for an entry 0, and so on. An entry for a
+/// Takes messages of 1 to `MAX_ROUND_LANES` lanes in turn, each of a client of its own: the next of lane 0 for an entry 0, and so on. An entry for a
 /// lane that has an end, or that isn't there, does nothing. A message that can't be recorded for want of memory stops it.
 pub fn gather_in_order<R: Source + Drop>(
     alloc: Global,

@@ -9,6 +9,7 @@ mod checks;
 mod fault;
 mod gathered;
 mod lane;
+mod limits;
 mod round;
 mod rounds;
 
@@ -23,4 +24,5 @@ pub use gathered::{Gathered, LaneResult, Stop};
 pub use halt::{Asks, Halt};
 pub use in_turn::{gather_again_in_order, gather_in_order};
 pub use lane::have_ended;
+pub use limits::MAX_ROUND_LANES;
 pub use rounds::{BegunRound, begin_round, end_round};

@@ -24,7 +24,7 @@ pub struct BegunRound<R: Source> {
     pub lanes: Vec<(Client, LaneResult<R>)>,
 }
 
-/// Begins a round behind what was gathered earlier, of 1 to `lane_queue::MAX_LANES` lanes, each of a client of its own. A client that is known goes on behind
+/// Begins a round behind what was gathered earlier, of 1 to `MAX_ROUND_LANES` lanes, each of a client of its own. A client that is known goes on behind
 /// its log and the session of that, with its own quota; a new one begins with this quota. Where there is no round, what was gathered before comes back, and the
 /// uploads too where memory isn't why.
 pub fn begin_round<R: Source + Drop>(

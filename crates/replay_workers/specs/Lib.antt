@@ -1,4 +1,3 @@
-pub mod Limits
 pub mod Fault
 pub mod Draws
 pub mod Work

@@ -1,20 +1,20 @@
 //! The word that the seats draw from.
 ghost use Rattle.std.specs.Prelude.{◌≡◌, ◌≢◌, ◌<◌, ◌≤◌, ◌+◌, false, [], ◌∷◌, All, IfOk, IfErr, replicate, vec_len};
 ghost use Rattle.std.specs.Vec.{vec_capacity};
-ghost use Rattle.replay_workers.specs.Limits.{AreWorkers};
+ghost use Rattle.visit_replay.specs.Limits.{AreWorkers};
 ghost use Rattle.replay_workers.specs.Draws.{IsSeatOf, is_spent, EndsOnce, with_draw, AreClaimed, fresh_seat, AreOpenedClaims};
 ghost use Rattle.replay_workers.specs.declared.fault.PoolFault.TheVariants.{BadWorkers, NoMemory};
 ghost use Rattle.replay_workers.specs.inside.Rule.{first_of};
 ghost use Rattle.replay_workers.specs.inside.Seats.{IsGathered};
 
 use crate::fault::PoolFault;
-use crate::limits::MAX_WORKERS;
 use crate::rule::{Draw, GathersSeats, InTurn, OpensSeat};
 use crate::seat::Seat;
 use crate::view::{SeatView, Terms};
 use atomic_table::{Seat as Pass, Table};
 use std::alloc::Global;
 use std::marker::Model;
+use visit_replay::MAX_WORKERS;
 
 /// The next number to be drawn, to be shared by reference. Contracts see which claims they are, for how many numbers, and how many seats they have.
 #[derive(Drop)]

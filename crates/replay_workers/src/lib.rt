@@ -6,7 +6,6 @@
 
 mod claims;
 mod fault;
-mod limits;
 mod pool;
 mod rule;
 mod seat;
@@ -15,7 +14,7 @@ mod view;
 
 pub use claims::Claims;
 pub use fault::PoolFault;
-pub use limits::MAX_WORKERS;
 pub use pool::replay_all;
 pub use seat::Seat;
 pub use share::{Done, Share, work};
+pub use visit_replay::MAX_WORKERS;

@@ -6,7 +6,7 @@ ghost use Rattle.visit_replay.specs.Following.{outcomes};
 ghost use Rattle.visit_replay.specs.RepairedSite.{site_by};
 ghost use Rattle.visit_replay.specs.declared.outcome.Outcome.TheVariants.{Untouched};
 ghost use Rattle.replay_workers.specs.Draws.{fresh_seat};
-ghost use Rattle.replay_workers.specs.Limits.{AreWorkers};
+ghost use Rattle.visit_replay.specs.Limits.{AreWorkers};
 ghost use Rattle.replay_workers.specs.Work.{own_outcomes, IsShare};
 ghost use Rattle.replay_workers.specs.inside.Shares.{PlacesAll, PlacesThese};
 ghost use Rattle.replay_workers.specs.declared.fault.PoolFault.TheVariants.{BadWorkers, NoMemory};

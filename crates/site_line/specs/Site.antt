@@ -13,7 +13,7 @@ use Rattle.xpath_child.specs.Path.{Step}
 use Rattle.xpath_child.specs.Fault.{path_in}
 use Rattle.client_log.specs.Quota.{IsQuota}
 use Rattle.site_hooks.specs.Table.{is_changed}
-use Rattle.replay_workers.specs.Limits.{AreWorkers}
+use Rattle.visit_replay.specs.Limits.{AreWorkers}
 use Rattle.site_line.specs.Members.{number_or, list_by}
 use Rattle.site_line.specs.Decision.{decision_in}
 use Rattle.conflict_desk.specs.declared.decision.Decision.{Decision}

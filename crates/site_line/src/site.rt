@@ -2,7 +2,7 @@
 ghost use Rattle.std.specs.Prelude.{◌≡◌, IfOk, IfErr, IsErrOf};
 ghost use Rattle.serde_json.specs.Data.{Data};
 ghost use Rattle.serde_json.specs.View.{view};
-ghost use Rattle.replay_workers.specs.Limits.{AreWorkers};
+ghost use Rattle.visit_replay.specs.Limits.{AreWorkers};
 ghost use Rattle.site_line.specs.Site.{Site as PlainSite, IsSiteOf, IsSiteLine, IsNoSite, IsJsonOf};
 ghost use Rattle.site_line.specs.declared.fault.SiteFault.TheVariants.{NotJson, BadMember};
 

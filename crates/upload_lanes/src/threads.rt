@@ -1,9 +1,9 @@
 //! Lanes on threads: an uploader for each, and up to four recorders.
 ghost use Rattle.std.specs.Prelude.{ℕ, ◌≡◌, ◌≤◌, length, IfOk, IfErr};
 ghost use Rattle.std.specs.List.{AllByRecursion};
-ghost use Rattle.lane_queue.specs.Limits.{AreLanes, max_items};
+ghost use Rattle.lane_queue.specs.Limits.{max_items};
 ghost use Rattle.upload_reader.specs.Upload.{IsUntouched};
-ghost use Rattle.lanes_in_turn.specs.Round.{IsNoRound, RefusesRound};
+ghost use Rattle.lanes_in_turn.specs.Round.{AreRoundLanes, IsNoRound, RefusesRound};
 ghost use Rattle.upload_lanes.specs.Threads.{recorders_of, Gathers, GathersFirst, AreTaken};
 ghost use Rattle.lanes_in_turn.specs.Taking.{IsFreshLane};
 
@@ -25,7 +25,7 @@ use upload_reader::{Client, Upload};
 /// The most recorders.
 const MAX_RECORDERS: usize = 4;
 
-/// Takes messages of 1 to `lane_queue::MAX_LANES` lanes, each of a client of its own: an uploader for each lane reads it on a thread of its own, and up to four
+/// Takes messages of 1 to `MAX_ROUND_LANES` lanes, each of a client of its own: an uploader for each lane reads it on a thread of its own, and up to four
 /// recorders record what the uploaders put, each in a queue that holds as much as the room says. Lane k is one of recorder k modulo their number.
 ///
 /// A recorder asks, before it takes an item, whether to stop, with the number of items that it has taken: the messages and the ends of its lanes. It stops
@@ -86,7 +86,7 @@ fn take_lanes<H: Halt, R: Source + Drop + Send, T: Threads + Wait + Sync>(
     halt: &H,
 ) -> Result<(Vec<(Client, LaneResult<R>)>, Stop), AllocError>
     requires fresh { AllByRecursion IsFreshLane lanes.items }
-    requires lanes { AreLanes (length lanes.items) }
+    requires lanes { AreRoundLanes (length lanes.items) }
     requires halt { (n : ℕ) → n ≤ max_items → H.may halt.now n }
     ensures { IfOk result (λ taken. AreTaken (H.allows halt.now) lanes.items taken.0.items taken.1) }
 {

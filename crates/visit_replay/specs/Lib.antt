@@ -1,3 +1,4 @@
+pub mod Limits
 pub mod RepairedSite
 pub mod Conflict
 pub mod Field

@@ -14,6 +14,7 @@ mod conflicts;
 mod fields;
 mod following;
 mod forms;
+mod limits;
 mod moves;
 mod moving;
 mod outcome;
@@ -22,6 +23,7 @@ mod replaying;
 mod requests;
 
 pub use following::follow_parents;
+pub use limits::MAX_WORKERS;
 pub use moving::moved;
 pub use outcome::{ConflictKind, Outcome};
 pub use patch::{Patch, affected};

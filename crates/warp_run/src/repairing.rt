@@ -5,7 +5,7 @@ ghost use Rattle.conflict_desk.specs.Desk.{AreDockets, new_books};
 ghost use Rattle.conflict_desk.specs.Laws.{IsInOrder};
 ghost use Rattle.conflict_desk.specs.Docket.{AreAscending};
 ghost use Rattle.visit_replay.specs.RepairedSite.{site_by};
-ghost use Rattle.replay_workers.specs.Limits.{AreWorkers};
+ghost use Rattle.visit_replay.specs.Limits.{AreWorkers};
 ghost use Rattle.replay_workers.specs.declared.fault.PoolFault.TheVariants.{BadWorkers, NoMemory};
 ghost use Rattle.warp_run.specs.Repair.{as_case, summary_of, docket_by, docket_for, repaired_of};
 

@@ -4,7 +4,7 @@ use Rattle.atomic_table.specs.Seated.{TableId}
 use Rattle.atomic_table.specs.declared.shared.Seat.{Seat}
 use Rattle.replay_workers.specs.declared.view.Terms.{Terms}
 use Rattle.replay_workers.specs.declared.view.SeatView.{SeatView}
-use Rattle.replay_workers.specs.Limits.{AreWorkers}
+use Rattle.visit_replay.specs.Limits.{AreWorkers}
 use Rattle.replay_workers.specs.Draws.{Pool, Draws, has_end}
 use Rattle.replay_workers.specs.inside.Rule.{own_list}
 

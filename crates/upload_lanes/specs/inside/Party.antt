@@ -22,8 +22,7 @@ use Rattle.lane_queue.specs.Limits.{AreLanes}
 
 -- the ends of that queue at which its lanes' items are put, in lane order
 abbrev pub AreEnds : Queue → List (Pass (Item Sent) (QueueView Sent)) → Type 0
-AreEnds queue putters =
-    (k : ℕ) (putter : Pass (Item Sent) (QueueView Sent)) → slice_get putters k ≡ Some putter
+AreEnds queue putters = (k : ℕ) (putter : Pass (Item Sent) (QueueView Sent)) → slice_get putters k ≡ Some putter
     → IsNewPutterOf queue putter × ((view putter).lane ≡ k)
 
 -- the lanes that a recorder is dealt
@@ -42,8 +41,7 @@ module _ {R : Type 0} where
 
   -- the uploaders of that queue's lanes, in lane order
   abbrev pub AreUploads : Queue → List (Uploads R) → Type 0
-  AreUploads queue promises =
-      (k : ℕ) (promise : Uploads R) → slice_get promises k ≡ Some promise
+  AreUploads queue promises = (k : ℕ) (promise : Uploads R) → slice_get promises k ≡ Some promise
       → (promise.queue.value ≡ queue) × ((view promise.putter.value).lane ≡ k)
 
   -- and each is given the upload of its lane

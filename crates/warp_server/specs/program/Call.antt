@@ -6,7 +6,7 @@ use Rattle.std.specs.Char.{is_ascii_digit}
 use Rattle.std.specs.Str.Parse.{digits_value}
 use Rattle.std.specs.declared.io.ErrorKind.{ErrorKind}
 use Rattle.std.specs.declared.io.ErrorKind.TheVariants as error
-use Rattle.lane_queue.specs.Limits.{max_lanes, AreLanes}
+use Rattle.lanes_in_turn.specs.Round.{max_round_lanes, AreRoundLanes}
 use Rattle.warp_run.specs.Status.{exit_code}
 use Rattle.warp_server.specs.declared.program.call.Call.{Call}
 use Rattle.warp_server.specs.declared.program.call.Call.TheVariants.{Run, Listen}
@@ -46,7 +46,7 @@ listening (port ∷ lanes ∷ site_file ∷ rounds) =
     option_and_then (λ port.
     option_and_then (λ lanes.
     option_map (λ rounds. record { port = port; lanes = lanes; rounds = rounds; site_file = site_file })
-    (rounds_in rounds)) (number_of_word 1 max_lanes lanes)) (number_of_word 1 max_port port)
+    (rounds_in rounds)) (number_of_word 1 max_round_lanes lanes)) (number_of_word 1 max_port port)
 listening words = None
 
 -- the words behind the program's own name; any others are status 2
@@ -62,7 +62,7 @@ call_by words = named_call (drop 1 words)
 -- as many lanes as a round may have, where it listens
 abbrev pub MayListen : Call → Type 0
 MayListen Run = Unit {0}
-MayListen (Listen listening) = AreLanes listening.lanes
+MayListen (Listen listening) = AreRoundLanes listening.lanes
 
 -- where its words can't be read
 abbrev pub fault_of_kind : ErrorKind → CallFault

@@ -97,8 +97,7 @@ module _ {C R : Type 0} (says : Sayings C R) where
 
   -- the upload's source was given back, read as the upload tells
   abbrev pub GivesBack : C → UploadState R → C → Type 0
-  GivesBack callers upload now =
-      (reader : R) × IsReadOf says.was_read upload.lines.first reader upload.lines.answers
+  GivesBack callers upload now = (reader : R) × IsReadOf says.was_read upload.lines.first reader upload.lines.answers
       × says.takes callers reader now
 
   -- two uploads of a round are of one client, and all sources are given back
@@ -171,8 +170,7 @@ module _ {C R : Type 0} (says : Sayings C R) (site : Site) (lanes rounds : ℕ) 
     Serves Done = WritesServed Done
     Serves BadHello = WritesNothing call × NoFurtherRound now BadHello
     Serves OutOfMemory = WritesNothing call ⊎ WritesServed OutOfMemory
-    Serves InputOutput =
-        (WritesNothing call × NoFurtherRound now InputOutput)
+    Serves InputOutput = (WritesNothing call × NoFurtherRound now InputOutput)
         ⊎ ((status : Status) × (text : List ℕ) × HasServed now status text × TakesPart call text)
     Serves BadSite = ⊥
 

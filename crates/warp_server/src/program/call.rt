@@ -4,10 +4,10 @@ ghost use Rattle.std.specs.List.{list_all};
 ghost use Rattle.std.specs.Char.{is_ascii_digit};
 ghost use Rattle.std.specs.IoError.{error_kind};
 ghost use Rattle.std.specs.Vec.Iter.{into_iter_items};
-ghost use Rattle.lane_queue.specs.Limits.{AreLanes};
+ghost use Rattle.lanes_in_turn.specs.Round.{AreRoundLanes};
 ghost use Rattle.warp_server.specs.program.Call.{is_number, number_of_word, rounds_in, listening, named_call, call_by, MayListen, fault_of_kind, call_exit_code, call_error_line};
 
-use lane_queue::MAX_LANES;
+use lanes_in_turn::MAX_ROUND_LANES;
 use page_tree::Text;
 use std::env::Args;
 use std::io;
@@ -35,7 +35,7 @@ pub enum Call {
 pub struct Listening {
     /// The port that clients connect to, not 0.
     pub port: u16,
-    /// How many lanes a round has, 1 to `MAX_LANES`.
+    /// How many lanes a round has, 1 to `MAX_ROUND_LANES`.
     pub lanes: u32,
     /// How many rounds there are, 1 to `MAX_ROUNDS`.
     pub rounds: u32,
@@ -116,14 +116,14 @@ fn read_named_call(mut words: Args) -> Result<Call, CallFault>
 // The words behind `listen`.
 fn read_listening(mut words: Args) -> Option<Listening>
     ensures listening { result ≡ listening (map string_bytes (into_iter_items words)) }
-    ensures lanes { IfSome result (λ listening. AreLanes listening.lanes) }
+    ensures lanes { IfSome result (λ listening. AreRoundLanes listening.lanes) }
 {
     let port = words.next()?;
     let lanes = words.next()?;
     let site_file = words.next()?;
     Some(Listening {
         port: number_of_word(1, MAX_PORT, &port)? as u16,
-        lanes: number_of_word(1, MAX_LANES, &lanes)?,
+        lanes: number_of_word(1, MAX_ROUND_LANES, &lanes)?,
         rounds: read_rounds(words)?,
         site_file: Text::from(site_file),
     })

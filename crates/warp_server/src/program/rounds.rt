@@ -2,7 +2,7 @@
 ghost use Rattle.std.specs.Prelude.{ℕ, List, [], ◌∷◌, false, ◌≡◌, ◌≢◌, length, map, slice_get, true, Some, IfOk, IfErr};
 ghost use Rattle.std.specs.List.{AllByRecursion};
 ghost use Rattle.indexmap.specs.IndexMap.{set_value_at};
-ghost use Rattle.lane_queue.specs.Limits.{AreLanes};
+ghost use Rattle.lanes_in_turn.specs.Round.{AreRoundLanes};
 ghost use Rattle.upload_reader.specs.Upload.{UploadState, IsUntouched};
 ghost use Rattle.byte_streams.specs.Reading.{WasRead};
 ghost use Rattle.site_line.specs.Reading.{site_quota};
@@ -32,7 +32,7 @@ pub(crate) fn gather_rounds<
     C: Callers<Reader = R>,
     T: AllocGlobal + Threads + Wait + Sync,
 >(rt: &T, callers: &mut C, lanes: u32, rounds: u32, site: &Site) -> Result<Gathered<R>, Status>
-    requires lanes { AreLanes lanes }
+    requires lanes { AreRoundLanes lanes }
     ensures ok { IfOk result (λ gathered. MakesAll
         (sayings (WasRead R.answers R.remaining) C.brings C.brings_none C.takes_back)
         site.now lanes rounds callers.old gathered callers.new) }
@@ -73,7 +73,7 @@ fn gather_round<
     site: &Site,
     earlier: Gathered<R>,
 ) -> Result<Gathered<R>, Status>
-    requires lanes { AreLanes lanes }
+    requires lanes { AreRoundLanes lanes }
     requires whole { status_of earlier ≡ Done }
     ensures ok { IfOk result (λ gathered. (uploads : List (UploadState R)) × MakesRound
         (sayings (WasRead R.answers R.remaining) C.brings C.brings_none C.takes_back)

@@ -2,7 +2,7 @@
 ghost use Rattle.std.specs.Prelude.{◌≡◌, None, IfErr};
 ghost use Rattle.byte_streams.specs.Streams.{fed_reader, fed_answers};
 ghost use Rattle.byte_streams.specs.declared.source.Fed.{Fed};
-ghost use Rattle.lane_queue.specs.Limits.{AreLanes};
+ghost use Rattle.lanes_in_turn.specs.Round.{AreRoundLanes};
 ghost use Rattle.byte_streams.specs.Reading.{WasRead};
 ghost use Rattle.byte_streams.specs.Writing.{writes_of};
 ghost use Rattle.warp_run.specs.Intake.{IsUnopened};
@@ -37,7 +37,7 @@ pub fn serve_callers<
     W: Sink,
     T: AllocGlobal + Threads + Wait + Sync,
 >(rt: &T, callers: &mut C, lanes: u32, rounds: u32, site: &Site, writer: &mut W) -> Status
-    requires lanes { AreLanes lanes }
+    requires lanes { AreRoundLanes lanes }
     ensures { Serves
         (sayings (WasRead R.answers R.remaining) C.brings C.brings_none C.takes_back)
         site.now lanes rounds callers.old callers.new (writes_of W.puts W.contents writer.old writer.new) result }
@@ -60,7 +60,7 @@ pub fn serve<
     W: Sink,
     T: AllocGlobal + Threads + Wait + Sync,
 >(rt: &T, listener: &L, lanes: u32, rounds: u32, site: &Site, writer: &mut W) -> Status
-    requires lanes { AreLanes lanes }
+    requires lanes { AreRoundLanes lanes }
     ensures { Serves (silent (WasRead fed_answers (λ fed. S.remaining (fed_reader fed))))
         site.now lanes rounds tt tt (writes_of W.puts W.contents writer.old writer.new) result }
 {
@@ -78,7 +78,7 @@ pub fn listen<
         + Wait
         + Sync,
 >(rt: &T, listening: &Listening, writer: &mut W) -> Status
-    requires lanes { AreLanes listening.now.lanes }
+    requires lanes { AreRoundLanes listening.now.lanes }
     ensures { Listens (WasRead {R = Fed TcpStream} fed_answers (λ _. None)) listening.now.lanes listening.now.rounds
         (writes_of W.puts W.contents writer.old writer.new) result }
 {

@@ -1,4 +1,4 @@
-use Rattle.std.proofs.Common.{◌≡◌, true, false, subst, sym, ◌∙◌}
+use Rattle.std.proofs.Common.{arith, ◌≡◌, true, false, subst, sym, ◌∙◌}
 use Rattle.std.specs.Result.{is_err}
 use Rattle.lanes_in_turn.proofs.AloneLaws.{few, few_items, goes_on, has_upload, sets_out, stops_asked, stops_none, stops_refused, takes_so}
 use Rattle.lanes_in_turn.proofs.LaneSteps.{when_err, when_ok}
@@ -50,7 +50,9 @@ returns-then-is_err-clause-stops g c =
     (subst (allows c.loop.items) c.if-ask.false c.ask.ensures)
 
 pub overflow_add-items : goal.overflow_add-items
-overflow_add-items g c = fits_more c.loop.items (few_items (g.H.Halt.allows c.args.halt.now) c.args.lane.now c.loop.lane c.loop.items c.loop.invariant.2)
+overflow_add-items g c =
+    let few = few_items (g.H.Halt.allows c.args.halt.now) c.args.lane.now c.loop.lane c.loop.items c.loop.invariant.2 in
+    fits_more c.loop.items (omega (arith, few))
 
 pub loop-preserved : goal.loop-preserved
 loop-preserved g c =

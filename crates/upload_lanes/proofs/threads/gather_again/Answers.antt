@@ -1,8 +1,7 @@
 use Rattle.std.proofs.Common.{ℕ, Bool, ap, arith, bytes_eq, length, map, subst, sym, ◌∙◌}
 use Rattle.std.proofs.lemmas.List.{length-map}
 use Rattle.indexmap.specs.IndexMap.{get, insert_all}
-use Rattle.lane_queue.specs.Limits.{AreLanes}
-use Rattle.lanes_in_turn.specs.Round.{IsNoRound, all_rested}
+use Rattle.lanes_in_turn.specs.Round.{AreRoundLanes, IsNoRound, all_rested}
 use Rattle.lanes_in_turn.specs.Taking.{begun_lane, TakesLane}
 use Rattle.upload_lanes.specs.Threads.{AreTaken}
 use Rattle.upload_lanes.proofs.Zips.{zip_length}
@@ -14,7 +13,7 @@ take_lanes-requires-clause-fresh g c = λ κs within. c.in_ok-earlier.ensures.fr
 pub take_lanes-requires-clause-lanes : goal.take_lanes-requires-clause-lanes
 take_lanes-requires-clause-lanes g c = λ κs within.
     let begun = c.in_ok-earlier.ensures.begun in
-    subst AreLanes (sym (ap length begun.lanes_are ∙ length-map c.args.uploads.items (begun_lane (get bytes_eq c.args.earlier.clients) c.args.quota))) begun.is_round.lanes
+    subst AreRoundLanes (sym (ap length begun.lanes_are ∙ length-map c.args.uploads.items (begun_lane (get bytes_eq c.args.earlier.clients) c.args.quota))) begun.is_round.lanes
 
 pub end_round-requires-clause-room : goal.end_round-requires-clause-room
 end_round-requires-clause-room g c = λ κs within.

@@ -1,4 +1,5 @@
--- This project's own limit on workers.
+-- This project's own limit on workers. It stands below the workers, so that a site line that says their number needs no
+-- proof of them.
 use Rattle.std.specs.Prelude.{◌≤◌, ℕ}
 
 abbrev pub max_workers : ℕ
