@@ -18,10 +18,10 @@ use crate::fault::SiteFault;
 use client_log::Quota;
 use conflict_desk::Decision;
 use page_tree::{Page, Text};
-use visit_replay::MAX_WORKERS;
 use serde_json::{Category, Map, Value};
 use site_hooks::Table;
 use std::alloc::Global;
+use visit_replay::MAX_WORKERS;
 use xpath_child::{Path, PathFaultKind};
 
 /// What is kept of a client in bytes, where the site doesn't say.
