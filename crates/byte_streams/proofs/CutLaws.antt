@@ -3,7 +3,7 @@ use Rattle.std.proofs.Common.{◌≡◌, ℕ, ◌+◌, ◌<◌, ◌≤◌, List,
 use Rattle.std.proofs.lemmas.Grind.{common_steps}
 use Rattle.std.proofs.lemmas.List.{drop-append-le, drop-drop, take-append-le}
 use Rattle.byte_streams.specs.Cutting.{cut, line_length}
-use Rattle.byte_streams.specs.CompleteLines.{complete_lines, unended}
+use Rattle.byte_streams.specs.CompleteLines.{complete_lines, unended_line}
 use Rattle.byte_streams.specs.declared.fault.LineFault.{LineFault}
 use Rattle.byte_streams.proofs.Feeds.{before_feed, line_ends, line_length_is, no_feed, far_feed, still_before, no_less_before}
 use Rattle.byte_streams.proofs.Searching.{cut_line}
@@ -45,7 +45,7 @@ lines_from limit place input line more ending is =
 
 -- What stands behind its last line feed stands behind that line.
 pub unended_from : (limit place : ℕ) (input line more : List ℕ) (ending : Option LineFault) → cut limit (drop place input) ending ≡ Some (Ok line)
-    → unended (drop place (input ++ more)) ≡ unended (drop (place + length line + 1) (input ++ more))
+    → unended_line (drop place (input ++ more)) ≡ unended_line (drop (place + length line + 1) (input ++ more))
 unended_from limit place input line more ending is =
     let (at, inside, same, short) = cut_at limit place input line more ending is in
     behind_first (drop place (input ++ more)) (omega (arith, at, inside)) ∙ rw (at, behind place line (input ++ more)) refl
@@ -63,7 +63,7 @@ pub no_lines : (limit : ℕ) (bytes : List ℕ) → line_length limit bytes ≡ 
 no_lines limit bytes none short = no_line bytes (no_feed limit bytes none short)
 
 -- and all of them are unended
-pub all_unended : (limit : ℕ) (bytes : List ℕ) → line_length limit bytes ≡ None → length bytes ≤ limit → unended bytes ≡ bytes
+pub all_unended : (limit : ℕ) (bytes : List ℕ) → line_length limit bytes ≡ None → length bytes ≤ limit → unended_line bytes ≡ bytes
 all_unended limit bytes none short = whole_unended bytes (no_feed limit bytes none short)
 
 -- ---- a longer input

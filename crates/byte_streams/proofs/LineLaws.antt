@@ -7,7 +7,7 @@ use Rattle.std.proofs.lemmas.List.{take-append-le, drop-append-le}
 use Rattle.std.proofs.lemmas.List.Sums.{fails_before_first}
 use Rattle.std.proofs.lemmas.List.Splits.{slice_split_none, slice_split_first, length-slice_split}
 use Rattle.byte_streams.specs.Cutting.{is_line_feed}
-use Rattle.byte_streams.specs.CompleteLines.{complete_lines, unended}
+use Rattle.byte_streams.specs.CompleteLines.{complete_lines, unended_line}
 use Rattle.byte_streams.proofs.Feeds.{before_feed, feed_within, still_before}
 
 pub at_least : (a b : ℕ) → nat_lt a b ≡ false → b ≤ a
@@ -35,8 +35,8 @@ first_line bytes inside =
     rw (slice_split_first is_line_feed bytes 0 inside, one_less (take (before_feed bytes) bytes) (drop (before_feed bytes + 1) bytes)) refl
 
 -- what stands behind the last line feed stands behind this one
-pub behind_first : (bytes : List ℕ) → before_feed bytes < length bytes → unended bytes ≡ unended (drop (before_feed bytes + 1) bytes)
-unfolding unended
+pub behind_first : (bytes : List ℕ) → before_feed bytes < length bytes → unended_line bytes ≡ unended_line (drop (before_feed bytes + 1) bytes)
+unfolding unended_line
 behind_first bytes inside =
     rw (slice_split_first is_line_feed bytes 0 inside, one_less (take (before_feed bytes) bytes) (drop (before_feed bytes + 1) bytes)) refl
 
@@ -45,14 +45,14 @@ pub no_line : (bytes : List ℕ) → before_feed bytes ≡ length bytes → comp
 unfolding complete_lines
 no_line bytes none = rw (one_part bytes none) refl
 
-pub whole_unended : (bytes : List ℕ) → before_feed bytes ≡ length bytes → unended bytes ≡ bytes
-unfolding unended
+pub whole_unended : (bytes : List ℕ) → before_feed bytes ≡ length bytes → unended_line bytes ≡ bytes
+unfolding unended_line
 whole_unended bytes none = rw (one_part bytes none) refl
 
 -- ---- one or the other
 
 -- with no line all of it is unended
-pub unended_all : (bytes : List ℕ) → complete_lines bytes ≡ [] → unended bytes ≡ bytes
+pub unended_all : (bytes : List ℕ) → complete_lines bytes ≡ [] → unended_line bytes ≡ bytes
 unended_all bytes nothing =
     elim (eq-or-lt_of_le (feed_within bytes)) [
       | inl none ↦ whole_unended bytes none

@@ -8,5 +8,5 @@ unfoldable pub complete_lines : List ℕ → List (List ℕ)
 complete_lines bytes = take (length (slice_split is_line_feed bytes) - 1) (slice_split is_line_feed bytes)
 
 -- what stands behind the last line feed
-unfoldable pub unended : List ℕ → List ℕ
-unended bytes = get_or (slice_split is_line_feed bytes) (length (slice_split is_line_feed bytes) - 1) []
+unfoldable pub unended_line : List ℕ → List ℕ
+unended_line bytes = get_or (slice_split is_line_feed bytes) (length (slice_split is_line_feed bytes) - 1) []

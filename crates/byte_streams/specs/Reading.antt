@@ -26,8 +26,8 @@ abbrev pub input : {R : Type 0} → Reading R → List ℕ
 input lines = bytes_of lines.answers
 
 -- those that aren't cut yet
-abbrev pub uncut : {R : Type 0} → Reading R → List ℕ
-uncut lines = drop lines.place (input lines)
+abbrev pub uncut_bytes : {R : Type 0} → Reading R → List ℕ
+uncut_bytes lines = drop lines.place (input lines)
 
 -- ---- reads
 

@@ -5,7 +5,7 @@ ghost use Rattle.std.specs.Borrow.{sem};
 ghost use Rattle.std.specs.Io.BufRead.{Rests};
 ghost use Rattle.byte_streams.specs.Answers.{failures_of};
 ghost use Rattle.byte_streams.specs.Cutting.{cut, line_length, ending_of, is_line_feed, StopsAtEnd};
-ghost use Rattle.byte_streams.specs.Reading.{input, uncut, WasRead, ReadsWhile, NoLineYet, StopsLine, Advances, failures_told};
+ghost use Rattle.byte_streams.specs.Reading.{input, uncut_bytes, WasRead, ReadsWhile, NoLineYet, StopsLine, Advances, failures_told};
 
 use crate::fault::LineFault;
 use crate::history::History;
@@ -132,8 +132,9 @@ impl<R: Source> Lines<R> {
         requires going { self.old.fault ≡ None }
         ensures reads { ReadsWhile (NoLineYet limit self.old.place) self.old self.new }
         ensures place { self.new.place ≡ self.old.place }
-        ensures length { IfOk result (λ count. line_length limit (uncut self.new) ≡ Some count) }
-        ensures tells { IfErr result (λ fault. StopsLine fault (cut limit (uncut self.new) (ending_of self.new.answers))) }
+        ensures length { IfOk result (λ count. line_length limit (uncut_bytes self.new) ≡ Some count) }
+        ensures tells { IfErr result
+            (λ fault. StopsLine fault (cut limit (uncut_bytes self.new) (ending_of self.new.answers))) }
         ensures fault { MatchResult result (λ _. self.new.fault ≡ None) (λ fault. self.new.fault ≡ Some fault) }
     {
         let mut scanned = 0;
@@ -151,7 +152,7 @@ impl<R: Source> Lines<R> {
 
     // The bytes that aren't cut yet.
     fn uncut(&self) -> &[u8]
-        ensures { result.now ≡ uncut self.now }
+        ensures { result.now ≡ uncut_bytes self.now }
     {
         self.window.kept()
     }

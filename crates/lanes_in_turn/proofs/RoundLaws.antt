@@ -21,7 +21,7 @@ use Rattle.upload_reader.proofs.LaneLaws.{is_stream}
 use Rattle.client_log.specs.Client.{OfClient}
 use Rattle.lanes_in_turn.proofs.LaneSteps.{continues_none}
 use Rattle.lanes_in_turn.specs.Lane.{NotOver}
-use Rattle.lanes_in_turn.specs.Round.{has_twice, clients_of, log_before, resumed, rested, entries_of, ahead_of, IsAsked, IsTakenInTurn, IsLaneInTurn, AreTakenInTurn, all_rested}
+use Rattle.lanes_in_turn.specs.Round.{has_twice, clients_of, log_before, resumed_upload, without_lane, entries_of, ahead_of, IsAsked, IsTakenInTurn, IsLaneInTurn, AreTakenInTurn, without_lanes}
 use Rattle.lanes_in_turn.specs.Taking.{begun_lane}
 use Rattle.lanes_in_turn.specs.inside.{HasFewTaken, HaveFewTaken, one_more, only, none}
 use Rattle.lanes_in_turn.specs.declared.gathered.Stop.TheVariants as stop
@@ -240,7 +240,7 @@ module _ {R : Type 0} (known : List ℕ → Option (LaneResult R)) (quota : ℕ)
 
   -- ---- as they begin
 
-  untouched_behind : (upload : UploadState R) (found : Option (LaneResult R)) → IsUntouched upload → (resumed upload found).given ≡ []
+  untouched_behind : (upload : UploadState R) (found : Option (LaneResult R)) → IsUntouched upload → (resumed_upload upload found).given ≡ []
   untouched_behind upload None untouched = untouched.given
   untouched_behind upload (Some lane) untouched = untouched.given
 
@@ -250,12 +250,12 @@ module _ {R : Type 0} (known : List ℕ → Option (LaneResult R)) (quota : ℕ)
     each = λ k lane at.
         let (upload, there, same) = in_map (begun_lane known quota) uploads k lane (ap (λ l. slice_get l k) (sym is) ∙ at) in
         let found = known upload.client in
-        let now = lane_begun (log_before quota upload found) (resumed upload found) (untouched_behind upload found (all_at IsUntouched uploads k upload untouched there)) in
+        let now = lane_begun (log_before quota upload found) (resumed_upload upload found) (untouched_behind upload found (all_at IsUntouched uploads k upload untouched there)) in
         record {
           upload = upload;
           upload_at = there;
           client = ap (λ l. l.0) (sym same);
-          in_turn = subst (λ l. IsTakenInTurn (log_before quota upload found) (resumed upload found) 0 0 l.1) same now;
+          in_turn = subst (λ l. IsTakenInTurn (log_before quota upload found) (resumed_upload upload found) 0 0 l.1) same now;
         };
   }
 
@@ -265,20 +265,20 @@ module _ {R : Type 0} where
   -- once the first clients rest, the next one is as it was, and may rest
   record IsNextToRest (k : ℕ) (entries : List (List ℕ × LaneResult R)) (n : ℕ) : Type 0 where
     lane : LaneResult R
-    at : slice_get (map (λ entry. entry.1) (all_rested (take k entries) ++ drop k entries)) k ≡ Some lane
-    step : set_value_at (all_rested (take k entries) ++ drop k entries) k (rested lane) ≡ all_rested (take n entries) ++ drop n entries
+    at : slice_get (map (λ entry. entry.1) (without_lanes (take k entries) ++ drop k entries)) k ≡ Some lane
+    step : set_value_at (without_lanes (take k entries) ++ drop k entries) k (without_lane lane) ≡ without_lanes (take n entries) ++ drop n entries
 
   next_to_rest : (k : ℕ) (entries : List (List ℕ × LaneResult R)) → k < length entries → IsNextToRest k entries (suc k)
   next_to_rest k [] within = absurd (omega (arith, within))
   next_to_rest zero (entry ∷ entries) within = record { lane = entry.1; at = refl; step = refl }
   next_to_rest (suc k) (entry ∷ entries) within =
       let rest = next_to_rest k entries (omega (arith, within)) in
-      record { lane = rest.lane; at = rest.at; step = ap (λ others. (entry.0, rested entry.1) ∷ others) rest.step }
+      record { lane = rest.lane; at = rest.at; step = ap (λ others. (entry.0, without_lane entry.1) ∷ others) rest.step }
 
   pub rested_step : (k : ℕ) (entries new : List (List ℕ × LaneResult R)) → k < length entries
-      → ((lane : LaneResult R) → slice_get (map (λ entry. entry.1) (all_rested (take k entries) ++ drop k entries)) k ≡ Some lane
-      → new ≡ set_value_at (all_rested (take k entries) ++ drop k entries) k (rested lane))
-      → new ≡ all_rested (take (k + 1) entries) ++ drop (k + 1) entries
+      → ((lane : LaneResult R) → slice_get (map (λ entry. entry.1) (without_lanes (take k entries) ++ drop k entries)) k ≡ Some lane
+      → new ≡ set_value_at (without_lanes (take k entries) ++ drop k entries) k (without_lane lane))
+      → new ≡ without_lanes (take (k + 1) entries) ++ drop (k + 1) entries
   rested_step k entries new within rests =
       let next : suc k ≡ k + 1 = omega arith in
       let step = subst (IsNextToRest k entries) next (next_to_rest k entries within) in

@@ -60,13 +60,13 @@ module _ {R : Type 0} where
   abbrev pub behind_log : OfClient → UploadState R → UploadState R
   behind_log log upload = record upload { lane = record upload.lane { earlier = log.session } }
 
-  abbrev pub resumed : UploadState R → Option (LaneResult R) → UploadState R
-  resumed upload None = upload
-  resumed upload (Some known) = behind_log known.log upload
+  abbrev pub resumed_upload : UploadState R → Option (LaneResult R) → UploadState R
+  resumed_upload upload None = upload
+  resumed_upload upload (Some known) = behind_log known.log upload
 
   -- a client that has no lane in this round
-  abbrev pub rested : LaneResult R → LaneResult R
-  rested lane = record { log = lane.log; taken = 0; end = None; upload = None }
+  abbrev pub without_lane : LaneResult R → LaneResult R
+  without_lane lane = record { log = lane.log; taken = 0; end = None; upload = None }
 
 -- ---- what is taken of them
 
@@ -94,7 +94,7 @@ module _ {R : Type 0} (known : List ℕ → Option (LaneResult R)) (quota : ℕ)
     pub upload_at : slice_get uploads k ≡ Some upload
     pub client : lane.0 ≡ upload.client
     pub in_turn : IsTakenInTurn (log_before quota upload (known upload.client))
-        (resumed upload (known upload.client)) (asked k) (ahead k) lane.1
+        (resumed_upload upload (known upload.client)) (asked k) (ahead k) lane.1
 
   pub record AreTakenInTurn (lanes : List (List ℕ × LaneResult R)) : Type 0 where
     pub count : length lanes ≡ length uploads
@@ -125,8 +125,8 @@ module _ {R : Type 0} where
         (ahead_of schedule followed stop) lanes
     pub stop_is : IsStop schedule followed lanes stop
 
-  abbrev pub all_rested : List (List ℕ × LaneResult R) → List (List ℕ × LaneResult R)
-  all_rested entries = map (λ entry. (entry.0, rested entry.1)) entries
+  abbrev pub without_lanes : List (List ℕ × LaneResult R) → List (List ℕ × LaneResult R)
+  without_lanes entries = map (λ entry. (entry.0, without_lane entry.1)) entries
 
   -- The clients of the rounds before stand first, in their order, and then the new ones in that of their lanes. Each
   -- that has a lane has what was taken of it, as that says of lanes behind what is known and of why it stopped.
@@ -135,7 +135,7 @@ module _ {R : Type 0} where
     pub is_round : IsRound uploads
     pub lanes : List (List ℕ × LaneResult R)
     pub taken : Takes (get bytes_eq earlier.clients) lanes gathered.stop
-    pub clients_are : gathered.clients.entries ≡ insert_all bytes_eq (all_rested earlier.clients.entries) lanes
+    pub clients_are : gathered.clients.entries ≡ insert_all bytes_eq (without_lanes earlier.clients.entries) lanes
 
   -- in turn, as the schedule says
   abbrev pub GathersInTurn : Gathered R → List (UploadState R) → ℕ → List ℕ → Gathered R → Type 0

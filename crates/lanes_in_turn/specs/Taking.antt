@@ -5,7 +5,7 @@ use Rattle.indexmap.specs.IndexMap.{get, spare, IsUnchanged}
 use Rattle.upload_reader.specs.Upload.{UploadState, IsUntouched}
 use Rattle.client_log.specs.Client.{OfClient}
 use Rattle.lanes_in_turn.specs.Lane.{IsTaken}
-use Rattle.lanes_in_turn.specs.Round.{IsRound, new_log, log_before, resumed, have_ended}
+use Rattle.lanes_in_turn.specs.Round.{IsRound, new_log, log_before, resumed_upload, have_ended}
 use Rattle.lanes_in_turn.specs.declared.gathered.LaneResult.{LaneResult}
 use Rattle.lanes_in_turn.specs.declared.gathered.Gathered.{Gathered}
 use Rattle.lanes_in_turn.specs.declared.gathered.Stop.{Stop}
@@ -34,8 +34,8 @@ module _ {R : Type 0} where
 
   -- that of an upload, where this is known of clients
   abbrev pub begun_lane : (List ℕ → Option (LaneResult R)) → ℕ → UploadState R → List ℕ × LaneResult R
-  begun_lane known quota upload =
-      let lane = known upload.client in (upload.client, new_lane (log_before quota upload lane) (resumed upload lane))
+  begun_lane known quota upload = let lane = known upload.client in
+      (upload.client, new_lane (log_before quota upload lane) (resumed_upload upload lane))
 
   -- nothing was taken of it
   pub record IsBegun (lane : LaneResult R) : Type 0 where

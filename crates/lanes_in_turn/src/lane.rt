@@ -2,7 +2,7 @@
 ghost use Rattle.std.specs.Prelude.{ℕ, ◌≡◌, ◌+◌, true, false, is_some, OnOk, OnErr};
 ghost use Rattle.upload_reader.specs.Upload.{UploadState};
 ghost use Rattle.client_log.specs.Client.{OfClient};
-ghost use Rattle.lanes_in_turn.specs.Round.{IsTakenInTurn, have_ended, rested};
+ghost use Rattle.lanes_in_turn.specs.Round.{IsTakenInTurn, have_ended, without_lane};
 ghost use Rattle.lanes_in_turn.specs.Taking.{items_in};
 ghost use Rattle.lanes_in_turn.specs.inside.{HasFewTaken};
 
@@ -52,7 +52,7 @@ impl<R: Source + Drop> LaneResult<R> {
 
     // What a round without this client leaves of its lane.
     pub(crate) fn rest(&mut self)
-        ensures { self.new ≡ rested self.old }
+        ensures { self.new ≡ without_lane self.old }
     {
         self.taken = 0;
         self.end = None;

@@ -3,7 +3,7 @@ ghost use Rattle.std.specs.Prelude.{◌≡◌, ◌+◌, ◌≤◌, ◌<◌, leng
 ghost use Rattle.std.specs.List.{AllByRecursion};
 ghost use Rattle.indexmap.specs.IndexMap.{get, spare, insert_entry, insert_all, set_value_at, IsUnchanged};
 ghost use Rattle.upload_reader.specs.Upload.{IsUntouched};
-ghost use Rattle.lanes_in_turn.specs.Round.{resumed, rested, all_rested};
+ghost use Rattle.lanes_in_turn.specs.Round.{resumed_upload, without_lane, without_lanes};
 ghost use Rattle.lanes_in_turn.specs.Taking.{new_lane, begun_lane};
 ghost use Rattle.lanes_in_turn.specs.declared.gathered.LaneResult.{LaneResult};
 
@@ -71,7 +71,7 @@ fn begin_behind<R: Source + Drop>(
     upload: Upload<R>,
 ) -> Result<LaneResult<R>, NoMemory>
     requires untouched { IsUntouched upload }
-    ensures { IfOk result (λ lane. lane ≡ new_lane known.now.log (resumed upload (Some known.now))) }
+    ensures { IfOk result (λ lane. lane ≡ new_lane known.now.log (resumed_upload upload (Some known.now))) }
 {
     let log = known.log.copy()?;
     let session = known.log.session().copy()?;
@@ -92,7 +92,7 @@ pub(crate) fn new_lane<R: Source + Drop>(log: ClientLog, upload: Upload<R>) -> L
 
 /// What a later round leaves of the lanes of the earlier ones.
 pub(crate) fn rest_all<R: Source + Drop>(clients: &mut IndexMap<Client, LaneResult<R>>)
-    ensures rested { clients.new.entries ≡ all_rested clients.old.entries }
+    ensures rested { clients.new.entries ≡ without_lanes clients.old.entries }
     ensures room { spare clients.old ≤ spare clients.new }
 {
     for k in 0..clients.len() {
@@ -102,7 +102,7 @@ pub(crate) fn rest_all<R: Source + Drop>(clients: &mut IndexMap<Client, LaneResu
 
 fn rest_at<R: Source + Drop>(clients: &mut IndexMap<Client, LaneResult<R>>, k: usize)
     ensures entries { (lane : LaneResult R) → slice_get (map (λ entry. entry.1) clients.old.entries) k ≡ Some lane
-        → clients.new.entries ≡ set_value_at clients.old.entries k (rested lane) }
+        → clients.new.entries ≡ set_value_at clients.old.entries k (without_lane lane) }
     ensures room { spare clients.new ≡ spare clients.old }
 {
     if let Some(lane) = clients.get_index_mut(k) {

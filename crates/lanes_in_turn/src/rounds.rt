@@ -3,7 +3,7 @@ ghost use Rattle.std.specs.Prelude.{◌≡◌, ◌≤◌, length, bytes_eq, IfOk
 ghost use Rattle.std.specs.List.{AllByRecursion};
 ghost use Rattle.indexmap.specs.IndexMap.{spare, insert_all};
 ghost use Rattle.upload_reader.specs.Upload.{IsUntouched};
-ghost use Rattle.lanes_in_turn.specs.Round.{RefusesRound, all_rested};
+ghost use Rattle.lanes_in_turn.specs.Round.{RefusesRound, without_lanes};
 ghost use Rattle.lanes_in_turn.specs.Taking.{IsBegunRound, IsFreshLane};
 
 use crate::checks::check_round;
@@ -59,7 +59,7 @@ pub fn end_round<R: Source + Drop>(
     stop: Stop,
 ) -> Gathered<R>
     requires room { length lanes.items ≤ spare earlier.clients }
-    ensures clients { result.clients.entries ≡ insert_all bytes_eq (all_rested earlier.clients.entries) lanes.items }
+    ensures clients { result.clients.entries ≡ insert_all bytes_eq (without_lanes earlier.clients.entries) lanes.items }
     ensures stop { result.stop ≡ stop }
 {
     let mut earlier = earlier;

@@ -15,7 +15,7 @@ use Rattle.page_tree.specs.declared.siblings.Siblings.{Siblings}
 use Rattle.page_tree.specs.declared.table.Spot.{Spot}
 use Rattle.page_tree.specs.declared.tree.Tree as code
 use Rattle.std.specs.declared.alloc.Global.{Global}
-use Rattle.page_tree.specs.Seen.{seen, all_seen}
+use Rattle.page_tree.specs.Seen.{plain_tree, plain_trees}
 use Rattle.page_tree.proofs.Counting.{nodes-positive}
 use Rattle.page_tree.proofs.TableLaws.{lines-length, lines_from-length}
 
@@ -45,10 +45,10 @@ count_of-count test (tree t ts) = if_more (test t) (count_of test ts) (count ts)
 -- ---- a node
 
 pub seen-Element : (name : List ℕ) (attributes : List Attribute) (children : Vec code.Tree Global)
-    → seen (code.Element name attributes children) ≡ element name attributes (all_seen children.items)
+    → plain_tree (code.Element name attributes children) ≡ element name attributes (plain_trees children.items)
 seen-Element name attributes children = search (rules, code.the_lemmas)
 
-pub seen-Words : (text : List ℕ) → seen (code.Words text) ≡ words text
+pub seen-Words : (text : List ℕ) → plain_tree (code.Words text) ≡ words text
 seen-Words text = search (rules, code.the_lemmas)
 
 -- the row of an element, then those under it, then its end
@@ -78,8 +78,8 @@ element_size name attributes children spot many number old pushed all push add =
 
 -- ---- children
 
-pub seen_next : (ts : List code.Tree) (i : ℕ) (t : code.Tree) → i < length ts → t ≡ get_or ts i t → all_seen (drop i ts) ≡ tree (seen t) (all_seen (drop (i + 1) ts))
-seen_next ts i t less is = at_drop_more all_seen ts i t less ∙ ap (λ u. tree (seen u) (all_seen (drop (i + 1) ts))) (sym is)
+pub seen_next : (ts : List code.Tree) (i : ℕ) (t : code.Tree) → i < length ts → t ≡ get_or ts i t → plain_trees (drop i ts) ≡ tree (plain_tree t) (plain_trees (drop (i + 1) ts))
+seen_next ts i t less is = at_drop_more plain_trees ts i t less ∙ ap (λ u. tree (plain_tree u) (plain_trees (drop (i + 1) ts))) (sym is)
 
 -- one node was added, and others of its parent are added behind it
 pub one_node : (table next : List Line) (parent : ℕ) (before : Trees) (t : Tree) → next ≡ table ++ lines_of (spot_behind parent before (name_of t)) (length table) t

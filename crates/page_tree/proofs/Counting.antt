@@ -4,9 +4,9 @@ use Rattle.page_tree.specs.Tree.{Tree, element, words, Trees, no_trees, tree}
 use Rattle.page_tree.specs.Limits.{nodes, nodes_of_all}
 use Rattle.page_tree.specs.Look.{count}
 use Rattle.page_tree.specs.declared.tree.Tree as code
-use Rattle.page_tree.specs.Seen.{all_seen}
+use Rattle.page_tree.specs.Seen.{plain_trees}
 
-pub count-all_seen : (ts : List code.Tree) → count (all_seen ts) ≡ length ts
+pub count-all_seen : (ts : List code.Tree) → count (plain_trees ts) ≡ length ts
 count-all_seen [] = refl
 count-all_seen (t ∷ ts) = ap suc (count-all_seen ts)
 

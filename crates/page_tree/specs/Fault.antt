@@ -29,8 +29,7 @@ first_fault before (own ∷ rest) =
 -- and nothing else is a node (P4)
 abbrev pub own_fault : ℕ → Data → Option PageFault
 own_fault levels (string text) = None
-own_fault levels (object ms) =
-    unless (nat_lt 0 levels) TooDeep
+own_fault levels (object ms) = unless (nat_lt 0 levels) TooDeep
     (unless (option_map_or is_name (name_in (object ms)) false) BadName
     (unless (option_map_or have_ascending_names (attributes_in (object ms)) false) BadAttribute
     (unless (is_some (children_in (object ms))) BadChildren None)))

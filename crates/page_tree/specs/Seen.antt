@@ -13,8 +13,8 @@ abbrev pub seen_step : Tree-F plain.Tree → plain.Tree
 seen_step (Tree-F.Element name attributes children) = plain.element name attributes (trees_of children.items)
 seen_step (Tree-F.Words text) = plain.words text
 
-abbrev pub seen : Tree → plain.Tree
-seen = fold-Tree plain.Tree seen_step
+abbrev pub plain_tree : Tree → plain.Tree
+plain_tree = fold-Tree plain.Tree seen_step
 
-abbrev pub all_seen : List Tree → plain.Trees
-all_seen ts = trees_of (map seen ts)
+abbrev pub plain_trees : List Tree → plain.Trees
+plain_trees ts = trees_of (map plain_tree ts)

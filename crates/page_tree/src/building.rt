@@ -4,7 +4,7 @@ ghost use Rattle.std.specs.Prelude.{◌≡◌, ◌+◌, ◌≤◌, ◌++◌, IfO
 ghost use Rattle.page_tree.specs.Tree.{no_trees};
 ghost use Rattle.page_tree.specs.Limits.{nodes, max_nodes};
 ghost use Rattle.page_tree.specs.inside.Building.{nodes_in};
-ghost use Rattle.page_tree.specs.Seen.{seen, all_seen};
+ghost use Rattle.page_tree.specs.Seen.{plain_tree, plain_trees};
 ghost use Rattle.page_tree.specs.inside.Table.{lines, lines_of, lines_from};
 
 use crate::memory::NoMemory;
@@ -15,8 +15,8 @@ use std::alloc::Global;
 
 /// The table of a tree that has not too many nodes.
 pub(crate) fn table_of(alloc: Global, root: &Tree) -> Result<NodeTable, NoMemory>
-    requires { nodes (seen root.now) ≤ max_nodes }
-    ensures { IfOk result (λ table. table ≡ lines (seen root.now)) }
+    requires { nodes (plain_tree root.now) ≤ max_nodes }
+    ensures { IfOk result (λ table. table ≡ lines (plain_tree root.now)) }
 {
     let mut table = NodeTable::new(alloc);
     let spot = Spot {
@@ -32,8 +32,8 @@ pub(crate) fn table_of(alloc: Global, root: &Tree) -> Result<NodeTable, NoMemory
 // Adds a node that stands there, and those under it.
 #[cycle(building)]
 fn add_node(table: &mut NodeTable, tree: &Tree, spot: Spot) -> Result<(), NoMemory>
-    requires few { length table.old + nodes (seen tree.now) ≤ max_nodes }
-    ensures { OnOk result (table.new ≡ table.old ++ lines_of spot (length table.old) (seen tree.now)) }
+    requires few { length table.old + nodes (plain_tree tree.now) ≤ max_nodes }
+    ensures { OnOk result (table.new ≡ table.old ++ lines_of spot (length table.old) (plain_tree tree.now)) }
 {
     match tree {
         Tree::Words(text) => table.push_words(spot, text.as_str())?,
@@ -65,7 +65,8 @@ fn add_children(
     parent: u16,
 ) -> Result<(), NoMemory>
     requires few { length table.old + nodes_in children.now ≤ max_nodes }
-    ensures { OnOk result (table.new ≡ table.old ++ lines_from parent no_trees (length table.old) (all_seen children.now)) }
+    ensures { OnOk result
+        (table.new ≡ table.old ++ lines_from parent no_trees (length table.old) (plain_trees children.now)) }
 {
     let mut siblings = Siblings::new(alloc);
     for child in children {

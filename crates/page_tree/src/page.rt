@@ -51,7 +51,7 @@ impl Model for Page {
 }
 
 impl Page {
-    ghost use Rattle.page_tree.specs.Seen.{seen};
+    ghost use Rattle.page_tree.specs.Seen.{plain_tree};
     ghost use Rattle.page_tree.specs.inside.Table.{lines, tree_of_lines, IsTable};
 
     /// The page that a tree is.
@@ -59,10 +59,10 @@ impl Page {
     /// Its faults are `NotAnElement`, `TooMany`, `TooDeep`, `BadName` and `BadAttribute` (names that don't ascend strictly, in byte order): the
     /// first in document order, and at one node the first in this order.
     pub fn new(alloc: Global, root: Tree) -> Result<Page, PageFault>
-        ensures page { IfOk result (λ page. page ≡ seen root) }
+        ensures page { IfOk result (λ page. page ≡ plain_tree root) }
         ensures ok { IfOk result (λ page. IsPage page × (fault_of_tree page ≡ None)) }
-        ensures refused { IfErr result (λ e. e ≢ NoMemory → ¬ IsPage (seen root)) }
-        ensures fault { IfErr result (λ e. e ≢ NoMemory → fault_of_tree (seen root) ≡ Some e) }
+        ensures refused { IfErr result (λ e. e ≢ NoMemory → ¬ IsPage (plain_tree root)) }
+        ensures fault { IfErr result (λ e. e ≢ NoMemory → fault_of_tree (plain_tree root) ≡ Some e) }
     {
         match inspect_root(&root) {
             Ok(_count) => {

@@ -2,7 +2,7 @@
 ghost use Rattle.std.specs.Prelude.{◌≡◌, ◌<◌, ◌+◌, OnOk, option_map};
 ghost use Rattle.page_tree.specs.Look.{name_of, value_of};
 ghost use Rattle.page_tree.specs.inside.Building.{nodes_in};
-ghost use Rattle.page_tree.specs.Seen.{seen};
+ghost use Rattle.page_tree.specs.Seen.{plain_tree};
 ghost use Rattle.page_tree.specs.Limits.{have_ascending_names, nodes};
 
 use crate::memory::NoMemory;
@@ -24,7 +24,7 @@ pub enum Tree {
 impl Tree {
     /// The name of an element.
     pub(crate) fn name(&self) -> Option<&str>
-        ensures { option_map (λ name. name.now) result ≡ name_of (seen self.now) }
+        ensures { option_map (λ name. name.now) result ≡ name_of (plain_tree self.now) }
     {
         match self {
             Tree::Element { name, .. } => Some(name.as_str()),
@@ -49,7 +49,7 @@ impl Tree {
     // Drops the node alone; those under it are left.
     #[tactic(auto, using(crate::proofs::Apart::element_apart, crate::proofs::Apart::words_apart))]
     fn leave_children(self, left: &mut Vec<Tree>) -> Result<(), NoMemory>
-        ensures { OnOk result (nodes_in left.new.items < nodes_in left.old.items + nodes (seen self)) }
+        ensures { OnOk result (nodes_in left.new.items < nodes_in left.old.items + nodes (plain_tree self)) }
     {
         match self {
             Tree::Element {

@@ -23,8 +23,7 @@ decision_of said = record { client = said.0; visit = said.1.0; choice = said.1.1
 -- An entry is an array of just three: the text of a client, the number of its visit, from 1 to the greatest, and the
 -- text of what was chosen. Any other entry is Z2.
 abbrev pub decision_among : Items → Option Decision
-decision_among (item client (item visit (item choice no_items))) =
-    option_map decision_of
+decision_among (item client (item visit (item choice no_items))) = option_map decision_of
     (option_zip (client_named client) (option_zip (number_in 1 visit) (option_and_then choice_said (as_str choice))))
 decision_among _ = None
 

@@ -49,9 +49,13 @@ pages_among (member address d ms) =
 abbrev pub pages_in : Data → Option (List Entry)
 pages_in d = option_and_then pages_among (option_map_or as_object (get (codes "pages") d) (Some no_members))
 
--- the member `quota`; 1 MiB where it is absent
+-- 1 MiB, in bytes: what is kept of a client where the site doesn't say; any quota would do
+abbrev pub default_quota : ℕ
+default_quota = 1048576
+
+-- the member `quota`
 abbrev pub quota_in : Data → Option ℕ
-quota_in d = number_or 1048576 (codes "quota") d
+quota_in d = number_or default_quota (codes "quota") d
 
 -- the member `workers`; 1 where it is absent
 abbrev pub workers_in : Data → Option ℕ

@@ -10,7 +10,7 @@ use Rattle.upload_reader.specs.Stream.{Costed}
 use Rattle.upload_reader.specs.Upload.{UploadState, EndsBy}
 use Rattle.upload_reader.specs.declared.ending.Ending.{Ending}
 use Rattle.lanes_in_turn.specs.Lane.{Continues, EndsWith, IsTaken}
-use Rattle.upload_lanes.specs.inside.Sent.{sent, bodies, sent_messages, ending_behind, is_last, IsMarked, IsPut}
+use Rattle.upload_lanes.specs.inside.Sent.{sent_items, bodies, sent_messages, ending_behind, is_last, IsMarked, IsPut}
 use Rattle.upload_lanes.specs.inside.Party.{TellsUpload}
 use Rattle.upload_lanes.specs.inside.Recording.{IsLaneRecorded}
 use Rattle.lanes_in_turn.specs.declared.gathered.LaneResult.{LaneResult}
@@ -27,7 +27,7 @@ pub record IsFront (given : List Costed) (ending : Option Ending) (items : List 
   pub ended : IfSome (ending_behind None items) (λ end. (ending ≡ Some end) × (length (sent_messages items) ≡ length given))
   pub count : length items ≡ length (sent_messages items) + ends_in (ending_behind None items)
 
-pub front : (given : List Costed) (ending : Option Ending) (items rest : List Sent) → sent given ending ≡ items ++ rest → IsFront given ending items
+pub front : (given : List Costed) (ending : Option Ending) (items rest : List Sent) → sent_items given ending ≡ items ++ rest → IsFront given ending items
 front given ending [] rest is = record { messages = refl; some = omega arith; ended = tt; count = refl }
 front [] None (x ∷ items) rest is = cc
 front [] (Some end) (x ∷ []) rest is =
@@ -36,7 +36,7 @@ front [] (Some end) (x ∷ []) rest is =
 front [] (Some end) (x ∷ y ∷ items) rest is = cc
 front (message ∷ given) ending (x ∷ items) rest is =
     let same : x ≡ One message = cc in
-    let others : sent given ending ≡ items ++ rest = cc in
+    let others : sent_items given ending ≡ items ++ rest = cc in
     let r = front given ending items rest others in
     let more : IfSome (ending_behind None items) (λ end. (ending ≡ Some end) × (length (message ∷ sent_messages items) ≡ length (message ∷ given))) =
     longer (ending_behind None items) ending message (sent_messages items) given r.ended in

@@ -3,7 +3,7 @@ use Rattle.std.proofs.Common.{◌≡◌, ℕ, List, [], ◌∷◌, map, Option, 
 use Rattle.std.specs.List.{AllZip}
 use Rattle.upload_reader.specs.Upload.{UploadState}
 use Rattle.lanes_in_turn.specs.Lane.{IsTaken}
-use Rattle.lanes_in_turn.specs.Round.{log_before, resumed}
+use Rattle.lanes_in_turn.specs.Round.{log_before, resumed_upload}
 use Rattle.lanes_in_turn.specs.Taking.{begun_lane, TakesLane}
 use Rattle.lanes_in_turn.specs.declared.gathered.LaneResult.{LaneResult}
 
@@ -11,7 +11,7 @@ module _ {R : Type 0} (known : List ℕ → Option (LaneResult R)) (quota : ℕ)
   -- that upload's lane, and nothing of another's went into it
   pub record IsLaneOf (upload : UploadState R) (lane : List ℕ × LaneResult R) : Type 0 where
     pub client : lane.0 ≡ upload.client
-    pub is_taken : IsTaken (log_before quota upload (known upload.client)) (resumed upload (known upload.client)) lane.1
+    pub is_taken : IsTaken (log_before quota upload (known upload.client)) (resumed_upload upload (known upload.client)) lane.1
 
   pub lanes_of : (uploads : List (UploadState R)) (lanes : List (List ℕ × LaneResult R)) → AllZip TakesLane (map (begun_lane known quota) uploads) lanes
       → AllZip IsLaneOf uploads lanes
@@ -19,6 +19,6 @@ module _ {R : Type 0} (known : List ℕ → Option (LaneResult R)) (quota : ℕ)
   lanes_of [] (lane ∷ lanes) all = absurd all
   lanes_of (upload ∷ uploads) [] all = absurd all
   lanes_of (upload ∷ uploads) (lane ∷ lanes) all = (
-    record { client = all.0.client; is_taken = all.0.is_taken (resumed upload (known upload.client)) refl },
+    record { client = all.0.client; is_taken = all.0.is_taken (resumed_upload upload (known upload.client)) refl },
     lanes_of uploads lanes all.1,
   )

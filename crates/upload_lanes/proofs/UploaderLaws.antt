@@ -20,7 +20,7 @@ use Rattle.upload_reader.specs.declared.next.Next.TheVariants.{Got, Over, GaveUp
 use Rattle.lanes_in_turn.proofs.LaneSteps.{read_on}
 use Rattle.lanes_in_turn.proofs.RoundLaws.{nothing_first}
 use Rattle.lanes_in_turn.specs.Lane.{NotOver}
-use Rattle.upload_lanes.specs.inside.Sent.{sent, bodies, is_last, IsMarked, IsReadOn, IsPutting, IsPut, Sends}
+use Rattle.upload_lanes.specs.inside.Sent.{sent_items, bodies, is_last, IsMarked, IsReadOn, IsPutting, IsPut, Sends}
 use Rattle.upload_lanes.specs.declared.sent.Sent.{Sent}
 use Rattle.upload_lanes.specs.declared.sent.Sent.TheVariants.{One, Last}
 
@@ -70,7 +70,7 @@ module _ {R : Type 0} where
   pub nothing_put : (put : List (Item Sent)) (u : UploadState R) → IsPutting put u → IsPut put u
   nothing_put put u putting = record {
     rest = [];
-    front = ap (λ ending. sent u.given ending) putting.going ∙ append-nil (map One u.given) ∙ sym putting.all ∙ sym (append-nil (bodies put));
+    front = ap (λ ending. sent_items u.given ending) putting.going ∙ append-nil (map One u.given) ∙ sym putting.all ∙ sym (append-nil (bodies put));
     marked = putting.marked;
   }
 
@@ -78,10 +78,10 @@ module _ {R : Type 0} where
   pub few_uploaded : (put : List (Item Sent)) (begun u : UploadState R) → IsReadOn begun u → IsPut put u → length put < 2 ^ 57
   few_uploaded put begun u read is_put =
       let ends : length (option_to_list u.ending) ≤ 1 = one_at_most u.ending in
-      let size : length (sent u.given u.ending) ≡ length u.given + length (option_to_list u.ending) =
+      let size : length (sent_items u.given u.ending) ≡ length u.given + length (option_to_list u.ending) =
       length-append (map One u.given) (map Last (option_to_list u.ending))
       ∙ ap (λ n. n + length (map Last (option_to_list u.ending))) (length-map u.given One) ∙ ap (λ n. length u.given + n) (length-map (option_to_list u.ending) Last) in
-      let whole : length (sent u.given u.ending) ≡ length (bodies put) + length is_put.rest = ap length is_put.front ∙ length-append (bodies put) is_put.rest in
+      let whole : length (sent_items u.given u.ending) ≡ length (bodies put) + length is_put.rest = ap length is_put.front ∙ length-append (bodies put) is_put.rest in
       let same : length (bodies put) ≡ length put = length-map put (λ item. item.body) in
       omega (arith, ends, size, whole, same, read.few)
     where
@@ -104,7 +104,7 @@ module _ {R : Type 0} where
         record {
           rest = One one ∷ [];
           front =
-              ap (λ e. sent v.given e) going ∙ append-nil (map One v.given) ∙ ap (map One) given ∙ map-append One u.given (one ∷ [])
+              ap (λ e. sent_items v.given e) going ∙ append-nil (map One v.given) ∙ ap (map One) given ∙ map-append One u.given (one ∷ [])
               ∙ ap (λ front. front ++ One one ∷ []) (sym putting.all ∙ ap bodies (sym after));
           marked = subst (AllByRecursion IsMarked) (sym after) putting.marked;
         }
@@ -115,7 +115,7 @@ module _ {R : Type 0} where
         record {
           rest = [];
           front =
-              ap (λ e. sent v.given e) ended ∙ ap (λ all. map One all ++ Last ending ∷ []) (given ∙ append-nil u.given) ∙ ap (λ front. front ++ Last ending ∷ []) (sym putting.all)
+              ap (λ e. sent_items v.given e) ended ∙ ap (λ all. map One all ++ Last ending ∷ []) (given ∙ append-nil u.given) ∙ ap (λ front. front ++ Last ending ∷ []) (sym putting.all)
               ∙ sym (bodies_more a.put (next_item a.lane a.put true (Last ending))) ∙ ap bodies (sym after) ∙ sym (append-nil (bodies b.put));
           marked = subst (AllByRecursion IsMarked) (sym after) (marked_more a.put a.lane (Last ending) true refl putting.marked);
         }
@@ -124,7 +124,7 @@ module _ {R : Type 0} where
         record {
           rest = Last ending ∷ [];
           front =
-              ap (λ e. sent v.given e) ended ∙ ap (λ all. map One all ++ Last ending ∷ []) (given ∙ append-nil u.given)
+              ap (λ e. sent_items v.given e) ended ∙ ap (λ all. map One all ++ Last ending ∷ []) (given ∙ append-nil u.given)
               ∙ ap (λ front. front ++ Last ending ∷ []) (sym putting.all ∙ ap bodies (sym after));
           marked = subst (AllByRecursion IsMarked) (sym after) putting.marked;
         }

@@ -22,7 +22,7 @@ use std::sync::Wait;
 use std::thread::Threads;
 use upload_reader::{Client, Upload};
 
-/// The most recorders.
+/// The most recorders: taking a message costs less than reading it, so more would only wait.
 const MAX_RECORDERS: usize = 4;
 
 /// Takes messages of 1 to `MAX_ROUND_LANES` lanes, each of a client of its own: an uploader for each lane reads it on a thread of its own, and up to four

@@ -3,7 +3,7 @@ use Rattle.std.proofs.Common.{◌≡◌, ℕ, ◌+◌, ◌<◌, ◌≤◌, List,
 use Rattle.std.specs.Prelude.{IsSome, option_and_then}
 use Rattle.std.proofs.lemmas.Bool.{cases_lt}
 use Rattle.std.proofs.lemmas.Grind.{flat_map-append}
-use Rattle.byte_streams.specs.CompleteLines.{complete_lines, unended}
+use Rattle.byte_streams.specs.CompleteLines.{complete_lines, unended_line}
 use Rattle.byte_streams.specs.Cutting.{cut, line_length}
 use Rattle.byte_streams.specs.GoesOn.{GoesOn}
 use Rattle.byte_streams.specs.declared.fault.LineFault.{LineFault}
@@ -19,7 +19,7 @@ module _ {E : Type 0} (limit : ℕ) (judge : List (List ℕ) → List ℕ → Op
     (front : List (List ℕ)) where
   -- how the bytes behind the front end it
   abbrev Ended : List ℕ → Option LineFault → Option E → Type 0
-  Ended bytes ending end = LinesEndBy limit judge stop front (complete_lines bytes) (unended bytes) ending end
+  Ended bytes ending end = LinesEndBy limit judge stop front (complete_lines bytes) (unended_line bytes) ending end
 
   long_first : (lines : List (List ℕ)) (rest : List ℕ) (ending : Option LineFault) (e : E) → stop front LineTooLong ≡ Some e → IsLong limit lines
       → (lines ≡ [] → limit < length rest) → LinesEndBy limit judge stop front lines rest ending (Some e)
@@ -40,7 +40,7 @@ module _ {E : Type 0} (limit : ℕ) (judge : List (List ℕ) → List ℕ → Op
     | inl many ↦
         let (none, same) = too_many limit (drop at input) ending fault is many in
         let bytes = drop at (input ++ more) in
-        long_first (complete_lines bytes) (unended bytes) ending' e (rw same at said) (first_is_long limit at input more none many)
+        long_first (complete_lines bytes) (unended_line bytes) ending' e (rw same at said) (first_is_long limit at input more none many)
         (λ nothing. omega (arith, ap length (unended_all bytes nothing), many, length-drop at input, length-drop at (input ++ more), length-append input more))
     | inr few ↦
         let (none, ends) = too_few limit (drop at input) ending fault is few in

@@ -10,7 +10,7 @@ use Rattle.std.specs.List.{last_or}
 use Rattle.std.specs.BTreeMap.{BTreeMap}
 use Rattle.visit_replay.proofs.Places.{some_same, take_suc, zip_at, zip_size, front_at, last_at, last_push, same_places, map_at, some_there}
 use Rattle.client_log.specs.declared.visit.Visit.{Visit}
-use Rattle.visit_replay.specs.Following.{Replayed, last_numbered, outcome_behind, with_next, following}
+use Rattle.visit_replay.specs.Following.{Replayed, last_numbered, outcome_behind, with_next, behind_parents}
 use Rattle.visit_replay.specs.inside.Moves.{Knows}
 use Rattle.visit_replay.specs.inside.Families.{pair_at, AreKnown, Stands}
 use Rattle.visit_replay.specs.declared.outcome.Outcome.{Outcome}
@@ -19,7 +19,7 @@ use Rattle.visit_replay.specs.declared.outcome.Outcome.{Outcome}
 
 -- the first k visits with their outcomes, from what they give by themselves
 abbrev pub behind : List Visit → List Outcome → ℕ → List Replayed
-behind visits own k = following (take k (zip visits own))
+behind visits own k = behind_parents (take k (zip visits own))
 
 pub record IsOnItsWay (visits : List Visit) (own : List Outcome) (k : ℕ) (outcomes : List Outcome) (places : ℕ → Option ℕ) (slots : List (Option (BTreeMap ℕ Bool))) (room : ℕ) : Type 0 where
   pub count : length outcomes ≡ length visits
@@ -46,8 +46,8 @@ module _ (visits : List Visit) (own : List Outcome) (k : ℕ) (outcomes : List O
   one_more : behind visits own (k + 1) ≡ more
   one_more =
       let next : k + 1 ≡ suc k = omega arith in
-      ap (λ n. following (take n (zip visits own))) next
-      ∙ ap following (take_suc (zip visits own) k (visit, mine) (zip_at visits own k visit mine at (sym (way.left k (omega arith)) ∙ given)))
+      ap (λ n. behind_parents (take n (zip visits own))) next
+      ∙ ap behind_parents (take_suc (zip visits own) k (visit, mine) (zip_at visits own k visit mine at (sym (way.left k (omega arith)) ∙ given)))
       ∙ fold-append with_next [] (take k (zip visits own)) ((visit, mine) ∷ [])
 
   more_size : length more ≡ k + 1
@@ -148,10 +148,10 @@ followed_at visits outcomes before size many pairs = same_places outcomes (map (
     given ∙ sym (map_at (λ one. one.1) before j (visit, outcome) pair))
 
 pub all_followed : (visits : List Visit) (own : List Outcome) (outcomes : List Outcome) (places : ℕ → Option ℕ) (slots : List (Option (BTreeMap ℕ Bool))) (room k : ℕ)
-    → IsOnItsWay visits own k outcomes places slots room → k ≡ length visits → outcomes ≡ map (λ one. one.1) (following (zip visits own))
+    → IsOnItsWay visits own k outcomes places slots room → k ≡ length visits → outcomes ≡ map (λ one. one.1) (behind_parents (zip visits own))
 all_followed visits own outcomes places slots room k way whole =
     followed_at visits outcomes (behind visits own k) (way.size ∙ whole ∙ sym way.count) way.count way.stands.pairs
-    ∙ ap (λ pairs. map (λ one. one.1) (following pairs)) (take_all (zip visits own) k (zip_many visits own k way.many whole))
+    ∙ ap (λ pairs. map (λ one. one.1) (behind_parents pairs)) (take_all (zip visits own) k (zip_many visits own k way.many whole))
   where
     take_all : {A : Type 0} (xs : List A) (n : ℕ) → length xs ≡ n → take n xs ≡ xs
     take_all xs n is = ap (λ m. take m xs) (sym is) ∙ take-length xs

@@ -42,9 +42,9 @@ abbrev pub with_next : List Replayed → Replayed → List Replayed
 with_next before one = before ++ (one.0, outcome_behind before one.0 one.1) ∷ []
 
 -- visits with their outcomes, from the same with what they give by themselves
-abbrev pub following : List Replayed → List Replayed
-following visits = fold with_next [] visits
+abbrev pub behind_parents : List Replayed → List Replayed
+behind_parents visits = fold with_next [] visits
 
 -- of these visits, each behind its parent
 abbrev pub outcomes : RepairedSite → List Visit → List Outcome
-outcomes site visits = map (λ one. one.1) (following (map (λ visit. (visit, outcome site visit)) visits))
+outcomes site visits = map (λ one. one.1) (behind_parents (map (λ visit. (visit, outcome site visit)) visits))

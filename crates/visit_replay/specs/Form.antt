@@ -63,8 +63,8 @@ abbrev pub button_of : Tree → Option (List Step) → Option (List ℕ)
 button_of new by = option_and_then (λ path. only_place (target_in path new)) by
 
 -- the pairs as `application/x-www-form-urlencoded` (section 17.13.4)
-abbrev pub encoded : Tree → List Event → Option (List Step) → List ℕ → List ℕ
-encoded new before by form = extend_pairs [] (pairs_of new before (button_of new by) form)
+abbrev pub encoded_pairs : Tree → List Event → Option (List Step) → List ℕ → List ℕ
+encoded_pairs new before by form = extend_pairs [] (pairs_of new before (button_of new by) form)
 
 -- ---- method and address (section 17.13.3)
 
@@ -89,4 +89,4 @@ sent_to post number action pairs =
 
 abbrev pub form_request : List ℕ → Tree → List Event → Option (List Step) → List ℕ → ℕ → Request
 form_request address new before by form number =
-    sent_to (is_post form new) number (action_of address form new) (encoded new before by form)
+    sent_to (is_post form new) number (action_of address form new) (encoded_pairs new before by form)

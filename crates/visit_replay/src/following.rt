@@ -3,7 +3,7 @@ ghost use Rattle.std.specs.Prelude.{◌≡◌, ◌≢◌, ◌<◌, ◌≤◌, []
 ghost use Rattle.std.specs.BTreeMap.{get};
 ghost use Rattle.std.specs.Ordering.{nat_cmp};
 ghost use Rattle.visit_replay.specs.Moved.{is_moved};
-ghost use Rattle.visit_replay.specs.Following.{is_untouched, following};
+ghost use Rattle.visit_replay.specs.Following.{is_untouched, behind_parents};
 ghost use Rattle.visit_replay.specs.inside.Moves.{Knows};
 ghost use Rattle.visit_replay.specs.inside.Families.{AreKnown, TellsElsewhere, IsBehind};
 
@@ -25,7 +25,7 @@ pub fn follow_parents(
     outcomes: Vec<Outcome>,
 ) -> Result<Vec<Outcome>, NoMemory>
     requires { length outcomes.items ≡ length visits.now }
-    ensures { IfOk result (λ all. all.items ≡ map (λ one. one.1) (following (zip visits.now outcomes.items))) }
+    ensures { IfOk result (λ all. all.items ≡ map (λ one. one.1) (behind_parents (zip visits.now outcomes.items))) }
 {
     let mut outcomes = outcomes;
     let mut places = BTreeMap::new(alloc);

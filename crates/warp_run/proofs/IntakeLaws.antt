@@ -13,7 +13,7 @@ use Rattle.site_line.specs.Site.{IsJsonOf, IsNoSite}
 use Rattle.site_line.specs.declared.site.Site.{Site}
 use Rattle.site_line.specs.declared.fault.SiteFault.{SiteFault}
 use Rattle.site_line.specs.declared.fault.SiteFault.TheVariants as site_fault
-use Rattle.warp_run.specs.Run.{site_line, max_site_bytes, HasBadSite, HasBadHello, HasFailedRead, Reads, ReadWhileUndecided, Meets, unread}
+use Rattle.warp_run.specs.Run.{site_line, max_site_bytes, HasBadSite, HasBadHello, HasFailedRead, Reads, ReadWhileUndecided, Meets, fresh_lines}
 use Rattle.warp_run.specs.Intake.{IsBehindSite, IsRefused, bad_site, no_hello}
 use Rattle.warp_run.specs.declared.status.Status.{Status}
 use Rattle.warp_run.specs.declared.status.Status.TheVariants.{Done, BadSite, BadHello, OutOfMemory, InputOutput}
@@ -34,10 +34,10 @@ bad_refused bytes line ending site_fault.BadMember is not_json bad_member =
 bad_refused bytes line ending site_fault.NoMemory is not_json bad_member = tt
 
 -- the line that was cut of lines of which nothing was read
-pub line_cut : {R : Type 0} (old new : Reading R) (line : List ℕ) → old ≡ unread old.first → Advances {A = Unit {0}} max_site_bytes old new (Ok tt) → line ≡ new.line
+pub line_cut : {R : Type 0} (old new : Reading R) (line : List ℕ) → old ≡ fresh_lines old.first → Advances {A = Unit {0}} max_site_bytes old new (Ok tt) → line ≡ new.line
     → site_line (input new) (ending_of new.answers) ≡ Some (Ok line)
 line_cut old new line fresh advances same =
-    let from_none : Advances {A = Unit {0}} max_site_bytes (unread old.first) new (Ok tt) = subst (λ l. Advances max_site_bytes l new (Ok tt)) fresh advances in
+    let from_none : Advances {A = Unit {0}} max_site_bytes (fresh_lines old.first) new (Ok tt) = subst (λ l. Advances max_site_bytes l new (Ok tt)) fresh advances in
     rw same (from_none.tells refl)
 
 -- ---- the reader is given back

@@ -14,7 +14,7 @@ use Rattle.upload_reader.specs.declared.hello_fault.HelloFault.{HelloFault}
 use Rattle.site_line.specs.Site.{Site as PlainSite, IsSiteLine}
 use Rattle.site_line.specs.declared.site.Site.{Site}
 use Rattle.lanes_in_turn.specs.Lane.{NotOver}
-use Rattle.warp_run.specs.Run.{site_line, max_site_bytes, HasReport, Opening, IsUndecided, ReadWhileUndecided, unread}
+use Rattle.warp_run.specs.Run.{site_line, max_site_bytes, HasReport, Opening, IsUndecided, ReadWhileUndecided, fresh_lines}
 use Rattle.warp_run.specs.Intake.{IsBehindSite}
 use Rattle.warp_run.proofs.OpeningLaws.{greets, lane_place, same_lines, same_said, greeting_once, end_once, opens_stays}
 
@@ -76,9 +76,9 @@ module _ (input line : List ℕ) (site : PlainSite) (cut : site_line input None 
 
 -- ---- each read was needed
 
-pub line_needed : {R : Type 0} (old new : Reading R) → old ≡ unread old.first → ReadsWhile (NoLineYet max_site_bytes old.place) old new → ReadWhileUndecided new.answers
+pub line_needed : {R : Type 0} (old new : Reading R) → old ≡ fresh_lines old.first → ReadsWhile (NoLineYet max_site_bytes old.place) old new → ReadWhileUndecided new.answers
 line_needed old new fresh reads =
-    let from_none : ReadsWhile (NoLineYet max_site_bytes 0) (unread old.first) new = subst (λ l. ReadsWhile (NoLineYet max_site_bytes l.place) l new) fresh reads in
+    let from_none : ReadsWhile (NoLineYet max_site_bytes 0) (fresh_lines old.first) new = subst (λ l. ReadsWhile (NoLineYet max_site_bytes l.place) l new) fresh reads in
     λ n low high. before_line (bytes_of (take n new.answers)) (from_none.needed n low high)
 
 -- the line that was cut of the bytes that were read is that of more bytes

@@ -3,7 +3,7 @@ use Rattle.std.proofs.Common.{◌≡◌, ℕ, zero, suc, ◌+◌, ◌≤◌, Lis
 use Rattle.std.specs.Prelude.{option_map, option_and_then}
 use Rattle.std.specs.Option.{option_map_or}
 use Rattle.std.proofs.lemmas.List.{take-append-le}
-use Rattle.byte_streams.specs.CompleteLines.{complete_lines, unended}
+use Rattle.byte_streams.specs.CompleteLines.{complete_lines, unended_line}
 use Rattle.byte_streams.specs.declared.fault.LineFault.{LineFault}
 use Rattle.byte_streams.specs.declared.fault.LineFault.TheVariants.{LineTooLong}
 use Rattle.byte_streams.proofs.LineLaws.{complete_lines-more}
@@ -76,10 +76,10 @@ Stays bytes more ending lines client =
 
 stays_by : (bytes more : List ℕ) (ending ending' : Option LineFault) (lines : ℕ) (client : List ℕ) (front rest : List (List ℕ))
     → complete_lines bytes ≡ front ++ rest → Passes max_line_bytes greeting_by no_greeting front
-    → LinesEndBy max_line_bytes greeting_by no_greeting front rest (unended bytes) ending (greets lines (Ok client)) → Stays bytes more ending' lines client
+    → LinesEndBy max_line_bytes greeting_by no_greeting front rest (unended_line bytes) ending (greets lines (Ok client)) → Stays bytes more ending' lines client
 unfolding greeting_by
 stays_by bytes more ending ending' lines client front [] split passes by =
-    absurd (no_rest (nat_lt max_line_bytes (length (unended bytes))) lines client front ending by)
+    absurd (no_rest (nat_lt max_line_bytes (length (unended_line bytes))) lines client front ending by)
 stays_by bytes more ending ending' lines client front (line ∷ rest) split passes by =
     let (tail, grown) = complete_lines-more bytes more in
     let before = length front in

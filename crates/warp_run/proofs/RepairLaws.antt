@@ -4,7 +4,7 @@ use Rattle.std.proofs.lemmas.List.{length-map}
 use Rattle.std.specs.List.{zip}
 use Rattle.std.specs.Map.{keys_of}
 use Rattle.client_log.specs.declared.visit.Visit.{Visit}
-use Rattle.visit_replay.specs.Following.{Replayed, outcome_behind, with_next, following, outcomes}
+use Rattle.visit_replay.specs.Following.{Replayed, outcome_behind, with_next, behind_parents, outcomes}
 use Rattle.visit_replay.specs.Outcome.{outcome}
 use Rattle.visit_replay.specs.RepairedSite.{RepairedSite}
 use Rattle.visit_replay.specs.declared.outcome.Outcome.{Outcome}
@@ -22,7 +22,7 @@ pub outcomes_count : (site : RepairedSite) (visits : List Visit) → length (out
 outcomes_count site visits =
     let own : List Replayed = map (λ visit. (visit, outcome site visit)) visits in
     let with_own : Visit → Replayed = λ visit. (visit, outcome site visit) in
-    omega (arith, length-map (following own) (λ (one : Replayed). one.1), follow_count [] own, length-map visits with_own)
+    omega (arith, length-map (behind_parents own) (λ (one : Replayed). one.1), follow_count [] own, length-map visits with_own)
 
 pub cases_numbers : (visits : List Visit) (outs : List Outcome) → length outs ≡ length visits → map (λ case. case.visit) (map as_case (zip visits outs)) ≡ map (λ visit. visit.number) visits
 cases_numbers [] outs same = refl

@@ -24,7 +24,7 @@ use Rattle.visit_replay.specs.Form.{bare}
 use Rattle.visit_replay.specs.Outcome.{outcome, on_page}
 use Rattle.visit_replay.specs.declared.outcome.Outcome.{Outcome}
 use Rattle.visit_replay.specs.declared.outcome.Outcome.TheVariants.{Untouched}
-use Rattle.visit_replay.specs.Following.{Replayed, following, outcomes}
+use Rattle.visit_replay.specs.Following.{Replayed, behind_parents, outcomes}
 use Rattle.visit_replay.specs.RepairedSite.{RepairedSite}
 use Rattle.site_line.specs.Site.{Site as PlainSite}
 use Rattle.site_line.specs.Reading.{AnswersAs, site_quota, site_decisions}
@@ -36,8 +36,8 @@ use Rattle.lanes_in_turn.specs.declared.gathered.Stop.{Stop}
 use Rattle.lanes_in_turn.specs.declared.gathered.Stop.TheVariants as stops
 use Rattle.lanes_in_turn.proofs.LaneSteps.{shorter_front}
 use Rattle.warp_run.specs.Conclusion.{repaired_site, site_settled}
-use Rattle.warp_run.specs.Repair.{as_case, summary_of, docket_for, undecided}
-use Rattle.warp_run.specs.Settle.{settled}
+use Rattle.warp_run.specs.Repair.{as_case, summary_of, docket_for, new_repaired}
+use Rattle.warp_run.specs.Settle.{after_decisions}
 use Rattle.warp_run.specs.declared.repaired.Repaired.{Repaired}
 use Rattle.warp_run.specs.Report.{report_text, WritesReport}
 use Rattle.warp_run.specs.declared.reporting.fault.ReportFault.{ReportFault}
@@ -76,13 +76,13 @@ same_own site plain (visit ∷ visits) stands = rw (same_outcome site plain visi
 
 same_cases : (site : Site) (plain : PlainSite) (visits : List Visit) → AnswersAs site plain
     → map as_case (zip visits (outcomes (repaired_site site) visits)) ≡ map as_case (zip visits (outcomes (plain_repaired plain) visits))
-same_cases site plain visits stands = ap (λ own. map as_case (zip visits (map (λ one. one.1) (following own)))) (same_own site plain visits stands)
+same_cases site plain visits stands = ap (λ own. map as_case (zip visits (map (λ one. one.1) (behind_parents own)))) (same_own site plain visits stands)
 
 -- ---- what is made of what was taken is that of the input
 
 -- what the code makes of these entries
 abbrev made_of : {R : Type 0} → Site → Stop → List (List ℕ × LaneResult R) → Repaired
-made_of site stop entries = settled (site_decisions site) (undecided stop (map summary_of entries) (map (docket_for (repaired_site site)) entries))
+made_of site stop entries = after_decisions (site_decisions site) (new_repaired stop (map summary_of entries) (map (docket_for (repaired_site site)) entries))
 
 same_repaired : {R : Type 0} (site : Site) (plain : PlainSite) (lane : LaneResult R) (client : List ℕ) (stop : Stop) (messages : List Costed) (end : Option Ending)
     → AnswersAs site plain → lane.taken ≡ length messages → lane.log.log ≡ kept_log (site_quota site) messages → lane.end ≡ end

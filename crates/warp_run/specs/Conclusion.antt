@@ -7,7 +7,7 @@ use Rattle.site_line.specs.declared.site.Site.{Site}
 use Rattle.visit_replay.specs.RepairedSite.{RepairedSite}
 use Rattle.lanes_in_turn.specs.declared.gathered.Gathered.{Gathered}
 use Rattle.warp_run.specs.Repair.{repaired_of}
-use Rattle.warp_run.specs.Settle.{settled}
+use Rattle.warp_run.specs.Settle.{after_decisions}
 use Rattle.warp_run.specs.declared.repaired.Repaired.{Repaired}
 
 -- the site with the pages and the watched texts of that table, and with that patch
@@ -19,4 +19,4 @@ repaired_site site = site_of_table (site_table site) (site_patch site)
 
 -- replayed on the site, with its decisions made
 abbrev pub site_settled : {R : Type 0} → Site → Gathered R → Repaired
-site_settled site gathered = settled (site_decisions site) (repaired_of (repaired_site site) gathered)
+site_settled site gathered = after_decisions (site_decisions site) (repaired_of (repaired_site site) gathered)

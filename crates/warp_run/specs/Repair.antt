@@ -29,8 +29,8 @@ abbrev pub as_case : Visit × Outcome → Case
 as_case one = record { visit = one.0.number; parent = one.0.parent; outcome = one.1 }
 
 -- of these clients with these dockets, on which nothing is decided
-abbrev pub undecided : Stop → List ClientSummary → List Docket → Repaired
-undecided stop clients dockets = record { stop = stop; clients = clients; desk = new_books dockets; decided = [] }
+abbrev pub new_repaired : Stop → List ClientSummary → List Docket → Repaired
+new_repaired stop clients dockets = record { stop = stop; clients = clients; desk = new_books dockets; decided = [] }
 
 module _ (site : RepairedSite) where
   -- each visit that the log keeps, with the outcome that it has behind those before it
@@ -43,4 +43,4 @@ module _ (site : RepairedSite) where
   -- a docket for each client
   abbrev pub repaired_of : {R : Type 0} → Gathered R → Repaired
   repaired_of gathered =
-      undecided gathered.stop (map summary_of gathered.clients.entries) (map docket_for gathered.clients.entries)
+      new_repaired gathered.stop (map summary_of gathered.clients.entries) (map docket_for gathered.clients.entries)

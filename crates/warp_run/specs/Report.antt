@@ -91,11 +91,11 @@ request_words Get number address pairs = codes "get" ∷ number ∷ address ∷ 
 request_words Post number address pairs = codes "post" ∷ number ∷ address ∷ pairs ∷ []
 
 -- a text as a JSON string (RFC 8259, section 7), as `serde_json` writes it
-abbrev pub quoted : List ℕ → List ℕ
-quoted text = compact_text (string text)
+abbrev pub json_string : List ℕ → List ℕ
+json_string text = compact_text (string text)
 
 abbrev pub request_line : Request → List ℕ
-request_line r = report_line (request_words r.method (decimal r.number) (quoted r.address) (quoted r.pairs))
+request_line r = report_line (request_words r.method (decimal r.number) (json_string r.address) (json_string r.pairs))
 
 abbrev pub decision_line : PutDecision → List ℕ
 decision_line put =

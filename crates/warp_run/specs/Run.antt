@@ -16,8 +16,8 @@ use Rattle.upload_reader.specs.declared.lane_fault.LaneEnd.{LaneEnd}
 use Rattle.client_log.specs.Log.{kept_log}
 use Rattle.visit_replay.specs.RepairedSite.{RepairedSite}
 use Rattle.site_line.specs.Site.{Site, IsSiteLine, page_of, signals_of}
-use Rattle.warp_run.specs.Repair.{summary_by, docket_by, undecided}
-use Rattle.warp_run.specs.Settle.{settled}
+use Rattle.warp_run.specs.Repair.{summary_by, docket_by, new_repaired}
+use Rattle.warp_run.specs.Settle.{after_decisions}
 use Rattle.warp_run.specs.Report.{report_text}
 use Rattle.warp_run.specs.declared.repaired.Repaired.{Repaired}
 use Rattle.lanes_in_turn.specs.declared.gathered.Stop.{Stop}
@@ -28,8 +28,8 @@ use Rattle.warp_run.specs.declared.status.Status.TheVariants.{Done, BadSite, Bad
 -- ---- the source
 
 -- the lines of a source of which nothing was read yet
-abbrev pub unread : {R : Type 0} → R → Reading R
-unread reader = record { first = reader; answers = []; place = 0; line = []; fault = None }
+abbrev pub fresh_lines : {R : Type 0} → R → Reading R
+fresh_lines reader = record { first = reader; answers = []; place = 0; line = []; fault = None }
 
 -- just these reads were made of the source, and none behind the input's end
 abbrev pub IsReadOf : {R : Type 0} → (R → R → List Answer → Type 0) → R → R → List Answer → Type 0
@@ -47,7 +47,7 @@ abbrev pub repaired_by : Site → Stop → List ℕ → List Costed → Option E
 repaired_by site stop client messages end =
     let log = kept_log site.quota messages in
     let docket = docket_by (plain_repaired site) client log in
-    settled site.decisions (undecided stop (summary_by client (length messages) end log ∷ []) (docket ∷ []))
+    after_decisions site.decisions (new_repaired stop (summary_by client (length messages) end log ∷ []) (docket ∷ []))
 
 -- ---- the site line
 

@@ -14,7 +14,7 @@ put_on desk (decision ∷ decisions) =
     ∷ put_on (after_call desk decision) decisions
 
 -- the decisions put to the desk one after another, and kept with their answers
-abbrev pub settled : List Decision → Repaired → Repaired
-settled decisions repaired =
+abbrev pub after_decisions : List Decision → Repaired → Repaired
+after_decisions decisions repaired =
     let desk = repaired.desk in
     record repaired { desk = after_calls desk decisions; decided = repaired.decided ++ put_on desk decisions }

@@ -4,7 +4,7 @@ ghost use Rattle.byte_streams.specs.Cutting.{ending_of};
 ghost use Rattle.byte_streams.specs.Reading.{input, WasRead, ReadsWhile, NoLineYet};
 ghost use Rattle.byte_streams.specs.Writing.{CallWrites, WritesNothing};
 ghost use Rattle.upload_reader.specs.Upload.{Begins};
-ghost use Rattle.warp_run.specs.Run.{max_site_bytes, ReadWhileUndecided, Meets, unread};
+ghost use Rattle.warp_run.specs.Run.{max_site_bytes, ReadWhileUndecided, Meets, fresh_lines};
 ghost use Rattle.warp_run.specs.Intake.{IsBehindSite, IsOpened, IsRefused, IsUnopened, no_site, bad_site, no_hello};
 
 use crate::status::Status;
@@ -28,7 +28,7 @@ pub(crate) fn read_input<R: Source>(
     alloc: Global,
     lines: Lines<R>,
 ) -> Result<(Site, Upload<R>), NoInput<R>>
-    requires fresh { lines ≡ unread lines.first }
+    requires fresh { lines ≡ fresh_lines lines.first }
     ensures ok { IfOk result (λ both. IsOpened both.0 both.1) }
     ensures first { IfOk result (λ both. both.1.lines.first ≡ lines.first) }
     ensures same { IfErr result (λ none. R.lender none.reader ≡ R.lender lines.first) }
@@ -73,7 +73,7 @@ fn read_hello<R: Source>(
 
 /// The site that the first line says; status 3 where it says none, 6 where a read failed.
 pub fn read_site<R: Source>(alloc: Global, lines: &mut Lines<R>) -> Result<Site, Status>
-    requires fresh { lines.old ≡ unread lines.old.first }
+    requires fresh { lines.old ≡ fresh_lines lines.old.first }
     ensures reads { ReadsWhile (NoLineYet max_site_bytes lines.old.place) lines.old lines.new }
     ensures site { IfOk result (IsBehindSite lines.new) }
     ensures refused { IfErr result (λ status. IsRefused status (input lines.new) (ending_of lines.new.answers)) }

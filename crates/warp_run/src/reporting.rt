@@ -196,7 +196,7 @@ fn add_request(text: &mut String, request: &Request) -> Result<(), NoMemory>
 
 // The word as a JSON string.
 fn add_quoted(text: &mut String, word: &str) -> Result<(), NoMemory>
-    ensures { OnOk result (string_bytes text.new ≡ string_bytes text.old ++ plain.quoted word.now) }
+    ensures { OnOk result (string_bytes text.new ≡ string_bytes text.old ++ plain.json_string word.now) }
 {
     let empty = String::new(*text.allocator());
     let mut writer = Writer::new(mem::replace(text, empty).into_bytes());

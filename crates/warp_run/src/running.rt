@@ -2,7 +2,7 @@
 ghost use Rattle.std.specs.Prelude.{◌≡◌, IfSome, IfNone, Some};
 ghost use Rattle.byte_streams.specs.Reading.{WasRead};
 ghost use Rattle.byte_streams.specs.Writing.{WritesNothing, writes_of};
-ghost use Rattle.warp_run.specs.Run.{Meets, unread, IsReadOf};
+ghost use Rattle.warp_run.specs.Run.{Meets, fresh_lines, IsReadOf};
 ghost use Rattle.warp_run.specs.inside.{HasOnlyUpload};
 ghost use Rattle.warp_run.specs.Intake.{IsOpened};
 
@@ -46,7 +46,7 @@ fn run_lines<R: Source + Drop + Send, W: Sink, T: AllocGlobal + Threads + Wait +
     lines: Lines<R>,
     writer: &mut W,
 ) -> Option<(R, Status)>
-    requires fresh { lines ≡ unread lines.first }
+    requires fresh { lines ≡ fresh_lines lines.first }
     ensures same { IfSome result (λ both. R.lender both.0 ≡ R.lender lines.first) }
     ensures met { IfSome result (λ both. Meets (WasRead R.answers R.remaining lines.first both.0)
         (writes_of W.puts W.contents writer.old writer.new) both.1) }

@@ -3,7 +3,7 @@ ghost use Rattle.std.specs.Prelude.{◌≡◌, ◌+◌, ◌≤◌, ◌++◌, len
 ghost use Rattle.std.specs.Option.{option_map_or};
 ghost use Rattle.std.specs.Vec.{vec_capacity};
 ghost use Rattle.conflict_desk.specs.Desk.{refusal, after_call, after_calls};
-ghost use Rattle.warp_run.specs.Settle.{put_on, settled};
+ghost use Rattle.warp_run.specs.Settle.{put_on, after_decisions};
 
 use crate::listed::Listed;
 use crate::repaired::{PutDecision, Repaired};
@@ -18,7 +18,7 @@ pub fn settle(
     repaired: &mut Repaired,
     decisions: &[Decision],
 ) -> Result<(), NoMemory>
-    ensures ok { OnOk result (repaired.new ≡ settled decisions.now repaired.old) }
+    ensures ok { OnOk result (repaired.new ≡ after_decisions decisions.now repaired.old) }
     ensures same { OnErr result (repaired.new ≡ repaired.old) }
 {
     let copies = copies_of(alloc, decisions)?;

@@ -15,7 +15,7 @@ use Rattle.conflict_desk.specs.declared.fault.DeskFault.{DeskFault}
 use Rattle.site_line.specs.Reading.{site_decisions}
 use Rattle.site_line.specs.declared.site.Site.{Site}
 use Rattle.lanes_in_turn.specs.Lane.{IsTaken}
-use Rattle.lanes_in_turn.specs.Round.{log_before, resumed, rested, clients_of, has_twice}
+use Rattle.lanes_in_turn.specs.Round.{log_before, resumed_upload, without_lane, clients_of, has_twice}
 use Rattle.upload_lanes.specs.Threads.{GathersFirst}
 use Rattle.upload_lanes.proofs.TakenLaws.{IsLaneOf, lanes_of}
 use Rattle.lanes_in_turn.specs.declared.gathered.Gathered.{Gathered}
@@ -62,7 +62,7 @@ module _ {R : Type 0} (quota : ℕ) (allows : ℕ → Bool → Type 0) (uploads 
   pub first_entries : (first : GathersFirst allows uploads quota gathered) → gathered.clients.entries ≡ first.2.lanes
   first_entries (earlier, empty, g) =
       let keys = same_keys (get bytes_eq earlier.clients) quota uploads g.lanes (lanes_of (get bytes_eq earlier.clients) quota uploads g.lanes g.taken.lanes_are) in
-      g.clients_are ∙ ap (λ before. insert_all bytes_eq (map (λ entry. (entry.0, rested entry.1)) before) g.lanes) empty
+      g.clients_are ∙ ap (λ before. insert_all bytes_eq (map (λ entry. (entry.0, without_lane entry.1)) before) g.lanes) empty
       ∙ insert_behind [] g.lanes (subst (IsDistinct bytes_eq) (sym keys) (distinct (clients_of uploads) g.is_round.clients))
 
   pub all_prefixes : GathersFirst allows uploads quota gathered → AllZip (HasPrefix quota) uploads gathered.clients.entries
@@ -72,7 +72,7 @@ module _ {R : Type 0} (quota : ℕ) (allows : ℕ → Bool → Type 0) (uploads 
       (zip_weaker (IsLaneOf known quota) (HasPrefix quota)
       (λ upload lane is. record {
         client = is.client;
-        is_taken = subst (λ found. IsTaken (log_before quota upload found) (resumed upload found) lane.1) (ap (lookup (bytes_eq upload.client)) first.1) is.is_taken;
+        is_taken = subst (λ found. IsTaken (log_before quota upload found) (resumed_upload upload found) lane.1) (ap (lookup (bytes_eq upload.client)) first.1) is.is_taken;
       })
       uploads first.2.lanes (lanes_of known quota uploads first.2.lanes first.2.taken.lanes_are))
 

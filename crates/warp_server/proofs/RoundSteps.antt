@@ -7,9 +7,9 @@ use Rattle.indexmap.specs.IndexMap.{set_value_at}
 use Rattle.byte_streams.specs.Reading.{Reading}
 use Rattle.upload_reader.specs.Upload.{UploadState, Begins, IsUntouched}
 use Rattle.lanes_in_turn.specs.declared.gathered.LaneResult.{LaneResult}
-use Rattle.warp_server.specs.Rounds.{let_go}
+use Rattle.warp_server.specs.Rounds.{without_reader}
 use Rattle.warp_server.specs.program.Callers.{OneByOne, IsGreeted}
-use Rattle.warp_run.specs.Run.{unread}
+use Rattle.warp_run.specs.Run.{fresh_lines}
 
 pub all_weaker : {X : Type 0} (P Q : X → Type 0) → ((x : X) → P x → Q x) → (xs : List X) → AllByRecursion P xs → AllByRecursion Q xs
 all_weaker P Q more [] all = tt
@@ -22,7 +22,7 @@ module _ {R : Type 0} where
   untouched old upload begins = record { given = begins.fresh.0; ending = begins.fresh.1; place = sym begins.start }
 
   pub all_untouched : (uploads : List (UploadState R)) → AllByRecursion IsGreeted uploads → AllByRecursion IsUntouched uploads
-  all_untouched = all_weaker IsGreeted IsUntouched (λ upload. untouched (unread upload.lines.first) upload)
+  all_untouched = all_weaker IsGreeted IsUntouched (λ upload. untouched (fresh_lines upload.lines.first) upload)
 
   pub new_sessions : (uploads : List (UploadState R)) → AllByRecursion IsGreeted uploads → AllByRecursion (λ upload. upload.lane.earlier ≡ []) uploads
   new_sessions = all_weaker IsGreeted (λ upload. upload.lane.earlier ≡ []) (λ upload greeted. ap (λ lane. lane.earlier) greeted.lane)
@@ -40,7 +40,7 @@ module _ {C X : Type 0} (step : C → X → C → Type 0) where
 module _ {R : Type 0} where
   -- the first k of these were let go
   abbrev pub gone : ℕ → List (List ℕ × LaneResult R) → List (List ℕ × LaneResult R)
-  gone k entries = map (λ entry. (entry.0, let_go entry.1)) (take k entries) ++ drop k entries
+  gone k entries = map (λ entry. (entry.0, without_reader entry.1)) (take k entries) ++ drop k entries
 
   pub there : (k : ℕ) (entries : List (List ℕ × LaneResult R)) → k < length entries → (entry : List ℕ × LaneResult R) × (slice_get entries k ≡ Some entry)
   there k [] within = absurd (omega (arith, within))
@@ -49,14 +49,14 @@ module _ {R : Type 0} where
 
   -- the next one is as it was, and is let go then
   pub next_gone : (k : ℕ) (entries : List (List ℕ × LaneResult R)) (entry : List ℕ × LaneResult R) → slice_get entries k ≡ Some entry
-      → (slice_get (gone k entries) k ≡ Some entry) × (set_value_at (gone k entries) k (let_go entry.1) ≡ gone (suc k) entries)
+      → (slice_get (gone k entries) k ≡ Some entry) × (set_value_at (gone k entries) k (without_reader entry.1) ≡ gone (suc k) entries)
       × (take (suc k) entries ≡ take k entries ++ entry ∷ [])
   next_gone k [] entry at = cc
   next_gone zero (first ∷ entries) entry at =
-      let same : first ≡ entry = cc in (at, ap (λ e. (first.0, let_go e.1) ∷ entries) (sym same), ap (λ e. e ∷ []) same)
+      let same : first ≡ entry = cc in (at, ap (λ e. (first.0, without_reader e.1) ∷ entries) (sym same), ap (λ e. e ∷ []) same)
   next_gone (suc k) (first ∷ entries) entry at =
       let (still, then, more) = next_gone k entries entry at in
-      (still, ap (λ rest. (first.0, let_go first.1) ∷ rest) then, ap (λ rest. first ∷ rest) more)
+      (still, ap (λ rest. (first.0, without_reader first.1) ∷ rest) then, ap (λ rest. first ∷ rest) more)
 
   pub same_lane : (entries : List (List ℕ × LaneResult R)) (k : ℕ) (lane : LaneResult R) (entry : List ℕ × LaneResult R)
       → slice_get (map (λ e. e.1) entries) k ≡ Some lane → slice_get entries k ≡ Some entry → lane ≡ entry.1

@@ -19,11 +19,11 @@ use Rattle.upload_reader.specs.Upload.{UploadState}
 use Rattle.client_log.specs.Client.{OfClient}
 use Rattle.client_log.specs.Log.{kept_log}
 use Rattle.lanes_in_turn.specs.Lane.{IsTaken}
-use Rattle.lanes_in_turn.specs.Round.{behind_log, new_log, log_before, resumed, rested, clients_of}
+use Rattle.lanes_in_turn.specs.Round.{behind_log, new_log, log_before, resumed_upload, without_lane, clients_of}
 use Rattle.upload_lanes.proofs.TakenLaws.{IsLaneOf, lanes_of}
 use Rattle.lanes_in_turn.specs.declared.gathered.Gathered.{Gathered}
 use Rattle.lanes_in_turn.specs.declared.gathered.LaneResult.{LaneResult}
-use Rattle.warp_server.specs.Rounds.{let_go, GathersRound, GathersRounds, IsLogAfter, uploads_of, HasLog}
+use Rattle.warp_server.specs.Rounds.{without_reader, GathersRound, GathersRounds, IsLogAfter, uploads_of, HasLog}
 use Rattle.warp_server.proofs.HeadlineLaws.{distinct, same_keys}
 use Rattle.warp_server.proofs.RoundSteps.{all_weaker}
 
@@ -244,22 +244,22 @@ module _ {R : Type 0} where
 
   module _ (quota : ℕ) (before : List (Uploads R)) (earlier : Gathered R) (uploads : Uploads R) (gathered : Gathered R) where
     abbrev stayed : Entries (LaneResult R)
-    stayed = map (λ entry. (entry.0, rested entry.1)) earlier.clients.entries
+    stayed = map (λ entry. (entry.0, without_lane entry.1)) earlier.clients.entries
 
     abbrev went : GathersRound quota earlier uploads gathered → Entries (LaneResult R)
     went g = insert_all bytes_eq stayed g.gathers.lanes
 
-    after_round : (g : GathersRound quota earlier uploads gathered) → gathered.clients.entries ≡ map (λ entry. (entry.0, let_go entry.1)) (went g)
-    after_round g = g.clients_are ∙ ap (map (λ entry. (entry.0, let_go entry.1))) g.gathers.clients_are
+    after_round : (g : GathersRound quota earlier uploads gathered) → gathered.clients.entries ≡ map (λ entry. (entry.0, without_reader entry.1)) (went g)
+    after_round g = g.clients_are ∙ ap (map (λ entry. (entry.0, without_reader entry.1))) g.gathers.clients_are
 
     stayed_apart : Knows before earlier → IsDistinct bytes_eq (keys_of stayed)
-    stayed_apart knows = subst (IsDistinct bytes_eq) (sym (keys_kept rested earlier.clients.entries)) knows.apart
+    stayed_apart knows = subst (IsDistinct bytes_eq) (sym (keys_kept without_lane earlier.clients.entries)) knows.apart
 
     keys_after : (g : GathersRound quota earlier uploads gathered)
         → keys_of gathered.clients.entries ≡ set_all bytes_eq (keys_of earlier.clients.entries) (clients_of uploads)
     keys_after g =
-        ap keys_of (after_round g) ∙ keys_kept let_go (went g) ∙ keys_insert_all bytes_eq stayed g.gathers.lanes
-        ∙ ap (λ keys. set_all bytes_eq keys (keys_of g.gathers.lanes)) (keys_kept rested earlier.clients.entries)
+        ap keys_of (after_round g) ∙ keys_kept without_reader (went g) ∙ keys_insert_all bytes_eq stayed g.gathers.lanes
+        ∙ ap (λ keys. set_all bytes_eq keys (keys_of g.gathers.lanes)) (keys_kept without_lane earlier.clients.entries)
         ∙ ap (set_all bytes_eq (keys_of earlier.clients.entries)) (same_keys (get bytes_eq earlier.clients) quota uploads g.gathers.lanes
         (lanes_of (get bytes_eq earlier.clients) quota uploads g.gathers.lanes g.gathers.taken.lanes_are))
 
@@ -281,7 +281,7 @@ module _ {R : Type 0} where
       -- the log of the client's lane goes on from the one before
       log_on : (upload : UploadState R) (lane : LaneResult R) (known : Option (LaneResult R)) → get bytes_eq earlier.clients upload.client ≡ known
           → upload.lane.earlier ≡ []
-          → IsTaken (log_before quota upload known) (resumed upload known) lane
+          → IsTaken (log_before quota upload known) (resumed_upload upload known) lane
           → (messages : List Costed) × IsLogAfter quota upload.client (upload ∷ uploads_of upload.client before) messages lane.log
       log_on upload lane None is fresh taken =
           let begun = new_log quota upload.client in
@@ -313,7 +313,7 @@ module _ {R : Type 0} where
       -- a client with no upload in the round keeps its log
       stays_has : (g : GathersRound quota earlier uploads gathered) (entry : Entry (LaneResult R)) → HasLog quota before entry
           → Lacks entry.0 g.gathers.lanes
-          → HasLog quota (uploads ∷ before) (entry.0, rested entry.1)
+          → HasLog quota (uploads ∷ before) (entry.0, without_lane entry.1)
       stays_has g entry has lacks =
           let Other : List ℕ → Type 0 = λ client. bytes_eq entry.0 client ≡ false in
           let keys = same_keys (get bytes_eq earlier.clients) quota uploads g.gathers.lanes (round_lanes g) in
@@ -329,17 +329,17 @@ module _ {R : Type 0} where
           → AllByRecursion (HasLog quota (uploads ∷ before)) gathered.clients.entries
       round_has fresh g =
           let Has : Entry (LaneResult R) → Type 0 = HasLog quota (uploads ∷ before) in
-          let Stays : Entry (LaneResult R) → Type 0 = λ entry. Lacks entry.0 g.gathers.lanes → Has (entry.0, rested entry.1) in
+          let Stays : Entry (LaneResult R) → Type 0 = λ entry. Lacks entry.0 g.gathers.lanes → Has (entry.0, without_lane entry.1) in
           let only = only_own uploads (distinct (clients_of uploads) g.gathers.is_round.clients) in
           let both = all_both (λ upload. upload.lane.earlier ≡ []) (λ upload. own_of upload.client uploads ≡ upload ∷ []) (IsNew uploads)
           (λ upload fresh only. record { fresh = fresh; only = only }) uploads fresh only in
           let new = all_beside (IsLaneOf (get bytes_eq earlier.clients) quota) (IsNew uploads) Has lane_has
           uploads g.gathers.lanes (round_lanes g) both in
-          let old = all_mapped (λ entry. (entry.0, rested entry.1)) (λ e. Lacks e.0 g.gathers.lanes → Has e) earlier.clients.entries
+          let old = all_mapped (λ entry. (entry.0, without_lane entry.1)) (λ e. Lacks e.0 g.gathers.lanes → Has e) earlier.clients.entries
           (all_weaker (HasLog quota before) Stays (stays_has g) earlier.clients.entries had) in
           let all = all_among Has stayed g.gathers.lanes (stayed_apart knows) new old in
-          let gone = all_weaker Has (λ entry. Has (entry.0, let_go entry.1)) (λ entry has. record { messages = has.messages; is_log = has.is_log; kept_are = has.kept_are }) (went g) all in
-          subst (AllByRecursion Has) (sym (after_round g)) (all_mapped (λ entry. (entry.0, let_go entry.1)) Has (went g) gone)
+          let gone = all_weaker Has (λ entry. Has (entry.0, without_reader entry.1)) (λ entry has. record { messages = has.messages; is_log = has.is_log; kept_are = has.kept_are }) (went g) all in
+          subst (AllByRecursion Has) (sym (after_round g)) (all_mapped (λ entry. (entry.0, without_reader entry.1)) Has (went g) gone)
 
   -- ---- all rounds
 

@@ -19,8 +19,8 @@ module _ {R : Type 0} where
   -- ---- round by round
 
   -- a lane whose upload was let go, and with it its reader
-  abbrev pub let_go : LaneResult R → LaneResult R
-  let_go lane = record { log = lane.log; taken = lane.taken; end = lane.end; upload = None }
+  abbrev pub without_reader : LaneResult R → LaneResult R
+  without_reader lane = record { log = lane.log; taken = lane.taken; end = lane.end; upload = None }
 
   -- one round more, behind rounds in which no memory was refused, and then its uploads were let go
   pub record GathersRound (quota : ℕ) (earlier : Gathered R) (uploads : List (UploadState R))
@@ -28,7 +28,7 @@ module _ {R : Type 0} where
     pub whole : status_of earlier ≡ Done
     pub round : Gathered R
     pub gathers : Gathers never earlier uploads quota round
-    pub clients_are : gathered.clients.entries ≡ map (λ entry. (entry.0, let_go entry.1)) round.clients.entries
+    pub clients_are : gathered.clients.entries ≡ map (λ entry. (entry.0, without_reader entry.1)) round.clients.entries
     pub stop_is : gathered.stop ≡ round.stop
 
   -- these rounds, the last of them first; before the first there was no client, and nothing had been stopped

@@ -33,8 +33,7 @@ is_test text = bytes_eq text (codes "*") || is_name text
 
 -- digits, not too many, the first not 0
 abbrev pub is_index : List ℕ → Bool
-is_index digits =
-    nat_lt 0 (length digits) && nat_le (length digits) max_index_digits
+is_index digits = nat_lt 0 (length digits) && nat_le (length digits) max_index_digits
     && list_all is_ascii_digit digits && not (slice_index digits 0 == 48)
 
 -- all but the last byte
@@ -47,8 +46,7 @@ is_closed_index text = is_index (front text) && bytes_eq text (front text ++ cod
 
 -- the fault of a step's own text, which begins at that byte: X2 of an empty one, X3 of its test, X4 of its index
 abbrev pub text_fault : ℕ → List ℕ → Option PathFault
-text_fault start text =
-    unless (nat_lt 0 (length text)) (fault_at start EmptyStep)
+text_fault start text = unless (nat_lt 0 (length text)) (fault_at start EmptyStep)
     (unless (is_test (test_part text)) (fault_at start BadName)
     (unless (option_map_or is_closed_index (index_part text) true)
     (fault_at (start + length (test_part text)) BadIndex) None))
@@ -58,8 +56,7 @@ text_fault start text =
 -- the first fault of steps, before which so many stand and of which the first begins at that byte; X5 of one too many
 abbrev pub first_step_fault : ℕ → ℕ → List (List ℕ) → Option PathFault
 first_step_fault before start [] = None
-first_step_fault before start (text ∷ rest) =
-    unless (nat_lt before max_depth) (fault_at start TooManySteps)
+first_step_fault before start (text ∷ rest) = unless (nat_lt before max_depth) (fault_at start TooManySteps)
     (option_or (text_fault start text) (first_step_fault (suc before) (start + length text + 1) rest))
 
 -- what stands after a `/`, cut at each further one

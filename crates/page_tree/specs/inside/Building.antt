@@ -6,7 +6,7 @@ use Rattle.std.specs.Ordering.{nat_cmp}
 use Rattle.std.specs.Str.{bytes_eq}
 use denote.Ref.{Bor}
 use Rattle.page_tree.specs.Tree.{Tree, Trees, tree}
-use Rattle.page_tree.specs.Seen.{all_seen}
+use Rattle.page_tree.specs.Seen.{plain_trees}
 use Rattle.page_tree.specs.declared.tree.Tree as code
 use Rattle.page_tree.specs.Limits.{is_element, nodes_of_all}
 use Rattle.page_tree.specs.Look.{name_of, count}
@@ -38,4 +38,4 @@ PassesOne parent siblings name spot passes = (before : Trees) → Passed before 
 
 -- how many nodes some trees of the code have
 abbrev pub nodes_in : List code.Tree → ℕ
-nodes_in ts = nodes_of_all (all_seen ts)
+nodes_in ts = nodes_of_all (plain_trees ts)

@@ -23,8 +23,8 @@ use Rattle.upload_lanes.specs.declared.sent.Sent.TheVariants.{One, Last}
 -- ---- the items of a lane
 
 -- what is sent of an upload that gave these messages and ended so
-abbrev pub sent : List Costed → Option Ending → List Sent
-sent given ending = map One given ++ map Last (option_to_list ending)
+abbrev pub sent_items : List Costed → Option Ending → List Sent
+sent_items given ending = map One given ++ map Last (option_to_list ending)
 
 abbrev pub bodies : List (Item Sent) → List Sent
 bodies items = map (λ item. item.body) items
@@ -76,7 +76,7 @@ module _ {R : Type 0} where
   -- what was put is the front of what is sent of the upload
   pub record IsPut (put : List (Item Sent)) (now : UploadState R) : Type 0 where
     pub rest : List Sent
-    pub front : sent now.given now.ending ≡ bodies put ++ rest
+    pub front : sent_items now.given now.ending ≡ bodies put ++ rest
     pub marked : AllByRecursion IsMarked put
 
   -- what an uploader hands back of that lane of the queue

@@ -1,6 +1,6 @@
 -- Lines that are passed, and the call for the next one that isn't blank.
 use Rattle.std.specs.Prelude.{◌≡◌, ℕ, ◌+◌, List, ◌++◌, length, drop, true, false, Option, Result, Ok, OnOk}
-use Rattle.byte_streams.specs.CompleteLines.{complete_lines, unended}
+use Rattle.byte_streams.specs.CompleteLines.{complete_lines, unended_line}
 use Rattle.byte_streams.specs.Reading.{Reading, Advances}
 use Rattle.byte_streams.specs.declared.fault.LineFault.{LineFault}
 use Rattle.upload_reader.specs.Front.{Passes, bytes_of_lines}
@@ -12,7 +12,7 @@ pub record PassedBetween {E : Type 0} (limit : ℕ) (judge : List (List ℕ) →
     (stop : List (List ℕ) → LineFault → Option E) (input : List ℕ) (from to : ℕ) (front : List (List ℕ)) : Type 0 where
   pub complete : (more : List ℕ)
       → complete_lines (drop from (input ++ more)) ≡ front ++ complete_lines (drop to (input ++ more))
-  pub rest : (more : List ℕ) → unended (drop from (input ++ more)) ≡ unended (drop to (input ++ more))
+  pub rest : (more : List ℕ) → unended_line (drop from (input ++ more)) ≡ unended_line (drop to (input ++ more))
   pub bytes : to ≡ from + length (bytes_of_lines front)
   pub passes : Passes limit judge stop front
 

@@ -8,7 +8,7 @@ use Rattle.xpath_child.specs.Path.{Step}
 use Rattle.upload_reader.specs.declared.message.Event.{Event}
 use Rattle.form_urlencoded.specs.Form.{extend_pairs}
 use Rattle.form_urlencoded.specs.Target.{Target}
-use Rattle.visit_replay.specs.Form.{Pair, sent_pair, encoded}
+use Rattle.visit_replay.specs.Form.{Pair, sent_pair, encoded_pairs}
 use Rattle.visit_replay.specs.Requests.{request_at}
 use Rattle.visit_replay.specs.inside.KeptFields.{Keeps, text_now, is_on_now}
 use Rattle.visit_replay.specs.inside.OneEvent.{IsButton}
@@ -36,7 +36,7 @@ with_pairs target pairs = record target { form = extend_pairs target.form pairs 
 abbrev pub IsEncoded : Filled → ℕ → List ℕ → Type 0
 IsEncoded filled form text = let new = filled.page.now in
     (before : List Event) (by : Option (List Step)) → Keeps filled.fields.now new before
-    → IsButton new by filled.button → text ≡ encoded new before by (place_numbered form new)
+    → IsButton new by filled.button → text ≡ encoded_pairs new before by (place_numbered form new)
 
 -- the request of an event whose target has that number
 abbrev pub IsRequestAt : List ℕ → Filled → Event → ℕ → Option Request → Type 0

@@ -14,8 +14,7 @@ use Rattle.visit_replay.specs.declared.fields.Fields.{Fields}
 
 -- what was written into the field with that number, or its start text
 abbrev pub text_now : Fields → Tree → ℕ → List ℕ
-text_now fields new number =
-    unwrap_or (option_map (λ text. text.now) (get nat_cmp fields.texts number))
+text_now fields new number = unwrap_or (option_map (λ text. text.now) (get nat_cmp fields.texts number))
     (unwrap_or (start_text_at (place_numbered number new) new) [])
 
 -- the state of the checkbox with that number, or its start state

@@ -17,15 +17,20 @@ use Rattle.warp_run.specs.declared.status.Status.TheVariants.{OutOfMemory}
 
 -- ---- numbers
 
+-- a port has 16 bits (RFC 9293, section 3.1)
 abbrev pub max_port : ℕ
 max_port = 65535
 
+-- how often lanes are taken anew; nothing else hangs on it
 abbrev pub max_rounds : ℕ
 max_rounds = 1000
 
--- 1 to 5 digits
+-- as many as the greatest number has that a word may write, a port's
+abbrev pub max_digits : ℕ
+max_digits = 5
+
 abbrev pub is_number : List ℕ → Bool
-is_number word = nat_lt 0 (length word) && nat_le (length word) 5 && list_all is_ascii_digit word
+is_number word = nat_lt 0 (length word) && nat_le (length word) max_digits && list_all is_ascii_digit word
 
 -- what the word writes, if it is a number within these limits
 abbrev pub number_of_word : ℕ → ℕ → List ℕ → Option ℕ
@@ -41,19 +46,19 @@ rounds_in (word ∷ []) = number_of_word 1 max_rounds word
 rounds_in words = None
 
 -- the words behind `listen`
-abbrev pub listening : List (List ℕ) → Option Listening
-listening (port ∷ lanes ∷ site_file ∷ rounds) =
+abbrev pub listening_of : List (List ℕ) → Option Listening
+listening_of (port ∷ lanes ∷ site_file ∷ rounds) =
     option_and_then (λ port.
     option_and_then (λ lanes.
     option_map (λ rounds. record { port = port; lanes = lanes; rounds = rounds; site_file = site_file })
     (rounds_in rounds)) (number_of_word 1 max_round_lanes lanes)) (number_of_word 1 max_port port)
-listening words = None
+listening_of words = None
 
 -- the words behind the program's own name; any others are status 2
 abbrev pub named_call : List (List ℕ) → Result Call CallFault
 named_call [] = Ok Run
 named_call (word ∷ words) =
-    if bytes_eq word (codes "listen") then ok_or (option_map Listen (listening words)) Words else Err Words
+    if bytes_eq word (codes "listen") then ok_or (option_map Listen (listening_of words)) Words else Err Words
 
 -- all its words; its own name may be absent
 abbrev pub call_by : List (List ℕ) → Result Call CallFault
@@ -62,7 +67,7 @@ call_by words = named_call (drop 1 words)
 -- as many lanes as a round may have, where it listens
 abbrev pub MayListen : Call → Type 0
 MayListen Run = Unit {0}
-MayListen (Listen listening) = AreRoundLanes listening.lanes
+MayListen (Listen listening_of) = AreRoundLanes listening_of.lanes
 
 -- where its words can't be read
 abbrev pub fault_of_kind : ErrorKind → CallFault

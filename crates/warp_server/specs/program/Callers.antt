@@ -17,7 +17,7 @@ use Rattle.lanes_in_turn.specs.declared.gathered.Stop.TheVariants as stops
 use Rattle.warp_run.specs.Conclusion.{repaired_site, site_settled}
 use Rattle.warp_server.specs.Headline.{HeadlineOfRounds}
 use Rattle.warp_run.specs.Report.{report_text}
-use Rattle.warp_run.specs.Run.{unread, IsReadOf}
+use Rattle.warp_run.specs.Run.{fresh_lines, IsReadOf}
 use Rattle.warp_server.specs.Rounds.{GathersRound}
 use Rattle.warp_run.specs.Intake.{IsUnopened}
 use Rattle.warp_run.specs.Shortage.{status_of}
@@ -52,14 +52,14 @@ OneByOne {C} step callers (x ∷ xs) now = (between : C) × step callers x betwe
 
 -- the upload behind the hello that its source begins with
 abbrev pub IsGreeted : {R : Type 0} → UploadState R → Type 0
-IsGreeted upload = Begins (unread upload.lines.first) upload
+IsGreeted upload = Begins (fresh_lines upload.lines.first) upload
 
 module _ {R : Type 0} (told : R → R → List Answer → Type 0) where
   -- the source doesn't begin with a hello
   pub record BeginsBadly (first : R) : Type 0 where
     pub read : Reading R
     pub fault : HelloFault
-    pub refuses : Refuses (unread first) read fault
+    pub refuses : Refuses (fresh_lines first) read fault
     pub not_memory : fault ≢ NoMemory
     pub now : R
     pub is_read : IsReadOf told first now read.answers

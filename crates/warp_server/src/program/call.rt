@@ -5,7 +5,7 @@ ghost use Rattle.std.specs.Char.{is_ascii_digit};
 ghost use Rattle.std.specs.IoError.{error_kind};
 ghost use Rattle.std.specs.Vec.Iter.{into_iter_items};
 ghost use Rattle.lanes_in_turn.specs.Round.{AreRoundLanes};
-ghost use Rattle.warp_server.specs.program.Call.{is_number, number_of_word, rounds_in, listening, named_call, call_by, MayListen, fault_of_kind, call_exit_code, call_error_line};
+ghost use Rattle.warp_server.specs.program.Call.{is_number, number_of_word, rounds_in, listening_of, named_call, call_by, MayListen, fault_of_kind, call_exit_code, call_error_line};
 
 use lanes_in_turn::MAX_ROUND_LANES;
 use page_tree::Text;
@@ -14,11 +14,13 @@ use std::io;
 use std::io::ErrorKind;
 use warp_run::Status;
 
-/// How many rounds of uploads the program takes at the most.
+/// How many rounds of uploads the program takes at the most. Nothing hangs on it but how long a mistyped number keeps the program up.
 pub const MAX_ROUNDS: u32 = 1000;
 
+// A port has 16 bits (RFC 9293, section 3.1).
 const MAX_PORT: u32 = 65_535;
 
+// As many as the greatest port has, so that a number of that many digits fits.
 const MAX_DIGITS: usize = 5;
 
 /// What the program is called to do.
@@ -115,7 +117,7 @@ fn read_named_call(mut words: Args) -> Result<Call, CallFault>
 
 // The words behind `listen`.
 fn read_listening(mut words: Args) -> Option<Listening>
-    ensures listening { result ≡ listening (map string_bytes (into_iter_items words)) }
+    ensures listening { result ≡ listening_of (map string_bytes (into_iter_items words)) }
     ensures lanes { IfSome result (λ listening. AreRoundLanes listening.lanes) }
 {
     let port = words.next()?;

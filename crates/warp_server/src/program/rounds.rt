@@ -8,7 +8,7 @@ ghost use Rattle.byte_streams.specs.Reading.{WasRead};
 ghost use Rattle.site_line.specs.Reading.{site_quota};
 ghost use Rattle.upload_lanes.specs.Threads.{Gathers};
 ghost use Rattle.lanes_in_turn.specs.Taking.{never};
-ghost use Rattle.warp_server.specs.Rounds.{let_go};
+ghost use Rattle.warp_server.specs.Rounds.{without_reader};
 ghost use Rattle.warp_server.specs.program.Callers.{sayings, OneByOne, uploads_in, GivesBack, RoundFails, MakesRound, NoFurtherRound, MakesAll};
 ghost use Rattle.warp_run.specs.Shortage.{status_of};
 ghost use Rattle.warp_run.specs.declared.status.Status.TheVariants.{Done, OutOfMemory};
@@ -115,7 +115,7 @@ fn give_back_all<R: Source + Drop + Send, C: Callers<Reader = R>>(
     callers: &mut C,
     round: Gathered<R>,
 ) -> Gathered<R>
-    ensures clients { result.clients.entries ≡ map (λ entry. (entry.0, let_go entry.1)) round.clients.entries }
+    ensures clients { result.clients.entries ≡ map (λ entry. (entry.0, without_reader entry.1)) round.clients.entries }
     ensures stop { result.stop ≡ round.stop }
     ensures back { OneByOne
         (GivesBack (sayings (WasRead R.answers R.remaining) C.brings C.brings_none C.takes_back))
@@ -135,7 +135,7 @@ fn give_back_at<R: Source + Drop + Send, C: Callers<Reader = R>>(
     k: usize,
 )
     ensures clients { (entry : List ℕ × LaneResult R) → slice_get clients.old.entries k ≡ Some entry
-        → clients.new.entries ≡ set_value_at clients.old.entries k (let_go entry.1) }
+        → clients.new.entries ≡ set_value_at clients.old.entries k (without_reader entry.1) }
     ensures back { (entry : List ℕ × LaneResult R) → slice_get clients.old.entries k ≡ Some entry → OneByOne
         (GivesBack (sayings (WasRead R.answers R.remaining) C.brings C.brings_none C.takes_back))
         callers.old (uploads_in (entry ∷ [])) callers.new }

@@ -1,7 +1,7 @@
 use Rattle.std.proofs.Common.{◌≤◌, ap, arith, bytes_eq, length, subst, sym, ◌∙◌}
 use Rattle.std.proofs.lemmas.List.{length-map}
 use Rattle.indexmap.specs.IndexMap.{get, insert_all, spare}
-use Rattle.lanes_in_turn.specs.Round.{all_rested, IsFollowed}
+use Rattle.lanes_in_turn.specs.Round.{without_lanes, IsFollowed}
 use Rattle.lanes_in_turn.specs.Taking.{begun_lane}
 use Rattle.lanes_in_turn.specs.inside.{HaveFewTaken}
 use Rattle.lanes_in_turn.proofs.FreshLaws.{few_fresh}
@@ -31,6 +31,6 @@ returns-clause-ok g c =
       is_round = begun.is_round;
       lanes = new;
       taken = subst (IsFollowed known c.args.quota c.args.uploads.items c.args.schedule.now new) (sym c.end_round.ensures.stop) followed;
-      clients_are = c.end_round.ensures.clients ∙ ap (insert_all bytes_eq (all_rested c.in_ok-earlier.field-0.earlier.clients.entries)) same
-          ∙ ap (λ entries. insert_all bytes_eq (all_rested entries) new) begun.clients;
+      clients_are = c.end_round.ensures.clients ∙ ap (insert_all bytes_eq (without_lanes c.in_ok-earlier.field-0.earlier.clients.entries)) same
+          ∙ ap (λ entries. insert_all bytes_eq (without_lanes entries) new) begun.clients;
     }

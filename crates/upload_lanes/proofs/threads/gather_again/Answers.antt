@@ -1,7 +1,7 @@
 use Rattle.std.proofs.Common.{ℕ, Bool, ap, arith, bytes_eq, length, map, subst, sym, ◌∙◌}
 use Rattle.std.proofs.lemmas.List.{length-map}
 use Rattle.indexmap.specs.IndexMap.{get, insert_all}
-use Rattle.lanes_in_turn.specs.Round.{AreRoundLanes, IsNoRound, all_rested}
+use Rattle.lanes_in_turn.specs.Round.{AreRoundLanes, IsNoRound, without_lanes}
 use Rattle.lanes_in_turn.specs.Taking.{begun_lane, TakesLane}
 use Rattle.upload_lanes.specs.Threads.{AreTaken}
 use Rattle.upload_lanes.proofs.Zips.{zip_length}
@@ -30,7 +30,7 @@ returns-in-Ok-clause-ok g c =
       lanes = lanes;
       taken = subst (AreTaken allows (map (begun_lane known c.args.quota) c.args.uploads.items) lanes) (sym c.end_round.ensures.stop)
           (subst (λ fresh. AreTaken allows fresh lanes c.in-Ok.stop) begun.lanes_are c.in-Ok.ensures);
-      clients_are = c.end_round.ensures.clients ∙ ap (λ entries. insert_all bytes_eq (all_rested entries) lanes) begun.clients;
+      clients_are = c.end_round.ensures.clients ∙ ap (λ entries. insert_all bytes_eq (without_lanes entries) lanes) begun.clients;
     }
 
 pub returns-in-Err-clause-refused : goal.returns-in-Err-clause-refused

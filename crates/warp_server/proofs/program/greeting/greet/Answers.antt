@@ -1,13 +1,13 @@
 use Rattle.std.proofs.Common.{ap, subst, sym, ◌∙◌}
 use Rattle.upload_reader.specs.Upload.{Begins, Refuses}
 use Rattle.byte_streams.specs.Reading.{WasRead}
-use Rattle.warp_run.specs.Run.{unread}
+use Rattle.warp_run.specs.Run.{fresh_lines}
 use Rattle.warp_server.proofs.program.greeting.greet.Goals as goal
 
 pub returns-in-Ok-hello-clause-greeted : goal.returns-in-Ok-hello-clause-greeted
 returns-in-Ok-hello-clause-greeted g c =
     let upload = c.in-Ok-hello.upload in let begins = c.in-Ok-hello.ensures.begins in
-    subst (λ lines. Begins lines upload) (c.in-Ok.ensures ∙ ap unread (sym (begins.reads.first ∙ ap (λ l. l.first) c.in-Ok.ensures))) begins
+    subst (λ lines. Begins lines upload) (c.in-Ok.ensures ∙ ap fresh_lines (sym (begins.reads.first ∙ ap (λ l. l.first) c.in-Ok.ensures))) begins
 
 pub returns-in-Ok-hello-clause-source : goal.returns-in-Ok-hello-clause-source
 returns-in-Ok-hello-clause-source g c = c.in-Ok-hello.ensures.begins.reads.first ∙ ap (λ l. l.first) c.in-Ok.ensures

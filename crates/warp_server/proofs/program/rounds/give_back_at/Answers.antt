@@ -4,7 +4,7 @@ use Rattle.std.specs.Option.{option_map}
 use Rattle.std.proofs.lemmas.Option.{slice_get-map}
 use Rattle.indexmap.specs.IndexMap.{set_value_at}
 use Rattle.byte_streams.specs.Reading.{WasRead}
-use Rattle.warp_server.specs.Rounds.{let_go}
+use Rattle.warp_server.specs.Rounds.{without_reader}
 use Rattle.warp_server.specs.program.Callers.{sayings, OneByOne, GivesBack}
 use Rattle.warp_server.proofs.RoundSteps.{same_lane}
 use Rattle.warp_server.proofs.program.rounds.give_back_at.Goals as goal
@@ -12,7 +12,7 @@ use Rattle.warp_server.proofs.program.rounds.give_back_at.Goals as goal
 pub returns-in-Some-take-clause-clients : goal.returns-in-Some-take-clause-clients
 returns-in-Some-take-clause-clients g c entry at =
     rw c.in-Some-take.ensures.after
-    (ap (λ lane. set_value_at c.args.clients.now.entries c.args.k (let_go lane)) (same_lane c.args.clients.now.entries c.args.k c.in-Some.lane.now entry (sym c.in-Some.ensures.value) at))
+    (ap (λ lane. set_value_at c.args.clients.now.entries c.args.k (without_reader lane)) (same_lane c.args.clients.now.entries c.args.k c.in-Some.lane.now entry (sym c.in-Some.ensures.value) at))
 
 pub returns-in-Some-take-clause-back : goal.returns-in-Some-take-clause-back
 returns-in-Some-take-clause-back g c entry at =
@@ -23,7 +23,7 @@ returns-in-Some-take-clause-back g c entry at =
 pub returns-in_default-take-clause-clients : goal.returns-in_default-take-clause-clients
 returns-in_default-take-clause-clients g c entry at =
     rw c.in_default-take.ensures.after
-    (ap (λ lane. set_value_at c.args.clients.now.entries c.args.k (let_go lane)) (same_lane c.args.clients.now.entries c.args.k c.in-Some.lane.now entry (sym c.in-Some.ensures.value) at))
+    (ap (λ lane. set_value_at c.args.clients.now.entries c.args.k (without_reader lane)) (same_lane c.args.clients.now.entries c.args.k c.in-Some.lane.now entry (sym c.in-Some.ensures.value) at))
 
 pub returns-in_default-take-clause-back : goal.returns-in_default-take-clause-back
 returns-in_default-take-clause-back g c entry at =
