@@ -16,6 +16,7 @@ fn has_code(alloc: Global, fault: QueueFault, code: &str) -> Result<bool, AllocE
     Ok(fault.to_string(alloc)?.as_str() == code)
 }
 
+// Q1, Q2 and Q3.
 #[test]
 fn has_codes(rt: HostRuntime) -> Result<(), Fail> {
     assert!(rt; has_code(rt.alloc(), QueueFault::BadLanes, "Q1")?);
@@ -24,6 +25,7 @@ fn has_codes(rt: HostRuntime) -> Result<(), Fail> {
     Ok(())
 }
 
+// Q2.
 #[test]
 fn rooms_have_limits(rt: HostRuntime) -> Result<(), Fail> {
     for items in [0, 65_537, usize::MAX] {
@@ -56,6 +58,7 @@ fn is_count(rt: &impl Abort, alloc: Global, lanes: u32) -> Result<(), Fail> {
     Ok(())
 }
 
+// Q1.
 #[test]
 fn lanes_have_limits(rt: HostRuntime) -> Result<(), Fail> {
     for lanes in [0, 17, u32::MAX] {

@@ -269,6 +269,7 @@ const CODES: &[(DeskFault, &str)] = &[
     (DeskFault::NoMemory, "C3"),
 ];
 
+// C1, C2 and C3.
 #[test]
 fn a_fault_is_written_as_its_code(rt: HostRuntime) -> Result<(), Fail> {
     for &(fault, code) in CODES {

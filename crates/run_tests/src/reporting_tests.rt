@@ -242,6 +242,7 @@ const CODES: &[(ReportFault, &str)] = &[
     (ReportFault::NoMemory, "O2"),
 ];
 
+// O1 and O2.
 #[test]
 fn has_codes(rt: HostRuntime) -> Result<(), Fail> {
     for &(fault, code) in CODES {

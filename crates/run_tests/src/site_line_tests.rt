@@ -140,6 +140,7 @@ const CODES: &[(SiteFault, &str)] = &[
     (SiteFault::NoMemory, "Z3"),
 ];
 
+// Z1, Z2 and Z3.
 #[test]
 fn writes_a_fault_as_its_code(rt: HostRuntime) -> Result<(), Fail> {
     for &(fault, code) in CODES {
