@@ -19,3 +19,7 @@ told_writer told = told.writer
 -- what its writes answered
 abbrev pub told_puts : {W : Type 0} → Told W → List Answer
 told_puts told = told.history.answers
+
+-- what they were offered
+abbrev pub told_offers : {W : Type 0} → Told W → List Answer
+told_offers told = told.offered.answers

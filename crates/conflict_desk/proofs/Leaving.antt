@@ -13,7 +13,7 @@ use Rattle.conflict_desk.specs.Docket.{AreAscending, case_of_visit, parent_of, i
 use Rattle.conflict_desk.specs.Book.{Book, new_book, is_decided, is_cancelled, waits, front_visit, with_decision}
 use Rattle.conflict_desk.specs.Desk.{new_books, book_of, refusal_of, decided_in, unless_refused, after_call, after_calls}
 use Rattle.conflict_desk.specs.declared.decision.Decision.{Decision}
-use Rattle.conflict_desk.specs.Laws.{IsConflictOf, IsSpared, HasLeft, LeaveInOrder, AllLeaveInOrder}
+use Rattle.conflict_desk.specs.Laws.{IsConflictOf, IsSpared, HasLeft, IsBehindNone, LeaveInOrder, AllLeaveInOrder}
 use Rattle.conflict_desk.specs.declared.docket.Case.{Case}
 use Rattle.conflict_desk.specs.declared.docket.Docket.{Docket}
 use Rattle.conflict_desk.specs.declared.decided.Choice.{Choice}
@@ -128,11 +128,24 @@ no_front book front = grind arith
 has_left : (book : Book) (c : Case) → waits book c ≡ false → HasLeft book c
 has_left book c none conflict = grind (arith, why book c none, below_cancelled book c)
 
+passed_by : (book : Book) → Goes book → (k : ℕ) (c : Case) → slice_get book.cases k ≡ Some c → (visit : ℕ) → is_decided book.decisions visit ≡ true → c.visit < visit → (b : Bool) → waits book c ≡ b → waits book c ≡ false
+passed_by book goes k c at visit done below true waiting = absurd (omega (arith, goes.ahead k c at waiting visit done, below))
+passed_by book goes k c at visit done below false waits = waits
+
+behind_none : (book : Book) → Goes book → (decisions : List Decided) → ((visit : ℕ) → is_decided decisions visit ≡ true → is_decided book.decisions visit ≡ true) → AllByRecursion (IsBehindNone book) decisions
+behind_none book goes [] of = tt
+behind_none book goes (d ∷ decisions) of = (
+  recursion_from_All (λ case. case.visit < d.visit → HasLeft book case) book.cases (λ k c within below.
+      has_left book _ (passed_by book goes k _ (slice_get-get_or book.cases k c within) d.visit (of d.visit (or_left _ _ (eq-eqb d.visit d.visit refl))) below _ refl)),
+  behind_none book goes decisions (λ visit done. of visit (or_right _ _ done)),
+)
+
 pub leave_in_order : (book : Book) → Goes book → LeaveInOrder book
 leave_in_order book goes = record {
   ascend = goes.ascend;
   conflicts = goes.conflicts;
   spared = all_more (HasNoneAbove book) (IsSpared book) (is_spared book) book.decisions goes.none_above;
+  before = behind_none book goes book.decisions (λ visit done. done);
   all = λ front. recursion_from_All (HasLeft book) book.cases (λ k d within. has_left book _ (none_passes (waits book) book.cases k _ (no_front book front) (slice_get-get_or book.cases k d within)));
 }
 

@@ -6,5 +6,7 @@ pub mod Fronts
 pub mod Keeping
 pub mod Books
 pub mod Leaving
+pub mod Skipping
 pub mod Staying
+pub mod Isolation
 pub mod Dockets

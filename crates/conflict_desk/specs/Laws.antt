@@ -1,5 +1,5 @@
 -- What holds of every book on a desk, whatever calls were made.
-use Rattle.std.specs.Prelude.{◌≡◌, ◌↔◌, ℕ, List, map, true, Option, None, Some, ◌⊎◌}
+use Rattle.std.specs.Prelude.{◌≡◌, ◌↔◌, ℕ, ◌<◌, List, map, filter, bytes_eq, true, Option, None, Some, ◌⊎◌}
 use Rattle.std.specs.List.{AllByRecursion}
 use Rattle.std.specs.Option.{IsSomeAnd}
 use Rattle.std.specs.List.Sorted.{IsStrictlyIncreasing}
@@ -41,12 +41,17 @@ abbrev pub HasLeft : Book → Case → Type 0
 HasLeft book case =
     is_conflict case.outcome ≡ true → (is_decided book.decisions case.visit ≡ true) ⊎ IsBelowCancelled book case
 
--- The visits that were decided ascend, so none was decided twice; each is a conflict, and none is below a cancelled
--- visit; and where no front is left, every conflict has left.
+-- every conflict before the decided one has left, so none was passed over
+abbrev pub IsBehindNone : Book → Decided → Type 0
+IsBehindNone book decided = AllByRecursion (λ case. case.visit < decided.visit → HasLeft book case) book.cases
+
+-- The visits that were decided ascend, so none was decided twice; each is a conflict, before which no other waits, and
+-- none is below a cancelled visit; and where no front is left, every conflict has left.
 pub record LeaveInOrder (book : Book) : Type 0 where
   pub ascend : IsStrictlyIncreasing (map (λ decided. decided.visit) book.decisions)
   pub conflicts : AllByRecursion (IsConflictOf book.cases) book.decisions
   pub spared : AllByRecursion (IsSpared book) book.decisions
+  pub before : AllByRecursion (IsBehindNone book) book.decisions
   pub all : front_visit book ≡ None → AllByRecursion (HasLeft book) book.cases
 
 abbrev pub AllLeaveInOrder : Books → Type 0
@@ -64,6 +69,12 @@ IsSteady books =
     (calls more : List Decision) (client : List ℕ) (visit : ℕ) (left : Standing) → (left ≡ Kept) ⊎ (left ≡ Cancelled)
     → by_case standing_in client visit (after_calls books calls) ≡ Some left
     → by_case standing_in client visit (after_calls (after_calls books calls) more) ≡ Some left
+
+-- Each client's decisions are made by themselves: behind any calls its book is the one behind its own calls alone.
+abbrev pub IsIsolated : Books → Type 0
+IsIsolated books =
+    (calls : List Decision) (client : List ℕ) → book_of client (after_calls books calls)
+    ≡ book_of client (after_calls books (filter (λ call. bytes_eq client call.client) calls))
 
 -- a visit stands cancelled exactly where it, or a visit on its chain of parents, was cancelled by a decision
 abbrev pub TellsCancelled : List ℕ → ℕ → Books → Option Standing → Type 0

@@ -2,7 +2,7 @@
 ghost use Rattle.std.specs.Prelude.{◌≡◌, ◌<◌, ◌+◌, ◌≤◌, option_map, ok_or, Some, None, bytes_eq, IfOk, IfErr, IfSome, OnOk, OnErr};
 ghost use Rattle.indexmap.specs.IndexMap.{spare, insert_entry};
 ghost use Rattle.conflict_desk.specs.Desk.{AreDockets, new_books, book_of, by_case, refusal, decided_on};
-ghost use Rattle.conflict_desk.specs.Laws.{IsInOrder, IsSteady, TellsCancelled};
+ghost use Rattle.conflict_desk.specs.Laws.{IsInOrder, IsSteady, IsIsolated, TellsCancelled};
 ghost use Rattle.conflict_desk.specs.Docket.{AreAscending};
 ghost use Rattle.conflict_desk.specs.Book.{front_visit, standing_in, standing_requests};
 ghost use Rattle.conflict_desk.specs.declared.fault.DeskFault.TheVariants.{NoClient, NoMemory};
@@ -45,6 +45,9 @@ impl Desk {
 
         // And a visit that stands kept or cancelled after some calls stands so after any more.
         ensures stay { IfOk result IsSteady }
+
+        // And what the calls of one client do is the same without those of the others.
+        ensures apart { IfOk result IsIsolated }
     {
         let mut open = IndexMap::new(alloc);
         open.reserve(dockets.len())?;

@@ -8,7 +8,7 @@
 //!
 //! It is proved that a desk answers what `specs/Book.antt` says of the dockets as they were opened and of the decisions made, and that conflicts are decided
 //! in order, none twice and none below a cancelled visit, and stay as they were left (`specs/Laws.antt`). `decide` never answers `C3`: all memory is taken
-//! when a desk is opened. That it allocates nothing, and how long a call takes, is neither proved nor tested.
+//! when a desk is opened. That it allocates nothing is only tested, and how long a call takes is neither.
 #![tactic(auto)]
 
 mod decided;

@@ -1,5 +1,5 @@
 -- Lists of items by lane, and lists of passes of which one or two change.
-use Rattle.std.proofs.Common.{◌≡◌, ◌≢◌, ◌⊎◌, ℕ, zero, suc, ◌==◌, ◌<◌, List, [], ◌∷◌, ◌++◌, length, get_or, set, inl, inr, ⊎_elim, refl, sym, ◌∙◌, ap, subst, cond, append-nil}
+use Rattle.std.proofs.Common.{◌≡◌, ◌≢◌, ◌⊎◌, ℕ, zero, suc, ◌==◌, ◌≤◌, ◌<◌, Bool, true, false, List, [], ◌∷◌, ◌++◌, length, get_or, set, inl, inr, ⊎_elim, refl, sym, ◌∙◌, ap, subst, cond, arith, append-nil}
 use mathlib.Core.Option.{some, some-injective, some-ne-none}
 use lib.ListN.{get_elem?}
 use Rattle.std.proofs.lemmas.Bool.{eq-eqb, ne_eqb}
@@ -33,6 +33,13 @@ module _ {A : Type 0} where
 module _ {T : Type 0} where
   pub of_append : (lane : ℕ) (xs ys : List (Item T)) → of_lane lane (xs ++ ys) ≡ of_lane lane xs ++ of_lane lane ys
   of_append lane xs ys = filter-append (λ x. x.lane == lane) xs ys
+
+  pub of_few : (lane : ℕ) (items : List (Item T)) → length (of_lane lane items) ≤ length items
+  of_few lane [] = omega arith
+  of_few lane (x ∷ items) = elim (x.lane == lane) as (λ b. length (cond b (x ∷ of_lane lane items) (of_lane lane items)) ≤ length (x ∷ items)) [
+    | true ↦ let few = of_few lane items in omega (arith, few)
+    | false ↦ let few = of_few lane items in omega (arith, few)
+  ]
 
   pub of_one : (lane : ℕ) (x : Item T) → x.lane ≡ lane → of_lane lane (x ∷ []) ≡ x ∷ []
   of_one lane x is = ap (λ b. cond b (x ∷ []) []) (eq-eqb x.lane lane is)

@@ -1,5 +1,5 @@
 -- What the answers say of what a putter or the taker knew before and after.
-use Rattle.std.specs.Prelude.{◌≡◌, ℕ, ◌<◌, Bool, true, false, List, ◌++◌, length}
+use Rattle.std.specs.Prelude.{◌≡◌, ℕ, ◌<◌, ◌≤◌, Bool, true, false, List, ◌++◌, length}
 use Rattle.crossbeam_queue.specs.Fifo.{Held}
 use Rattle.lane_queue.specs.declared.item.Item.{Item}
 use Rattle.lane_queue.specs.declared.view.QueueView.{QueueView}
@@ -43,6 +43,8 @@ module _ {T : Type 0} where
   TriesToTake v w try_take.AllEnded = AreEnded v × (w ≡ v)
   TriesToTake v w try_take.Empty = (¬ AreEnded v) × (w ≡ v) × Held 0 (IsSeen v)
 
-  -- what was put in the putter's lane (w) is what the taker (v) took of it, and then so many items
-  abbrev pub LeavesRest : QueueView T → QueueView T → ℕ → Type 0
-  LeavesRest v w many = (rest : List (Item T)) × (w.put ≡ of_lane w.lane v.got ++ rest) × (many ≡ length rest)
+  -- what was put in the putter's lane (w) is what the taker (v) took of it, and then so many items, which a queue of n
+  -- items' room holds
+  abbrev pub LeavesRest : ℕ → QueueView T → QueueView T → ℕ → Type 0
+  LeavesRest n v w many = (rest : List (Item T)) × (w.put ≡ of_lane w.lane v.got ++ rest) × (many ≡ length rest)
+      × (many ≤ n)

@@ -1,5 +1,5 @@
 //! The queue itself, which putters and the taker share.
-ghost use Rattle.std.specs.Prelude.{◌≡◌, ◌≢◌, ◌<◌, ◌≤◌, List, [], ◌++◌, true, IfOk, IfErr, OnOk, OnErr, MatchOption};
+ghost use Rattle.std.specs.Prelude.{◌≡◌, ◌≢◌, ◌<◌, ◌≤◌, List, [], ◌++◌, length, true, IfOk, IfErr, OnOk, OnErr, MatchOption};
 ghost use Rattle.std.specs.Vec.{vec_capacity};
 ghost use Rattle.crossbeam_queue.specs.Fifo.{Held};
 ghost use Rattle.crossbeam_queue.specs.Passes.{view, IsSamePass};
@@ -238,9 +238,10 @@ impl<T> LaneQueue<T> {
         unreachable!()
     }
 
-    /// The taker's pass takes in a putter's, and learns that what was put in its lane begins with what was taken of it.
-    pub(crate) fn take_in(
+    /// The taker's pass takes in a putter's, and learns that what was put in its lane is what was taken of it, and what the queue holds of it.
+    pub(crate) fn take_in<R: Wait>(
         &self,
+        rt: &R,
         pass: &mut Pass<Item<T>, QueueView<T>>,
         putter: Pass<Item<T>, QueueView<T>>,
     )
@@ -250,10 +251,11 @@ impl<T> LaneQueue<T> {
         ensures pass { IsSamePass pass.old pass.new }
         ensures both { view pass.new ≡ with_putter (view pass.old) (view putter) }
         ensures made { (view putter).lane < (view pass.old).made }
-        ensures told { (rest : List _) × ((view putter).put ≡ of_lane (view putter).lane (view pass.old).got ++ rest) }
+        ensures told { (rest : List _) × ((view putter).put ≡ of_lane (view putter).lane (view pass.old).got ++ rest)
+            × (length rest ≤ self.now.room) }
     {
         self.queue.absorb::<Reckons>(pass, putter);
-        self.queue.learn_as::<Reckons>(pass);
+        let _held = self.queue.len_as::<Reckons, R>(rt, pass);
     }
 }
 

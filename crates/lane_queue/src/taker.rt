@@ -118,11 +118,11 @@ impl<T> Taker<T> {
     }
 }
 
-/// How many of the items that were put in that putter's lane weren't taken. Those that were taken are the first of them. It never waits: the handle is only
-/// that of the other calls.
+/// How many of the items that were put in that putter's lane weren't taken: no more than the queue holds. Those that were taken are the first of them. It waits
+/// only where other putters put at that moment.
 #[tactic(auto, using(crate::proofs::Counts::joined))]
 pub fn reckon<T, R: Wait>(
-    _rt: &R,
+    rt: &R,
     lanes: &LaneQueue<T>,
     taker: &mut Taker<T>,
     putter: Putter<T>,
@@ -132,9 +132,9 @@ pub fn reckon<T, R: Wait>(
     ensures pass { IsSamePass taker.old taker.new }
     ensures lanes { IsPassOf lanes.now taker.new }
     ensures kept { ((view taker.new).made ≡ (view taker.old).made) × ((view taker.new).got ≡ (view taker.old).got) }
-    ensures rest { LeavesRest (view taker.old) (view putter) result }
+    ensures rest { LeavesRest lanes.now.room (view taker.old) (view putter) result }
 {
     let (pass, lane, next) = putter.into_parts();
-    lanes.take_in(&mut taker.pass, pass);
+    lanes.take_in(rt, &mut taker.pass, pass);
     next - taker.counts[lane as usize]
 }

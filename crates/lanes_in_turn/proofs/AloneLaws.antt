@@ -63,9 +63,11 @@ module _ {R : Type 0} where
         let same = some_only way.in_turn.is_taken.now now (sym way.in_turn.is_taken.upload_is ∙ is) in
         subst (λ upload. lane.1.taken ≤ length upload.given) same way.in_turn.is_taken.some
 
-    pub takes_so : (new : LaneResult R) → IsTaken first.1.log way.begun new → TakesLane first (lane.0, new)
-    takes_so new taken = record {
+    -- where one message at the most was given that isn't recorded
+    pub takes_so : (new : LaneResult R) (ahead : ℕ) → ahead ≤ 1 → IsTakenInTurn first.1.log way.begun items ahead new → TakesLane 1 first (lane.0, new)
+    takes_so new ahead one turn = let taken = turn.is_taken in record {
       client = way.client;
+      ahead = λ now is. subst (λ upload. length upload.given ≤ new.taken + 1) (some_only taken.now now (sym taken.upload_is ∙ is)) (omega (arith, turn.ahead_is, one));
       is_taken = λ begun is. subst (λ upload. IsTaken first.1.log upload new) (some_only way.begun begun (sym way.begun_is ∙ is)) taken;
     }
 

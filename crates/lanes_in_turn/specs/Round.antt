@@ -1,5 +1,5 @@
 -- What a round of lanes gives, taken in turn as a schedule says: this project's own rule.
-use Rattle.std.specs.Prelude.{◌≡◌, ◌≢◌, ℕ, ◌+◌, ◌≤◌, ◌<◌, List, [], ◌∷◌, length, map, take, Bool, true, false, ◌||◌, ◌==◌, if◌then◌else◌, bytes_eq, is_some, count_by, slice_get, Option, Some, None}
+use Rattle.std.specs.Prelude.{◌≡◌, ◌≢◌, ℕ, ◌+◌, ◌≤◌, ◌<◌, List, [], ◌∷◌, length, map, take, Bool, true, false, ◌||◌, ◌==◌, if◌then◌else◌, bytes_eq, is_some, count_by, slice_get, Option, Some, None, IsSomeAnd}
 use Rattle.std.specs.List.{list_all, list_any}
 use Rattle.std.specs.Option.{option_map_or}
 use Rattle.indexmap.specs.IndexMap.{get, insert_all, IsUnchanged}
@@ -109,11 +109,11 @@ ahead_of schedule followed stop.Memory lane =
     if option_map_or (λ entry. entry == lane) (slice_get schedule followed) false then 1 else 0
 ahead_of schedule followed other lane = 0
 
--- So many entries of the schedule were followed: all, unless memory was refused at the next one.
+-- So many entries of the schedule were followed: all, unless memory was refused at the next one, which is for a lane.
 abbrev pub IsStop : {R : Type 0} → List ℕ → ℕ → List (List ℕ × LaneResult R) → Stop → Type 0
 IsStop schedule followed lanes stop.None = (followed ≡ length schedule) × (have_ended lanes ≡ true)
 IsStop schedule followed lanes stop.Asked = (followed ≡ length schedule) × (have_ended lanes ≡ false)
-IsStop schedule followed lanes stop.Memory = followed < length schedule
+IsStop schedule followed lanes stop.Memory = IsSomeAnd (slice_get schedule followed) (λ entry. entry < length lanes)
 
 -- ---- a round
 

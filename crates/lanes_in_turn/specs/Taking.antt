@@ -49,9 +49,14 @@ module _ {R : Type 0} where
     pub untouched : IsUntouched upload
     pub begun : IsBegun lane.1
 
-  -- what was taken of such a lane
-  pub record TakesLane (fresh lane : List ℕ × LaneResult R) : Type 0 where
+  -- its upload gave at most so many messages more than were taken
+  abbrev pub GaveFewMore : ℕ → LaneResult R → Type 0
+  GaveFewMore more lane = (now : UploadState R) → lane.upload ≡ Some now → length now.given ≤ lane.taken + more
+
+  -- what was taken of such a lane, whose upload gave so many messages more at the most
+  pub record TakesLane (more : ℕ) (fresh lane : List ℕ × LaneResult R) : Type 0 where
     pub client : lane.0 ≡ fresh.0
+    pub ahead : GaveFewMore more lane.1
     pub is_taken : (begun : UploadState R) → fresh.1.upload ≡ Some begun → IsTaken fresh.1.log begun lane.1
 
   -- A round of these uploads behind what was gathered: nothing was taken of its lanes, and there is room for them.
@@ -96,4 +101,5 @@ module _ {R : Type 0} where
     pub lane : LaneResult R
     pub entries_are : gathered.clients.entries ≡ (upload.client, lane) ∷ []
     pub is_taken : IsTaken (new_log quota upload.client) upload lane
+    pub ahead : GaveFewMore 1 lane
     pub ends : ((gathered.stop ≡ kind.None) × IsSome lane.end) ⊎ ((gathered.stop ≡ kind.Memory) × (lane.end ≡ None))

@@ -34,7 +34,7 @@ pub fn gather_alone<R: Source + Drop, T: AllocGlobal + Wait>(
     Ok(Gathered { clients, stop })
 }
 
-/// Takes a lane until it has ended, the question is answered by true, or memory is refused. The question is asked before each item, with how many were taken.
+/// Takes a lane, message by message, until it has ended, the question is answered by true, or memory is refused. The question is asked before each item, with how many were taken.
 pub fn take_alone<H: Halt, R: Source + Drop, W: Wait>(
     rt: &W,
     lane: &mut (Client, LaneResult<R>),
@@ -42,7 +42,7 @@ pub fn take_alone<H: Halt, R: Source + Drop, W: Wait>(
 ) -> Stop
     requires fresh { IsFreshLane lane.old }
     requires halt { (n : ℕ) → n ≤ max_messages + 1 → H.may halt.now n }
-    ensures taken { TakesLane lane.old lane.new }
+    ensures taken { TakesLane 1 lane.old lane.new }
     ensures stops { Stops (H.allows halt.now) (lane.new ∷ []) result }
 {
     let mut items = 0;

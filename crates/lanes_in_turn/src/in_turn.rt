@@ -1,5 +1,5 @@
 //! Lanes on one thread, in turn.
-ghost use Rattle.std.specs.Prelude.{IfOk, IfErr, OnOk, OnErr};
+ghost use Rattle.std.specs.Prelude.{◌<◌, length, IfOk, IfErr, OnOk, OnErr};
 ghost use Rattle.std.specs.List.{AllByRecursion};
 ghost use Rattle.upload_reader.specs.Upload.{IsUntouched};
 ghost use Rattle.lanes_in_turn.specs.Round.{GathersInTurn, IsFirst, IsNoRound, RefusesRound};
@@ -76,6 +76,7 @@ fn take_at<R: Source + Drop>(
     ensures few { HaveFewTaken lanes.new }
     ensures goes { OnOk result (AskLanes (one_more k) none lanes.old lanes.new) }
     ensures refused { OnErr result (AskLanes (λ asked. asked) (only k) lanes.old lanes.new) }
+    ensures there { OnErr result (k < length lanes.new) }
 {
     if k >= lanes.len() {
         return Ok(());

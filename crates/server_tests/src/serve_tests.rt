@@ -24,6 +24,14 @@ struct Called {
 }
 
 impl Called {
+    fn of(alloc: Global, callers: Lanes) -> Called {
+        Called {
+            alloc,
+            callers,
+            next: Cell::new(0),
+        }
+    }
+
     fn upload(&self, at: usize) -> io::Result<Drip> {
         let Some(&lines) = self.callers.get(at) else {
             return Err(io::Error::from(ErrorKind::ConnectionAborted));
@@ -43,24 +51,21 @@ impl OpenListener for Called {
     }
 }
 
-// How serving these callers ends, in rounds of so many lanes. Where there can be no round, the test has a mistake.
+// How serving these callers ends, in rounds of so many lanes, and how many were accepted. Where there can be no round, the test has a mistake.
 fn served(
     rt: &impl Runs,
     callers: Lanes,
     lanes: u32,
     rounds: u32,
     sips: &mut Sips,
-) -> Result<Status, Fail> {
+) -> Result<(Status, usize), Fail> {
     let site = Site::read(rt.alloc(), SITE.as_bytes())?;
-    let called = Called {
-        alloc: rt.alloc(),
-        callers,
-        next: Cell::new(0),
-    };
+    let called = Called::of(rt.alloc(), callers);
     if lanes == 0 || lanes > 16 {
         return Err(Fail::from("no round"));
     }
-    Ok(serve(rt, &called, lanes, rounds, &site, &mut Told::new(sips)))
+    let status = serve(rt, &called, lanes, rounds, &site, &mut Told::new(sips));
+    Ok((status, called.next.get()))
 }
 
 // ---- one round and several
@@ -160,8 +165,13 @@ fn serves(
     report: &str,
 ) -> Result<(), Fail> {
     let mut sips = Sips::new(rt.alloc(), 50, None);
-    assert!(rt; served(rt, callers, lanes, rounds, &mut sips)? == status);
+    let (ended, accepts) = served(rt, callers, lanes, rounds, &mut sips)?;
+    assert!(rt; ended == status);
     assert!(rt; sips.taken.as_slice() == report.as_bytes(), "{report}");
+    // as many as there are lanes in all rounds
+    assert!(rt;
+        status != Status::Done || accepts == (lanes as usize).wrapping_mul(rounds as usize)
+    );
     Ok(())
 }
 
@@ -175,7 +185,7 @@ fn serves_rounds_of_callers(rt: HostRuntime) -> Result<(), Fail> {
 
 fn fails_at(rt: &impl Runs, at: u32, refusal: Refusal) -> Result<(), Fail> {
     let mut sips = Sips::new(rt.alloc(), 1, Some((at, refusal)));
-    assert!(rt; served(rt, &[ONE_CLICK], 1, 1, &mut sips)? == Status::InputOutput);
+    assert!(rt; served(rt, &[ONE_CLICK], 1, 1, &mut sips)?.0 == Status::InputOutput);
     assert!(rt; REPORT.as_bytes().get(..at as usize) == Some(sips.taken.as_slice()));
     Ok(())
 }
@@ -192,7 +202,7 @@ fn tells_writes_that_fail(rt: HostRuntime) -> Result<(), Fail> {
 
 /// Those who wait, the next one last, and how many sources were given back. It says of itself just who came.
 #[derive(Drop)]
-struct Queue {
+pub(crate) struct Queue {
     waiting: Vec<Fed<Drip>>,
     back: usize,
 }
@@ -220,7 +230,7 @@ impl Callers for Queue {
     }
 }
 
-fn queue_of(alloc: Global, callers: Lanes) -> Result<Queue, Fail> {
+pub(crate) fn queue_of(alloc: Global, callers: Lanes) -> io::Result<Queue> {
     let mut waiting = Vec::new(alloc);
     for &lines in callers.iter().rev() {
         let text = joined(alloc, lines)?;

@@ -4,6 +4,7 @@ use Rattle.std.proofs.lemmas.Bool.Decides.{nat_tests}
 use Rattle.std.proofs.lemmas.List.{length-append, length-map, map-append}
 use Rattle.std.proofs.lemmas.List.Sums.{fold-append}
 use Rattle.std.proofs.lemmas.Option.{slice_get_within}
+use Rattle.std.specs.Arc.{arc_value}
 use Rattle.std.specs.List.{AllByRecursion, AllZip}
 use Rattle.lane_queue.specs.Limits.{max_lanes}
 use Rattle.round_robin.proofs.Dealing.{every_length, every_zip}
@@ -50,37 +51,37 @@ module _ {R : Type 0} (fresh : List (List ℕ × LaneResult R)) (hands : List (H
         lanes = record { some = omega (arith, some, size); few = omega (arith, fewer, size, few) };
       })
 
-  module _ (allows : ℕ → Bool → Type 0) (taken : List (Hand R)) (stop : Stop) (takes : TakeEach (λ hand. TakesByOne allows hand.items) hands taken stop) where
+  module _ (allows : ℕ → Bool → Type 0) (more : ℕ) (taken : List (Hand R)) (stop : Stop) (takes : TakeEach (λ hand. TakesByOne allows more hand.items) hands taken stop) where
     made_count : length takes.made ≡ n
-    made_count = sym (zip_length (λ hand one. TakesByOne allows hand.items one.0.items one.1) hands takes.made takes.each) ∙ count
+    made_count = sym (zip_length (λ hand one. TakesByOne allows more hand.items one.0.items one.1) hands takes.made takes.each) ∙ count
 
     pub taken_count : length taken ≡ n
     taken_count = ap length takes.taken_is ∙ length-map takes.made (λ one. one.0) ∙ made_count
 
     -- a recorder's lanes, and what it took of them
-    taken_by : (g : ℕ) (one : Hand R × Stop) → slice_get takes.made g ≡ Some one → TakesByOne allows (every n g fresh) one.0.items one.1
+    taken_by : (g : ℕ) (one : Hand R × Stop) → slice_get takes.made g ≡ Some one → TakesByOne allows more (every n g fresh) one.0.items one.1
     taken_by g one one_at =
         let within = slice_get_within takes.made g one one_at in
         let (hand, hand_at) = some_at hands g (omega (arith, within, made_count, count)) in
-        subst (λ mine. TakesByOne allows mine one.0.items one.1) (dealt g hand hand_at)
-        (zip_get (λ h o. TakesByOne allows h.items o.0.items o.1) hands takes.made g hand one takes.each hand_at one_at)
+        subst (λ mine. TakesByOne allows more mine one.0.items one.1) (dealt g hand hand_at)
+        (zip_get (λ h o. TakesByOne allows more h.items o.0.items o.1) hands takes.made g hand one takes.each hand_at one_at)
 
     pub shares : (size : ℕ) → size ≡ length fresh → (g : ℕ) (held : Hand R) → slice_get taken g ≡ Some held
         → length held.items ≡ length (every {A = ℕ} (length taken) g (replicate size 0))
     shares size size_is g held at =
         let (one, one_at, is) = in_map (λ o. o.0) takes.made g held (ap (λ all. slice_get all g) (sym takes.taken_is) ∙ at) in
         let by = taken_by g one one_at in
-        let same : length one.0.items ≡ length (every {A = ℕ} n g (replicate (length fresh) 0)) = sym (zip_length TakesLane (every n g fresh) one.0.items by.each) ∙ every_length n g fresh in
+        let same : length one.0.items ≡ length (every {A = ℕ} n g (replicate (length fresh) 0)) = sym (zip_length (TakesLane more) (every n g fresh) one.0.items by.each) ∙ every_length n g fresh in
         ap (λ h. length h.items) (sym is) ∙ same ∙ ap (λ m. length (every {A = ℕ} n g (replicate m 0))) (sym size_is)
         ∙ ap (λ m. length (every {A = ℕ} m g (replicate size 0))) (sym taken_count)
 
     pub take_lanes : (lanes : List (List ℕ × LaneResult R)) → length lanes ≡ length fresh
         → ((g : ℕ) (held : Hand R) → slice_get taken g ≡ Some held → held.items ≡ every (length taken) g lanes)
-        → n ≡ recorders_of (length fresh) → 0 < n → AreTaken allows fresh lanes stop
+        → n ≡ recorders_of (length fresh) → 0 < n → AreTaken allows more fresh lanes stop
     take_lanes lanes size each recorders some = record {
-      lanes_are = every_zip TakesLane n fresh lanes (sym size) some (λ g within.
+      lanes_are = every_zip (TakesLane more) n fresh lanes (sym size) some (λ g within.
           let (one, one_at) = some_at takes.made g (omega (arith, within, made_count)) in
-          subst (AllZip TakesLane (every n g fresh)) (held_is g one one_at) (taken_by g one one_at).each);
+          subst (AllZip (TakesLane more) (every n g fresh)) (held_is g one one_at) (taken_by g one one_at).each);
       stops = map (λ one. one.1) takes.made;
       count = length-map takes.made (λ one. one.1) ∙ made_count ∙ recorders;
       each = λ g one_stop stop_at.
@@ -136,14 +137,14 @@ module _ {R : Type 0} {X : Type 0} (Takes : X → List (List ℕ × LaneResult R
 
 -- ---- starting them
 
-module _ {R H : Type 0} (halt : H) where
+module _ {R H : Type 0} (halt : H) (kept : ℕ) where
   abbrev pub fresh_of : Party H R → Hand R
   fresh_of party = party.fresh.value
 
   -- parties of the first hands run, and those are left
   pub record IsStartingAll (all rest : List (Hand R)) (parties : List (Party H R)) (room : ℕ) : Type 0 where
     pub fresh_are : map fresh_of parties ++ rest ≡ all
-    pub runs : AllByRecursion (RunsBy halt) parties
+    pub runs : AllByRecursion (RunsBy halt kept) parties
     pub left : AllByRecursion IsFreshHand rest
     pub fits : length parties + length rest ≤ room
 
@@ -151,7 +152,7 @@ module _ {R H : Type 0} (halt : H) where
   started_none all room left fits = record { fresh_are = refl; runs = tt; left = left; fits = omega (arith, fits) }
 
   module _ (all rest rest' : List (Hand R)) (parties : List (Party H R)) (room : ℕ) (hand : Hand R) (first : rest ≡ hand ∷ rest') (starting : IsStartingAll all rest parties room) where
-    pub started_one : (party : Party H R) → party.fresh.value ≡ hand → RunsBy halt party → IsStartingAll all rest' (parties ++ party ∷ []) room
+    pub started_one : (party : Party H R) → party.fresh.value ≡ hand → RunsBy halt kept party → IsStartingAll all rest' (parties ++ party ∷ []) room
     started_one party of runs =
         let size : length rest ≡ length rest' + 1 = ap length first ∙ omega arith in
         let more : length (parties ++ party ∷ []) ≡ length parties + 1 = length-append parties (party ∷ []) in
@@ -159,28 +160,31 @@ module _ {R H : Type 0} (halt : H) where
           fresh_are =
               ap (λ front. front ++ rest') (map-append fresh_of parties (party ∷ []) ∙ ap (λ h. map fresh_of parties ++ h ∷ []) of)
               ∙ append_assoc (map fresh_of parties) (hand ∷ []) rest' ∙ ap (λ left. map fresh_of parties ++ left) (sym first) ∙ starting.fresh_are;
-          runs = all_more (RunsBy halt) parties party starting.runs runs;
+          runs = all_more (RunsBy halt kept) parties party starting.runs runs;
           left = (subst (AllByRecursion IsFreshHand) first starting.left).1;
           fits = omega (arith, starting.fits, size, more);
         }
 
-  pub running_all : (parties : List (Party H R)) → AllByRecursion (RunsBy halt) parties → AllByRecursion IsRunning parties
+  pub running_all : (parties : List (Party H R)) → AllByRecursion (RunsBy halt kept) parties → AllByRecursion IsRunning parties
   running_all [] all = tt
   running_all (party ∷ parties) all = (all.0.running, running_all parties all.1)
 
-  by_hands : (allows : H → ℕ → Bool → Type 0) (parties : List (Party H R)) (made : List (Hand R × Stop)) → AllByRecursion (RunsBy halt) parties
-      → AllZip (λ party one. TakesParty allows party one.0.items one.1) parties made → AllZip (λ hand one. TakesByOne (allows halt) hand.items one.0.items one.1) (map fresh_of parties) made
+  by_hands : (allows : H → ℕ → Bool → Type 0) (parties : List (Party H R)) (made : List (Hand R × Stop)) → AllByRecursion (RunsBy halt kept) parties
+      → AllZip (λ party one. TakesParty allows party one.0.items one.1) parties made → AllZip (λ hand one. TakesByOne (allows halt) (kept + 2) hand.items one.0.items one.1) (map fresh_of parties) made
   by_hands allows [] [] runs all = tt
   by_hands allows [] (one ∷ made) runs all = absurd all
   by_hands allows (party ∷ parties) [] runs all = absurd all
-  by_hands allows (party ∷ parties) (one ∷ made) runs all =
-      (subst (λ h. TakesByOne (allows h) party.fresh.value.items one.0.items one.1) runs.0.halt_is all.0, by_hands allows parties made runs.1 all.1)
+  by_hands allows (party ∷ parties) (one ∷ made) runs all = (
+    subst (λ n. TakesByOne (allows halt) (n + 2) party.fresh.value.items one.0.items one.1) runs.0.room_is
+        (subst (λ h. TakesByOne (allows h) ((arc_value party.queue).room + 2) party.fresh.value.items one.0.items one.1) runs.0.halt_is all.0),
+    by_hands allows parties made runs.1 all.1,
+  )
 
   pub hands_taken : (allows : H → ℕ → Bool → Type 0) (all rest : List (Hand R)) (parties : List (Party H R)) (room : ℕ) (taken : List (Hand R)) (stop : Stop) → length rest ≡ 0
-      → IsStartingAll all rest parties room → TakeEach (TakesParty allows) parties taken stop → TakeEach (λ hand. TakesByOne (allows halt) hand.items) all taken stop
+      → IsStartingAll all rest parties room → TakeEach (TakesParty allows) parties taken stop → TakeEach (λ hand. TakesByOne (allows halt) (kept + 2) hand.items) all taken stop
   hands_taken allows all rest parties room taken stop none starting takes =
       let whole : map fresh_of parties ≡ all = sym (append-nil (map fresh_of parties)) ∙ ap (λ left. map fresh_of parties ++ left) (sym (empty rest none)) ∙ starting.fresh_are in
-      subst (λ hands. TakeEach (λ hand. TakesByOne (allows halt) hand.items) hands taken stop) whole
+      subst (λ hands. TakeEach (λ hand. TakesByOne (allows halt) (kept + 2) hand.items) hands taken stop) whole
       (record { made = takes.made; each = by_hands allows parties takes.made starting.runs takes.each; taken_is = takes.taken_is; stop_is = takes.stop_is })
 
 pub recorders_range : (n : ℕ) → 1 ≤ n → (1 ≤ recorders_of n) × (recorders_of n ≤ n)

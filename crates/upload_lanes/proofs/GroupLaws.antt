@@ -1,6 +1,7 @@
 -- What a lane's items say of its upload, and of its result.
-use Rattle.std.proofs.Common.{◌≡◌, ℕ, suc, ◌+◌, ◌≤◌, ◌<◌, List, [], ◌∷◌, ◌++◌, length, take, Bool, true, false, ◌||◌, is_some, if◌then◌else◌, Option, Some, None, refl, sym, ap, subst, ◌∙◌, arith, append_assoc, true≢false}
-use Rattle.std.proofs.lemmas.List.{map-append, length-map}
+use Rattle.std.proofs.Common.{◌≡◌, ℕ, suc, ◌+◌, ◌≤◌, ◌<◌, List, [], ◌∷◌, ◌++◌, length, map, take, Bool, true, false, ◌||◌, is_some, if◌then◌else◌, Option, Some, None, refl, sym, ap, subst, ◌∙◌, arith, append_assoc, true≢false}
+use Rattle.std.proofs.lemmas.List.{length-append, map-append, length-map}
+use Rattle.std.specs.Option.{option_to_list}
 use Rattle.std.specs.Prelude.{IfSome}
 use Rattle.std.specs.List.{AllByRecursion}
 use Rattle.lane_queue.specs.Items.{has_last}
@@ -10,6 +11,7 @@ use Rattle.upload_reader.specs.Stream.{Costed}
 use Rattle.upload_reader.specs.Upload.{UploadState, EndsBy}
 use Rattle.upload_reader.specs.declared.ending.Ending.{Ending}
 use Rattle.lanes_in_turn.specs.Lane.{Continues, EndsWith, IsTaken}
+use Rattle.lanes_in_turn.specs.Taking.{GaveFewMore}
 use Rattle.upload_lanes.specs.inside.Sent.{sent_items, bodies, sent_messages, ending_behind, is_last, IsMarked, IsPut}
 use Rattle.upload_lanes.specs.inside.Party.{TellsUpload}
 use Rattle.upload_lanes.specs.inside.Recording.{IsLaneRecorded}
@@ -85,15 +87,16 @@ sent_more (Last end ∷ items) body one = sent_more items body one
 
 module _ {R : Type 0} where
   -- the first of what was put is put too
-  pub put_first : (upload : UploadState R) (put items rest : List (Item Sent)) → put ≡ items ++ rest → IsPut put upload → IsPut items upload
-  put_first upload put items rest split is_put = record {
+  pub put_first : (more most : ℕ) (upload : UploadState R) (put items rest : List (Item Sent)) → put ≡ items ++ rest → length rest + more ≤ most → IsPut more put upload → IsPut most items upload
+  put_first more most upload put items rest split fits is_put = record {
     rest = bodies rest ++ is_put.rest;
+    few = let size = length-append (bodies rest) is_put.rest in let same = length-map rest (λ item. item.body) in omega (arith, size, same, is_put.few, fits);
     front = is_put.front ∙ ap (λ all. bodies all ++ is_put.rest) split ∙ ap (λ all. all ++ is_put.rest) (map-append (λ item. item.body) items rest)
         ∙ append_assoc (bodies items) (bodies rest) is_put.rest;
     marked = marked_front items rest (subst (AllByRecursion IsMarked) split is_put.marked);
   }
 
-  module _ (first lane : LaneResult R) (begun upload : UploadState R) (items : List (Item Sent)) (recorded : IsLaneRecorded first lane (bodies items)) (told : TellsUpload begun upload items) where
+  module _ (first lane : LaneResult R) (begun upload : UploadState R) (items : List (Item Sent)) (recorded : IsLaneRecorded first lane (bodies items)) (more : ℕ) (told : TellsUpload more begun upload items) where
     is_front : IsFront upload.given upload.ending (bodies items)
     is_front = front upload.given upload.ending (bodies items) told.1.rest told.1.front
 
@@ -105,6 +108,9 @@ module _ {R : Type 0} where
       over = subst (λ e. IfSome e (λ last. IfOver (next_of last) (EndsBy upload))) ended.0 told.0.over;
     }
 
+    lane_ends : IfSome lane.end (EndsWith upload lane.taken)
+    lane_ends = subst (λ end. IfSome end (EndsWith upload lane.taken)) (sym recorded.end) (ended_with (ending_behind None (bodies items)) is_front.ended)
+
     pub lane_taken : IsTaken first.log begun (record lane { upload = Some upload })
     lane_taken = record {
       now = upload;
@@ -115,7 +121,7 @@ module _ {R : Type 0} where
       some = subst (λ n. n ≤ length upload.given) (sym recorded.taken) is_front.some;
       goes_on =
           subst (λ messages. Continues first.log lane.log messages) (is_front.messages ∙ ap (λ n. take n upload.given) (sym recorded.taken)) recorded.goes_on;
-      ends = subst (λ end. IfSome end (EndsWith upload lane.taken)) (sym recorded.end) (ended_with (ending_behind None (bodies items)) is_front.ended);
+      ends = lane_ends;
     }
 
     -- as many items as were recorded
@@ -124,11 +130,30 @@ module _ {R : Type 0} where
         sym (length-map items (λ item. item.body)) ∙ is_front.count ∙ ap (λ n. n + ends_in (ending_behind None (bodies items))) (sym recorded.taken) ∙ ap (λ end. lane.taken + ends_in end) (sym recorded.end)
 
     -- a message behind those that were recorded was given
-    pub gave_more : (all : UploadState R) (item : Item Sent) → is_last item.body ≡ false → TellsUpload begun all (items ++ item ∷ []) → lane.taken < length all.given
-    gave_more all item one more_told =
+    pub gave_more : (most : ℕ) (all : UploadState R) (item : Item Sent) → is_last item.body ≡ false → TellsUpload most begun all (items ++ item ∷ []) → lane.taken < length all.given
+    gave_more most all item one more_told =
         let many = front all.given all.ending (bodies (items ++ item ∷ [])) more_told.1.rest more_told.1.front in
         let size = ap (λ is. length (sent_messages is)) (map-append (λ one. one.body) items (item ∷ [])) ∙ sent_more (bodies items) item.body one in
         omega (arith, recorded.taken, size, many.some)
+
+    -- no more were given than that beyond those that were recorded
+    sent_size : length (sent_items upload.given upload.ending) ≡ length upload.given + length (option_to_list upload.ending)
+    sent_size =
+        length-append (map One upload.given) (map Last (option_to_list upload.ending))
+        ∙ ap (λ n. n + length (map Last (option_to_list upload.ending))) (length-map upload.given One) ∙ ap (λ n. length upload.given + n) (length-map (option_to_list upload.ending) Last)
+
+    given_few : (end : Option Ending) → IfSome end (EndsWith upload lane.taken) → length items ≡ lane.taken + ends_in end → length upload.given ≤ lane.taken + more
+    given_few None ends count =
+        let none : length items ≡ lane.taken + 0 = count in
+        let whole : length (sent_items upload.given upload.ending) ≡ length (bodies items) + length told.1.rest = ap length told.1.front ∙ length-append (bodies items) told.1.rest in
+        let same : length (bodies items) ≡ length items = length-map items (λ item. item.body) in
+        omega (arith, none, sent_size, whole, same, told.1.few)
+    given_few (Some end) ends count = omega (arith, ends.all)
+
+    pub few_more : GaveFewMore more (record lane { upload = Some upload })
+    few_more now is =
+        let same : upload ≡ now = cc in
+        subst (λ all. length all.given ≤ lane.taken + more) same (given_few lane.end lane_ends lane_count)
 
     -- it has ended, where the last item is among them
     pub lane_ended : has_last items ≡ true → is_some lane.end ≡ true

@@ -27,7 +27,7 @@ pub seam_at : {X : Type 0} (xs ys : List X) (x : X) → slice_get (xs ++ x ∷ y
 seam_at [] ys x = refl
 seam_at (y ∷ xs) ys x = seam_at xs ys x
 
-module _ {R : Type 0} where
+module _ {R : Type 0} (room : ℕ) where
   -- The uploaders that are left are the first; the lanes behind them have their uploads.
   pub record IsJoining (promises left : List (Uploads R)) (got : List (Item Sent)) (old lanes : List (List ℕ × LaneResult R)) : Type 0 where
     pub joined : List (Uploads R)
@@ -35,7 +35,7 @@ module _ {R : Type 0} where
     pub count : length lanes ≡ length old
     pub few : length left ≤ length lanes
     pub front : (k : ℕ) → k < length left → slice_get lanes k ≡ slice_get old k
-    pub back : (k : ℕ) (lane lane' : List ℕ × LaneResult R) → length left ≤ k → slice_get old k ≡ Some lane → slice_get lanes k ≡ Some lane' → IsJoined promises got k lane lane'
+    pub back : (k : ℕ) (lane lane' : List ℕ × LaneResult R) → length left ≤ k → slice_get old k ≡ Some lane → slice_get lanes k ≡ Some lane' → IsJoined room promises got k lane lane'
 
   pub joins_none : (promises : List (Uploads R)) (got : List (Item Sent)) (old : List (List ℕ × LaneResult R)) → length promises ≡ length old → IsJoining promises promises got old old
   joins_none promises got old count = record {
@@ -47,7 +47,7 @@ module _ {R : Type 0} where
     back = λ k lane lane' past at at'. let within = slice_get_within old k lane at in absurd (omega (arith, past, within, count));
   }
 
-  pub joins_all : (promises left : List (Uploads R)) (got : List (Item Sent)) (old lanes : List (List ℕ × LaneResult R)) → length left ≡ 0 → IsJoining promises left got old lanes → AreJoined promises got old lanes
+  pub joins_all : (promises left : List (Uploads R)) (got : List (Item Sent)) (old lanes : List (List ℕ × LaneResult R)) → length left ≡ 0 → IsJoining promises left got old lanes → AreJoined room promises got old lanes
   joins_all promises left got old lanes none joining = record { count = joining.count; each = λ k lane lane' at at'. joining.back k lane lane' (omega (arith, none)) at at' }
 
   module _ (promises left left' : List (Uploads R)) (promise : Uploads R) (got : List (Item Sent)) (old lanes : List (List ℕ × LaneResult R)) (last : left ≡ left' ++ promise ∷ [])
@@ -67,7 +67,7 @@ module _ {R : Type 0} where
     pub last_within : n < length lanes
     last_within = omega (arith, size, joining.few)
 
-    pub joins_one : (upload : UploadState R) (lanes' : List (List ℕ × LaneResult R)) → TellsUpload promise.upload.value upload (of_lane n got)
+    pub joins_one : (upload : UploadState R) (lanes' : List (List ℕ × LaneResult R)) → TellsUpload (room + 1) promise.upload.value upload (of_lane n got)
         → ((lane : List ℕ × LaneResult R) → slice_get lanes n ≡ Some lane → lanes' ≡ set lanes n (with_upload lane upload)) → IsJoining promises left' got old lanes'
     joins_one upload lanes' told put =
         let (was, at) = some_at lanes n last_within in
@@ -83,7 +83,7 @@ module _ {R : Type 0} where
             | inl (same, new) ↦
                 let both : Some was ≡ Some lane = sym at ∙ joining.front n (omega (arith, size)) ∙ ap (slice_get old) (sym same) ∙ old_at in
                 let one : was ≡ lane = cc in
-                subst (λ j. IsJoined promises got j lane lane') (sym same)
+                subst (λ j. IsJoined room promises got j lane lane') (sym same)
                 (record { promise = promise; promise_at = promise_at; upload = upload; told = told; lane_is = new ∙ ap (λ l. with_upload l upload) one })
             | inr (other, here) ↦ joining.back k lane lane' (omega (arith, past, size, other)) old_at here
           ];

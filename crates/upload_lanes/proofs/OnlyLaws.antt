@@ -1,5 +1,5 @@
 -- The only lane of a round.
-use Rattle.std.proofs.Common.{◌≡◌, ℕ, zero, suc, List, [], ◌∷◌, length, Bool, slice_get, slice_index_or, Some, refl, sym, ap, subst, arith}
+use Rattle.std.proofs.Common.{arith, ◌≡◌, ℕ, zero, suc, ◌+◌, List, [], ◌∷◌, length, Bool, slice_get, slice_index_or, Some, refl, sym, ap, subst}
 use Rattle.round_robin.specs.Dealt.{every}
 use Rattle.lanes_in_turn.specs.Taking.{TakesLane, Stops}
 use Rattle.upload_lanes.specs.Threads.{stop_of, AreTaken}
@@ -22,8 +22,8 @@ one_of (y ∷ []) x one at = ap (λ z. z ∷ []) (sym at)
 one_of (y ∷ z ∷ xs) x one at = absurd (omega (arith, one))
 
 module _ {R : Type 0} where
-  pub takes_alone : (allows : ℕ → Bool → Type 0) (first new : List ℕ × LaneResult R) (stop : Stop) → TakesLane first new → Stops allows (new ∷ []) stop
-      → AreTaken allows (first ∷ []) (new ∷ []) stop
+  pub takes_alone : (allows : ℕ → Bool → Type 0) (first new : List ℕ × LaneResult R) (stop : Stop) → TakesLane 1 first new → Stops allows (new ∷ []) stop
+      → AreTaken allows 1 (first ∷ []) (new ∷ []) stop
   takes_alone allows first new stop takes so =
       record { lanes_are = (takes, tt); stops = stop ∷ []; count = refl; each = only_recorder; stop_is = only_stop stop }
     where

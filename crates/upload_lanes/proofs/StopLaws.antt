@@ -1,19 +1,19 @@
 -- What a recorder made of its lanes, once their uploaders have ended.
-use Rattle.std.proofs.Common.{◌≡◌, ℕ, suc, ◌+◌, ◌<◌, List, [], ◌∷◌, ◌++◌, length, map, Bool, true, false, ◌&&◌, is_some, slice_get, Some, inl, inr, refl, sym, ap, subst, ◌∙◌, arith, append-nil}
+use Rattle.std.proofs.Common.{◌≡◌, ℕ, suc, ◌+◌, ◌≤◌, ◌<◌, List, [], ◌∷◌, ◌++◌, length, map, Bool, true, false, ◌&&◌, is_some, slice_get, Some, inl, inr, refl, sym, ap, subst, ◌∙◌, arith, append-nil}
 use Rattle.std.proofs.lemmas.List.{length-append, length-map}
 use Rattle.std.proofs.lemmas.List.Sums.{sum_by-cons}
 use Rattle.std.proofs.lemmas.Option.{slice_get_within}
 use Rattle.std.specs.List.{AllByRecursion, sum_by}
-use Rattle.lane_queue.proofs.Lists.{of_append, of_more}
+use Rattle.lane_queue.proofs.Lists.{of_append, of_few, of_more}
 use Rattle.lane_queue.specs.Items.{of_lane, has_last}
 use Rattle.lane_queue.specs.declared.item.Item.{Item}
-use Rattle.upload_lanes.proofs.GroupLaws.{ends_in, gave_more, lane_count, lane_ended, lane_taken, put_first}
+use Rattle.upload_lanes.proofs.GroupLaws.{ends_in, few_more, gave_more, lane_count, lane_ended, lane_taken, put_first}
 use Rattle.upload_lanes.proofs.JoinLaws.{some_at}
 use Rattle.upload_lanes.proofs.RecorderLaws.{total, lanes_total}
 use Rattle.upload_lanes.proofs.Zips.{mapped_at, zip_at}
 use Rattle.lanes_in_turn.specs.Lane.{IsTaken}
 use Rattle.lanes_in_turn.specs.Round.{have_ended}
-use Rattle.lanes_in_turn.specs.Taking.{is_ended, items_of, items_taken, refused_by, GaveMore, Stops, TakesLane}
+use Rattle.lanes_in_turn.specs.Taking.{is_ended, items_of, GaveFewMore, items_taken, refused_by, GaveMore, Stops, TakesLane}
 use Rattle.upload_lanes.specs.inside.Party.{TellsUpload, IsJoined, AreJoined, TakesByOne, own_upload, without_upload}
 use Rattle.upload_lanes.specs.inside.Sent.{is_last}
 use Rattle.upload_lanes.specs.inside.Recording as Recorder
@@ -40,6 +40,11 @@ total_list f (x ∷ xs) h same =
     let all = sum_by-cons f x xs in
     omega (arith, first, rest, all)
 
+one_refused : (s : Stop) (rest : List (Item Sent)) → IsUnrecorded s rest → length rest ≤ 1
+one_refused stops.Memory rest (item, is, one) = let size = ap length is in omega (arith, size)
+one_refused stops.None rest is = let size = ap length is in omega (arith, size)
+one_refused stops.Asked rest is = let size = ap length is in omega (arith, size)
+
 module _ {R : Type 0} where
   -- ---- have all ended
 
@@ -58,8 +63,8 @@ module _ {R : Type 0} where
 
   -- ---- a recorder's lanes
 
-  module _ (allows : ℕ → Bool → Type 0) (firsts lanes joined_lanes : List (List ℕ × LaneResult R)) (promises : List (Uploads R)) (got : List (Item Sent)) (stop : Stop) (items : ℕ)
-      (recording : IsRecording firsts lanes got stop items) (joined : AreJoined promises got lanes joined_lanes) where
+  module _ (allows : ℕ → Bool → Type 0) (room : ℕ) (firsts lanes joined_lanes : List (List ℕ × LaneResult R)) (promises : List (Uploads R)) (got : List (Item Sent)) (stop : Stop) (items : ℕ)
+      (recording : IsRecording firsts lanes got stop items) (joined : AreJoined room promises got lanes joined_lanes) where
     split : (k : ℕ) → of_lane k got ≡ of_lane k recording.done ++ of_lane k recording.rest
     split k = ap (of_lane k) recording.got_is ∙ of_append k recording.done recording.rest
 
@@ -69,7 +74,7 @@ module _ {R : Type 0} where
       pub first_at : slice_get firsts k ≡ Some first
       pub recorded : List ℕ × LaneResult R
       pub recorded_at : slice_get lanes k ≡ Some recorded
-      pub is_joined : IsJoined promises got k recorded lane
+      pub is_joined : IsJoined room promises got k recorded lane
 
     at : (k : ℕ) (lane : List ℕ × LaneResult R) → slice_get joined_lanes k ≡ Some lane → At k lane
     at k lane lane_at =
@@ -79,8 +84,10 @@ module _ {R : Type 0} where
         record { first = first; first_at = first_at; recorded = recorded; recorded_at = recorded_at; is_joined = joined.each k recorded lane recorded_at lane_at }
 
     module _ (k : ℕ) (lane : List ℕ × LaneResult R) (here : At k lane) where
-      told : TellsUpload here.is_joined.promise.upload.value here.is_joined.upload (of_lane k recording.done)
-      told = (here.is_joined.told.0, put_first here.is_joined.upload (of_lane k got) (of_lane k recording.done) (of_lane k recording.rest) (split k) here.is_joined.told.1)
+      told : TellsUpload (room + 2) here.is_joined.promise.upload.value here.is_joined.upload (of_lane k recording.done)
+      told =
+          let few = of_few k recording.rest in let one = one_refused stop recording.rest recording.refused in
+          (here.is_joined.told.0, put_first (room + 1) (room + 2) here.is_joined.upload (of_lane k got) (of_lane k recording.done) (of_lane k recording.rest) (split k) (omega (arith, few, one)) here.is_joined.told.1)
 
       same_end : lane.1.end ≡ here.recorded.1.end
       same_end = ap (λ l. l.1.end) here.is_joined.lane_is
@@ -89,7 +96,13 @@ module _ {R : Type 0} where
       taken =
           let was = recording.lanes_are.each k here.first here.recorded here.first_at here.recorded_at in
           subst (λ l. IsTaken here.first.1.log here.is_joined.promise.upload.value l.1) (sym here.is_joined.lane_is)
-          (lane_taken here.first.1 here.recorded.1 here.is_joined.promise.upload.value here.is_joined.upload (of_lane k recording.done) was.1 told)
+          (lane_taken here.first.1 here.recorded.1 here.is_joined.promise.upload.value here.is_joined.upload (of_lane k recording.done) was.1 (room + 2) told)
+
+      ahead : GaveFewMore (room + 2) lane.1
+      ahead =
+          let was = recording.lanes_are.each k here.first here.recorded here.first_at here.recorded_at in
+          subst (λ l. GaveFewMore (room + 2) l.1) (sym here.is_joined.lane_is)
+          (few_more here.first.1 here.recorded.1 here.is_joined.promise.upload.value here.is_joined.upload (of_lane k recording.done) was.1 (room + 2) told)
 
       client : lane.0 ≡ here.first.0
       client = ap (λ l. l.0) here.is_joined.lane_is ∙ (recording.lanes_are.each k here.first here.recorded here.first_at here.recorded_at).0
@@ -97,13 +110,13 @@ module _ {R : Type 0} where
       count_here : length (of_lane k recording.done) ≡ items_of lane
       count_here =
           let was = recording.lanes_are.each k here.first here.recorded here.first_at here.recorded_at in
-          lane_count here.first.1 here.recorded.1 here.is_joined.promise.upload.value here.is_joined.upload (of_lane k recording.done) was.1 told
+          lane_count here.first.1 here.recorded.1 here.is_joined.promise.upload.value here.is_joined.upload (of_lane k recording.done) was.1 (room + 2) told
           ∙ sym (ap (λ l. l.1.taken + ends_in l.1.end) here.is_joined.lane_is)
 
       ended_here : has_last (of_lane k recording.done) ≡ true → is_some lane.1.end ≡ true
       ended_here last =
           let was = recording.lanes_are.each k here.first here.recorded here.first_at here.recorded_at in
-          ap is_some same_end ∙ lane_ended here.first.1 here.recorded.1 here.is_joined.promise.upload.value here.is_joined.upload (of_lane k recording.done) was.1 told last
+          ap is_some same_end ∙ lane_ended here.first.1 here.recorded.1 here.is_joined.promise.upload.value here.is_joined.upload (of_lane k recording.done) was.1 (room + 2) told last
 
     -- as many items as were taken
     refused_one : (s : Stop) (rest : List (Item Sent)) → IsUnrecorded s rest → length rest ≡ refused_by s
@@ -136,8 +149,8 @@ module _ {R : Type 0} where
         let was = recording.lanes_are.each k here.first here.recorded here.first_at here.recorded_at in
         let upload = here.is_joined.upload in
         let got_so : of_lane k got ≡ of_lane k recording.done ++ item ∷ [] = ap (of_lane k) (recording.got_is ∙ ap (λ r. recording.done ++ r) rest) ∙ of_more k recording.done item refl in
-        let more = gave_more here.first.1 here.recorded.1 here.is_joined.promise.upload.value upload (of_lane k recording.done) was.1 (told k lane here) upload item one
-        (subst (TellsUpload here.is_joined.promise.upload.value upload) got_so here.is_joined.told) in
+        let more = gave_more here.first.1 here.recorded.1 here.is_joined.promise.upload.value upload (of_lane k recording.done) was.1 (room + 2) (told k lane here) (room + 1) upload item one
+        (subst (TellsUpload (room + 1) here.is_joined.promise.upload.value upload) got_so here.is_joined.told) in
         (k, lane, lane_at, record { upload = upload; upload_is = ap (λ l. l.1.upload) here.is_joined.lane_is; more = subst (λ l. l.1.taken < length upload.given) (sym here.is_joined.lane_is) more })
 
     same_ends : have_ended joined_lanes ≡ have_ended lanes
@@ -167,7 +180,7 @@ module _ {R : Type 0} where
 
     module _ (fresh : List (List ℕ × LaneResult R)) (firsts_are : firsts ≡ map without_upload fresh)
         (given : map (λ promise. Some promise.upload.value) promises ≡ map own_upload fresh) where
-      takes_lane : (k : ℕ) (whole lane : List ℕ × LaneResult R) → slice_get fresh k ≡ Some whole → slice_get joined_lanes k ≡ Some lane → TakesLane whole lane
+      takes_lane : (k : ℕ) (whole lane : List ℕ × LaneResult R) → slice_get fresh k ≡ Some whole → slice_get joined_lanes k ≡ Some lane → TakesLane (room + 2) whole lane
       takes_lane k whole lane whole_at lane_at =
           let here = at k lane lane_at in
           let both : Some here.first ≡ Some (without_upload whole) = sym here.first_at ∙ mapped_at without_upload fresh firsts k whole firsts_are whole_at in
@@ -177,12 +190,13 @@ module _ {R : Type 0} where
           sym (mapped_at (λ p. Some p.upload.value) promises (map own_upload fresh) k promise (sym given) here.is_joined.promise_at) ∙ mapped_at own_upload fresh (map own_upload fresh) k whole refl whole_at in
           record {
             client = client k lane here ∙ ap (λ f. f.0) same;
+            ahead = ahead k lane here;
             is_taken = λ begun is.
                 let of : promise.upload.value ≡ begun = cc in
                 subst (λ f. IsTaken f.1.log begun lane.1) same (subst (λ b. IsTaken here.first.1.log b lane.1) of (taken k lane here));
           }
 
-      pub takes_by_one : IsHalted allows stop items → TakesByOne allows fresh joined_lanes stop
+      pub takes_by_one : IsHalted allows stop items → TakesByOne allows (room + 2) fresh joined_lanes stop
       takes_by_one halted =
           let size : length fresh ≡ length joined_lanes = sym (joined.count ∙ recording.lanes_are.count ∙ ap length firsts_are ∙ length-map fresh without_upload) in
-          record { each = zip_at TakesLane fresh joined_lanes size takes_lane; stops = stops_so halted }
+          record { each = zip_at (TakesLane (room + 2)) fresh joined_lanes size takes_lane; stops = stops_so halted }

@@ -13,12 +13,12 @@ module _ {R : Type 0} (known : List ℕ → Option (LaneResult R)) (quota : ℕ)
     pub client : lane.0 ≡ upload.client
     pub is_taken : IsTaken (log_before quota upload (known upload.client)) (resumed_upload upload (known upload.client)) lane.1
 
-  pub lanes_of : (uploads : List (UploadState R)) (lanes : List (List ℕ × LaneResult R)) → AllZip TakesLane (map (begun_lane known quota) uploads) lanes
+  pub lanes_of : (more : ℕ) (uploads : List (UploadState R)) (lanes : List (List ℕ × LaneResult R)) → AllZip (TakesLane more) (map (begun_lane known quota) uploads) lanes
       → AllZip IsLaneOf uploads lanes
-  lanes_of [] [] all = tt
-  lanes_of [] (lane ∷ lanes) all = absurd all
-  lanes_of (upload ∷ uploads) [] all = absurd all
-  lanes_of (upload ∷ uploads) (lane ∷ lanes) all = (
+  lanes_of more [] [] all = tt
+  lanes_of more [] (lane ∷ lanes) all = absurd all
+  lanes_of more (upload ∷ uploads) [] all = absurd all
+  lanes_of more (upload ∷ uploads) (lane ∷ lanes) all = (
     record { client = all.0.client; is_taken = all.0.is_taken (resumed_upload upload (known upload.client)) refl },
-    lanes_of uploads lanes all.1,
+    lanes_of more uploads lanes all.1,
   )

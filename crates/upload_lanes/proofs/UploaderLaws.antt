@@ -67,15 +67,16 @@ module _ {R : Type 0} where
     marked = subst (AllByRecursion IsMarked) (sym empty) tt;
   }
 
-  pub nothing_put : (put : List (Item Sent)) (u : UploadState R) → IsPutting put u → IsPut put u
+  pub nothing_put : (put : List (Item Sent)) (u : UploadState R) → IsPutting put u → IsPut 1 put u
   nothing_put put u putting = record {
     rest = [];
+    few = omega arith;
     front = ap (λ ending. sent_items u.given ending) putting.going ∙ append-nil (map One u.given) ∙ sym putting.all ∙ sym (append-nil (bodies put));
     marked = putting.marked;
   }
 
   -- an uploader puts its messages, and an end
-  pub few_uploaded : (put : List (Item Sent)) (begun u : UploadState R) → IsReadOn begun u → IsPut put u → length put < 2 ^ 57
+  pub few_uploaded : (put : List (Item Sent)) (begun u : UploadState R) → IsReadOn begun u → IsPut 1 put u → length put < 2 ^ 57
   few_uploaded put begun u read is_put =
       let ends : length (option_to_list u.ending) ≤ 1 = one_at_most u.ending in
       let size : length (sent_items u.given u.ending) ≡ length u.given + length (option_to_list u.ending) =
@@ -90,7 +91,7 @@ module _ {R : Type 0} where
       one_at_most (Some end) = omega arith
 
   module _ (u : UploadState R) (a b : QueueView Sent) (putting : IsPutting a.put u) (v : UploadState R) where
-    pub put_one : (one : Costed) (done : Bool) → v.given ≡ u.given ++ one ∷ [] → v.ending ≡ None → Sends a b false (One one) done → MatchBool done (IsPutting b.put v) (IsPut b.put v)
+    pub put_one : (one : Costed) (done : Bool) → v.given ≡ u.given ++ one ∷ [] → v.ending ≡ None → Sends a b false (One one) done → MatchBool done (IsPutting b.put v) (IsPut 1 b.put v)
     put_one one true given going sends =
         let after : b.put ≡ a.put ++ next_item a.lane a.put false (One one) ∷ [] = ap (λ view. view.put) sends in
         record {
@@ -103,17 +104,19 @@ module _ {R : Type 0} where
         let after : b.put ≡ a.put = ap (λ view. view.put) sends in
         record {
           rest = One one ∷ [];
+          few = omega arith;
           front =
               ap (λ e. sent_items v.given e) going ∙ append-nil (map One v.given) ∙ ap (map One) given ∙ map-append One u.given (one ∷ [])
               ∙ ap (λ front. front ++ One one ∷ []) (sym putting.all ∙ ap bodies (sym after));
           marked = subst (AllByRecursion IsMarked) (sym after) putting.marked;
         }
 
-    pub put_last : (ending : Ending) (done : Bool) → v.given ≡ u.given ++ [] → v.ending ≡ Some ending → Sends a b true (Last ending) done → IsPut b.put v
+    pub put_last : (ending : Ending) (done : Bool) → v.given ≡ u.given ++ [] → v.ending ≡ Some ending → Sends a b true (Last ending) done → IsPut 1 b.put v
     put_last ending true given ended sends =
         let after : b.put ≡ a.put ++ next_item a.lane a.put true (Last ending) ∷ [] = ap (λ view. view.put) sends in
         record {
           rest = [];
+          few = omega arith;
           front =
               ap (λ e. sent_items v.given e) ended ∙ ap (λ all. map One all ++ Last ending ∷ []) (given ∙ append-nil u.given) ∙ ap (λ front. front ++ Last ending ∷ []) (sym putting.all)
               ∙ sym (bodies_more a.put (next_item a.lane a.put true (Last ending))) ∙ ap bodies (sym after) ∙ sym (append-nil (bodies b.put));
@@ -123,6 +126,7 @@ module _ {R : Type 0} where
         let after : b.put ≡ a.put = ap (λ view. view.put) sends in
         record {
           rest = Last ending ∷ [];
+          few = omega arith;
           front =
               ap (λ e. sent_items v.given e) ended ∙ ap (λ all. map One all ++ Last ending ∷ []) (given ∙ append-nil u.given)
               ∙ ap (λ front. front ++ Last ending ∷ []) (sym putting.all ∙ ap bodies (sym after));

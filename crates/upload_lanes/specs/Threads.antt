@@ -1,5 +1,5 @@
 -- What is gathered of lanes by several recorders, however their threads run: this project's own rule.
-use Rattle.std.specs.Prelude.{◌≡◌, ℕ, List, length, map, fold, Bool, nat_lt, if◌then◌else◌, slice_get, Some}
+use Rattle.std.specs.Prelude.{◌≡◌, ℕ, ◌+◌, ◌==◌, List, length, map, fold, Bool, nat_lt, if◌then◌else◌, slice_get, Some}
 use Rattle.std.specs.List.{AllZip}
 use Rattle.round_robin.specs.Dealt.{every}
 use Rattle.upload_reader.specs.Upload.{UploadState}
@@ -19,6 +19,11 @@ max_recorders = 4
 abbrev pub recorders_of : ℕ → ℕ
 recorders_of lanes = if nat_lt lanes max_recorders then lanes else max_recorders
 
+-- how many messages an upload gives at the most beyond those that are recorded: as many as its queue has room for, one
+-- that waits for room there, and one that wasn't recorded; a lane alone just that one
+abbrev pub read_ahead : ℕ → ℕ → ℕ
+read_ahead room lanes = if lanes == 1 then 1 else room + 2
+
 -- why the taking stopped by these two: the first of memory, the question, the lanes' ends
 abbrev pub both_stops : Stop → Stop → Stop
 both_stops kind.Memory other = kind.Memory
@@ -32,10 +37,11 @@ stop_of stops = fold both_stops kind.None stops
 module _ {R : Type 0} where
   -- ---- lanes
 
-  -- What was taken of lanes of which nothing was taken, lane k by recorder k modulo their number.
-  pub record AreTaken (allows : ℕ → Bool → Type 0) (fresh lanes : List (List ℕ × LaneResult R)) (stop : Stop)
-      : Type 0 where
-    pub lanes_are : AllZip TakesLane fresh lanes
+  -- What was taken of lanes of which nothing was taken, lane k by recorder k modulo their number. Each upload gave so
+  -- many messages more at the most.
+  pub record AreTaken (allows : ℕ → Bool → Type 0) (more : ℕ) (fresh lanes : List (List ℕ × LaneResult R))
+      (stop : Stop) : Type 0 where
+    pub lanes_are : AllZip (TakesLane more) fresh lanes
     pub stops : List Stop
     pub count : length stops ≡ recorders_of (length fresh)
     pub each : (recorder : ℕ) (one : Stop) → slice_get stops recorder ≡ Some one
@@ -44,10 +50,12 @@ module _ {R : Type 0} where
 
   -- ---- a round
 
-  -- by recorders that ask so
-  abbrev pub Gathers : (ℕ → Bool → Type 0) → Gathered R → List (UploadState R) → ℕ → Gathered R → Type 0
-  Gathers allows earlier uploads quota gathered =
-      IsGatheredBy (λ known. AreTaken allows (map (begun_lane known quota) uploads)) earlier uploads gathered
+  -- by recorders that ask so, of uploads with so much room in each queue
+  abbrev pub Gathers : (ℕ → Bool → Type 0) → ℕ → Gathered R → List (UploadState R) → ℕ → Gathered R → Type 0
+  Gathers allows room earlier uploads quota gathered =
+      IsGatheredBy (λ known. AreTaken allows (read_ahead room (length uploads)) (map (begun_lane known quota) uploads))
+      earlier uploads gathered
 
-  abbrev pub GathersFirst : (ℕ → Bool → Type 0) → List (UploadState R) → ℕ → Gathered R → Type 0
-  GathersFirst allows uploads quota gathered = IsFirst (λ earlier. Gathers allows earlier uploads quota gathered)
+  abbrev pub GathersFirst : (ℕ → Bool → Type 0) → ℕ → List (UploadState R) → ℕ → Gathered R → Type 0
+  GathersFirst allows room uploads quota gathered =
+      IsFirst (λ earlier. Gathers allows room earlier uploads quota gathered)

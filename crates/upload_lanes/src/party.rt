@@ -1,5 +1,5 @@
 //! A recorder and the uploaders of its lanes: they are started, they run, and their join gives what was taken of the lanes.
-ghost use Rattle.std.specs.Prelude.{◌≡◌, ◌<◌, ◌≤◌, List, ℕ, length, map, set, slice_get, Some, IfOk};
+ghost use Rattle.std.specs.Prelude.{◌≡◌, ◌+◌, ◌<◌, ◌≤◌, List, ℕ, length, map, set, slice_get, Some, IfOk};
 ghost use Rattle.std.specs.Arc.{arc_value};
 ghost use Rattle.std.specs.List.{AllByRecursion};
 ghost use Rattle.crossbeam_queue.specs.Passes.{view};
@@ -53,7 +53,7 @@ pub(crate) fn start_party<'s, E, H: Halt + 's, R: Source + Drop + Send + 's, W: 
     requires fresh { IsFreshHand lanes }
     requires halt { (n : ℕ) → n ≤ max_items → H.may halt.now n }
     ensures fresh { IfOk result (λ party. party.fresh.value ≡ lanes) }
-    ensures runs { IfOk result (RunsBy halt.now) }
+    ensures runs { IfOk result (RunsBy halt.now room) }
 {
     let fresh = Snapshot::of(&lanes);
     match LaneQueue::open(alloc, lanes.len() as u32, room) {
@@ -130,7 +130,8 @@ pub(crate) fn join_party<H: Halt, R: Source + Drop, T: Threads + Wait>(
     party: Party<H, R>,
 ) -> (Vec<(Client, LaneResult<R>)>, Stop)
     requires { IsRunning party }
-    ensures { TakesByOne (H.allows party.recorder.promise.halt.value) party.fresh.value.items result.0.items result.1 }
+    ensures { TakesByOne (H.allows party.recorder.promise.halt.value) ((arc_value party.queue).room + 2)
+        party.fresh.value.items result.0.items result.1 }
 {
     let Party {
         fresh: _,
@@ -178,7 +179,8 @@ fn join_uploads<R: Source + Drop, T: Threads + Wait>(
     requires of { IsPassOf queue.now taker.old }
     requires uploads { AreUploads queue.now (map (λ handle. handle.promise) handles.items) }
     requires count { length handles.items ≡ length lanes.old }
-    ensures joined { AreJoined (map (λ handle. handle.promise) handles.items) (view taker.old).got lanes.old lanes.new }
+    ensures joined { AreJoined queue.now.room (map (λ handle. handle.promise) handles.items) (view taker.old).got
+        lanes.old lanes.new }
 {
     let mut handles = handles;
     while let Some(handle) = handles.pop() {
@@ -197,7 +199,7 @@ fn join_upload<R: Source + Drop, T: Threads + Wait>(
     requires same { handle.promise.queue.value ≡ queue.now }
     ensures of { IsPassOf queue.now taker.new }
     ensures got { (view taker.new).got ≡ (view taker.old).got }
-    ensures told { TellsUpload handle.promise.upload.value result
+    ensures told { TellsUpload (queue.now.room + 1) handle.promise.upload.value result
         (of_lane (view handle.promise.putter.value).lane (view taker.old).got) }
 {
     let Uploaded { upload, putter } = handle.join(rt);

@@ -1,10 +1,10 @@
 //! Lanes on threads: an uploader for each, and up to four recorders.
-ghost use Rattle.std.specs.Prelude.{ℕ, ◌≡◌, ◌≤◌, length, IfOk, IfErr};
+ghost use Rattle.std.specs.Prelude.{ℕ, ◌≡◌, ◌+◌, ◌≤◌, length, IfOk, IfErr};
 ghost use Rattle.std.specs.List.{AllByRecursion};
 ghost use Rattle.lane_queue.specs.Limits.{max_items};
 ghost use Rattle.upload_reader.specs.Upload.{IsUntouched};
 ghost use Rattle.lanes_in_turn.specs.Round.{AreRoundLanes, IsNoRound, RefusesRound};
-ghost use Rattle.upload_lanes.specs.Threads.{recorders_of, Gathers, GathersFirst, AreTaken};
+ghost use Rattle.upload_lanes.specs.Threads.{recorders_of, read_ahead, Gathers, GathersFirst, AreTaken};
 ghost use Rattle.lanes_in_turn.specs.Taking.{IsFreshLane};
 
 use crate::alone::take_only;
@@ -28,6 +28,9 @@ const MAX_RECORDERS: usize = 4;
 /// Takes messages of 1 to `MAX_ROUND_LANES` lanes, each of a client of its own: an uploader for each lane reads it on a thread of its own, and up to four
 /// recorders record what the uploaders put, each in a queue that holds as much as the room says. Lane k is one of recorder k modulo their number.
 ///
+/// Of an upload no more messages are given than were recorded, the queue has room for, and two: one that waits for room, and one that wasn't recorded. A lane alone
+/// is taken on the thread that calls, without a queue, as `take_alone` does: of it none but such a one.
+///
 /// A recorder asks, before it takes an item, whether to stop, with the number of items that it has taken: the messages and the ends of its lanes. It stops
 /// where that is answered by true, where each of its lanes has ended, and where a message can't be recorded for want of memory. The others go on.
 pub fn gather<
@@ -43,7 +46,7 @@ pub fn gather<
 ) -> Result<Gathered<R>, GatherFault>
     requires untouched { AllByRecursion IsUntouched uploads.items }
     requires halt { (n : ℕ) → n ≤ max_items → H.pre halt.now n }
-    ensures ok { IfOk result (GathersFirst (H.post halt.now) uploads.items quota) }
+    ensures ok { IfOk result (GathersFirst (H.post halt.now) room uploads.items quota) }
     ensures refused { IfErr result (IsNoRound uploads.items) }
 {
     match gather_again(rt, Gathered::new(rt.alloc()), uploads, quota, room, halt) {
@@ -67,7 +70,7 @@ pub fn gather_again<
 ) -> Result<Gathered<R>, RefusedRound<R>>
     requires untouched { AllByRecursion IsUntouched uploads.items }
     requires halt { (n : ℕ) → n ≤ max_items → H.pre halt.now n }
-    ensures ok { IfOk result (λ gathered. Gathers (H.post halt.now) earlier uploads.items quota gathered) }
+    ensures ok { IfOk result (λ gathered. Gathers (H.post halt.now) room earlier uploads.items quota gathered) }
     ensures refused { IfErr result (RefusesRound earlier uploads.items) }
 {
     let BegunRound { earlier, lanes } = begin_round(rt.alloc(), earlier, uploads, quota)?;
@@ -88,7 +91,8 @@ fn take_lanes<H: Halt, R: Source + Drop + Send, T: Threads + Wait + Sync>(
     requires fresh { AllByRecursion IsFreshLane lanes.items }
     requires lanes { AreRoundLanes (length lanes.items) }
     requires halt { (n : ℕ) → n ≤ max_items → H.may halt.now n }
-    ensures { IfOk result (λ taken. AreTaken (H.allows halt.now) lanes.items taken.0.items taken.1) }
+    ensures { IfOk result (λ taken.
+        AreTaken (H.allows halt.now) (read_ahead room (length lanes.items)) lanes.items taken.0.items taken.1) }
 {
     if lanes.len() == 1 {
         return Ok(take_only(rt, lanes, halt));

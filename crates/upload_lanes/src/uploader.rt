@@ -125,7 +125,7 @@ fn put_next<R: Source + Drop, W: Wait>(
     ensures lane { (view putter.new).lane ≡ (view putter.old).lane }
     ensures few { length upload.new.given ≤ max_messages }
     ensures read { (begun : UploadState R) → IsReadOn begun upload.old → IsReadOn begun upload.new }
-    ensures put { MatchBool result (IsPutting (view putter.new).put upload.new) (IsPut (view putter.new).put upload.new) }
+    ensures put { MatchBool result (IsPutting (view putter.new).put upload.new) (IsPut 1 (view putter.new).put upload.new) }
 {
     match upload.next() {
         Next::Got(message, cost) => send(rt, queue, putter, Priced::new(message, cost)),

@@ -14,7 +14,7 @@ use Rattle.site_line.specs.declared.site.Site.{Site}
 use Rattle.site_line.specs.declared.fault.SiteFault.{SiteFault}
 use Rattle.site_line.specs.declared.fault.SiteFault.TheVariants as site_fault
 use Rattle.warp_run.specs.Run.{site_line, max_site_bytes, HasBadSite, HasBadHello, HasFailedRead, Reads, ReadWhileUndecided, Meets, fresh_lines}
-use Rattle.warp_run.specs.Intake.{IsBehindSite, IsRefused, bad_site, no_hello}
+use Rattle.warp_run.specs.Intake.{SaysNoSite, IsBehindSite, IsRefused, bad_site, no_hello}
 use Rattle.warp_run.specs.declared.status.Status.{Status}
 use Rattle.warp_run.specs.declared.status.Status.TheVariants.{Done, BadSite, BadHello, OutOfMemory, InputOutput}
 use Rattle.warp_run.proofs.NeededLaws.{goes_nowhere, line_later}
@@ -26,7 +26,7 @@ same_value line d e is also = let same : Some d ≡ Some e = sym is.1 ∙ also.1
 
 pub bad_refused : (bytes line : List ℕ) (ending : Option LineFault) (fault : SiteFault) → site_line bytes ending ≡ Some (Ok line)
     → (fault ≡ site_fault.NotJson → (d : Data) → IsJsonOf line d → ⊥)
-    → (fault ≡ site_fault.BadMember → (d : Data) × IsJsonOf line d × IsNoSite d) → IsRefused (bad_site fault) bytes ending
+    → (fault ≡ site_fault.BadMember → (d : Data) × IsJsonOf line d × IsNoSite d) → SaysNoSite (bad_site fault) bytes ending
 bad_refused bytes line ending site_fault.NotJson is not_json bad_member = inr (line, is, λ site (d, json, of). not_json refl d json)
 bad_refused bytes line ending site_fault.BadMember is not_json bad_member =
     let (d, json, none) = bad_member refl in
@@ -39,6 +39,10 @@ pub line_cut : {R : Type 0} (old new : Reading R) (line : List ℕ) → old ≡ 
 line_cut old new line fresh advances same =
     let from_none : Advances {A = Unit {0}} max_site_bytes (fresh_lines old.first) new (Ok tt) = subst (λ l. Advances max_site_bytes l new (Ok tt)) fresh advances in
     rw same (from_none.tells refl)
+
+pub is_refused : (status : Status) (bytes : List ℕ) (ending : Option LineFault) → SaysNoSite status bytes ending → IsRefused status bytes ending
+is_refused BadHello bytes ending holds = absurd holds
+is_refused other bytes ending holds = holds
 
 -- ---- the reader is given back
 

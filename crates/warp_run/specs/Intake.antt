@@ -33,17 +33,17 @@ module _ {R : Type 0} where
     pub behind : IsBehindSite at site
     pub begins : Begins at upload
 
+-- why there is no site; where memory is refused nothing is said
+abbrev pub SaysNoSite : Status → List ℕ → Option LineFault → Type 0
+SaysNoSite BadSite input ending = HasBadSite input ending
+SaysNoSite InputOutput input ending = HasFailedRead input ending
+SaysNoSite OutOfMemory input ending = Unit {0}
+SaysNoSite other input ending = ⊥
+
 -- why there is nothing to report
 abbrev pub IsRefused : Status → List ℕ → Option LineFault → Type 0
-IsRefused InputOutput input ending = HasFailedRead input ending
-IsRefused BadSite input ending = HasBadSite input ending
 IsRefused BadHello input ending = HasBadHello input ending
-IsRefused OutOfMemory input ending = Unit {0}
-IsRefused Done input ending = ⊥
-
--- what it ends by where no site could be read, or no listener made
-abbrev pub IsUnopened : Status → Type 0
-IsUnopened status = (status ≡ BadSite) ⊎ (status ≡ OutOfMemory) ⊎ (status ≡ InputOutput)
+IsRefused status input ending = SaysNoSite status input ending
 
 -- ---- what a fault of a line, of a site or of a hello means here
 

@@ -5,7 +5,7 @@ ghost use Rattle.byte_streams.specs.Reading.{input, WasRead, ReadsWhile, NoLineY
 ghost use Rattle.byte_streams.specs.Writing.{CallWrites, WritesNothing};
 ghost use Rattle.upload_reader.specs.Upload.{Begins};
 ghost use Rattle.warp_run.specs.Run.{max_site_bytes, ReadWhileUndecided, Meets, fresh_lines};
-ghost use Rattle.warp_run.specs.Intake.{IsBehindSite, IsOpened, IsRefused, IsUnopened, no_site, bad_site, no_hello};
+ghost use Rattle.warp_run.specs.Intake.{IsBehindSite, IsOpened, SaysNoSite, no_site, bad_site, no_hello};
 
 use crate::status::Status;
 use byte_streams::{LineFault, Lines, Source};
@@ -76,8 +76,7 @@ pub fn read_site<R: Source>(alloc: Global, lines: &mut Lines<R>) -> Result<Site,
     requires fresh { lines.old ≡ fresh_lines lines.old.first }
     ensures reads { ReadsWhile (NoLineYet max_site_bytes lines.old.place) lines.old lines.new }
     ensures site { IfOk result (IsBehindSite lines.new) }
-    ensures refused { IfErr result (λ status. IsRefused status (input lines.new) (ending_of lines.new.answers)) }
-    ensures unopened { IfErr result IsUnopened }
+    ensures refused { IfErr result (λ status. SaysNoSite status (input lines.new) (ending_of lines.new.answers)) }
 {
     match lines.advance(MAX_SITE_BYTES) {
         Err(fault) => Err(no_site(fault)),
@@ -90,7 +89,6 @@ pub fn read_site<R: Source>(alloc: Global, lines: &mut Lines<R>) -> Result<Site,
 
 fn no_site(fault: LineFault) -> Status
     ensures status { result ≡ no_site fault }
-    ensures unopened { IsUnopened result }
 {
     match fault {
         LineFault::ReadFailed => Status::InputOutput,
@@ -101,7 +99,6 @@ fn no_site(fault: LineFault) -> Status
 
 fn bad_site(fault: SiteFault) -> Status
     ensures status { result ≡ bad_site fault }
-    ensures unopened { IsUnopened result }
 {
     match fault {
         SiteFault::NoMemory => Status::OutOfMemory,

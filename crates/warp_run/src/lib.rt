@@ -7,6 +7,7 @@
 
 mod concluding;
 mod ending;
+mod exiting;
 mod intake;
 mod listed;
 mod repaired;
@@ -20,6 +21,7 @@ pub use byte_streams::{Sink, Told};
 pub use concluding::{Concluded, conclude};
 pub use conflict_desk::Decision;
 pub use ending::{status_of, written_status};
+pub use exiting::exit_with;
 pub use intake::{no_hello, read_site};
 pub use lanes_in_turn::{Gathered, LaneResult, Stop};
 pub use listed::Listed;

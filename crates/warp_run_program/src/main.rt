@@ -4,14 +4,11 @@
 use std::io;
 use std::process::ExitCode;
 use upload_reader::Fed;
-use warp_run::{Told, run};
+use warp_run::{Told, exit_with, run};
 
 fn main(rt: HostRuntime) -> ExitCode {
     let mut reader = Fed::new(rt.stdin());
     let mut writer = Told::new(io::writer(&rt));
     let status = run(&rt, &mut reader, &mut writer);
-    if let Some(line) = status.line() {
-        let _ = rt.eprintln(line);
-    }
-    ExitCode::from(status.code())
+    exit_with(&rt, status.code(), status.line())
 }

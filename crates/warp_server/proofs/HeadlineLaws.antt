@@ -1,5 +1,5 @@
 -- What was gathered, repaired and settled is what the headline says.
-use Rattle.std.proofs.Common.{◌≡◌, ℕ, List, [], ◌∷◌, ◌++◌, map, Bool, true, false, bytes_eq, Option, Some, None, refl, sym, ap, subst, ◌∙◌, append-nil, append_assoc}
+use Rattle.std.proofs.Common.{◌≡◌, ℕ, List, [], ◌∷◌, ◌++◌, length, map, Bool, true, false, bytes_eq, Option, Some, None, refl, sym, ap, subst, ◌∙◌, append-nil, append_assoc}
 use Rattle.std.specs.Map.{keys_of, lookup}
 use Rattle.std.specs.List.{list_any, AllByRecursion, AllZip, IsDistinct}
 use Rattle.std.specs.Cmp.Lexicographic.{nat_list_eq_equiv}
@@ -16,7 +16,7 @@ use Rattle.site_line.specs.Reading.{site_decisions}
 use Rattle.site_line.specs.declared.site.Site.{Site}
 use Rattle.lanes_in_turn.specs.Lane.{IsTaken}
 use Rattle.lanes_in_turn.specs.Round.{log_before, resumed_upload, without_lane, clients_of, has_twice}
-use Rattle.upload_lanes.specs.Threads.{GathersFirst}
+use Rattle.upload_lanes.specs.Threads.{read_ahead, GathersFirst}
 use Rattle.upload_lanes.proofs.TakenLaws.{IsLaneOf, lanes_of}
 use Rattle.lanes_in_turn.specs.declared.gathered.Gathered.{Gathered}
 use Rattle.lanes_in_turn.specs.declared.gathered.LaneResult.{LaneResult}
@@ -44,7 +44,7 @@ unfolding IsDistinct
 distinct [] once = tt
 distinct (client ∷ clients) once = let (one, rest) = or_parts _ _ once in (none_of client clients one, distinct clients rest)
 
-pub zip_weaker : {X Y : Type 0} (P Q : X → Y → Type 0) → ((x : X) (y : Y) → P x y → Q x y) → (xs : List X) (ys : List Y) → AllZip P xs ys → AllZip Q xs ys
+zip_weaker : {X Y : Type 0} (P Q : X → Y → Type 0) → ((x : X) (y : Y) → P x y → Q x y) → (xs : List X) (ys : List Y) → AllZip P xs ys → AllZip Q xs ys
 zip_weaker P Q goes [] [] all = tt
 zip_weaker P Q goes [] (y ∷ ys) all = all
 zip_weaker P Q goes (x ∷ xs) [] all = all
@@ -57,15 +57,15 @@ module _ {R : Type 0} (known : List ℕ → Option (LaneResult R)) (quota : ℕ)
   same_keys (upload ∷ uploads) [] are = absurd are
   same_keys (upload ∷ uploads) (lane ∷ lanes) are = rw (are.0.client, same_keys uploads lanes are.1) refl
 
-module _ {R : Type 0} (quota : ℕ) (allows : ℕ → Bool → Type 0) (uploads : List (UploadState R)) (gathered : Gathered R) where
+module _ {R : Type 0} (quota : ℕ) (allows : ℕ → Bool → Type 0) (more : ℕ) (uploads : List (UploadState R)) (gathered : Gathered R) where
   -- the lanes of a first round are all
-  pub first_entries : (first : GathersFirst allows uploads quota gathered) → gathered.clients.entries ≡ first.2.lanes
+  pub first_entries : (first : GathersFirst allows more uploads quota gathered) → gathered.clients.entries ≡ first.2.lanes
   first_entries (earlier, empty, g) =
-      let keys = same_keys (get bytes_eq earlier.clients) quota uploads g.lanes (lanes_of (get bytes_eq earlier.clients) quota uploads g.lanes g.taken.lanes_are) in
+      let keys = same_keys (get bytes_eq earlier.clients) quota uploads g.lanes (lanes_of (get bytes_eq earlier.clients) quota (read_ahead more (length uploads)) uploads g.lanes g.taken.lanes_are) in
       g.clients_are ∙ ap (λ before. insert_all bytes_eq (map (λ entry. (entry.0, without_lane entry.1)) before) g.lanes) empty
       ∙ insert_behind [] g.lanes (subst (IsDistinct bytes_eq) (sym keys) (distinct (clients_of uploads) g.is_round.clients))
 
-  pub all_prefixes : GathersFirst allows uploads quota gathered → AllZip (HasPrefix quota) uploads gathered.clients.entries
+  pub all_prefixes : GathersFirst allows more uploads quota gathered → AllZip (HasPrefix quota) uploads gathered.clients.entries
   all_prefixes first =
       let known = get bytes_eq first.0.clients in
       subst (AllZip (HasPrefix quota) uploads) (sym (first_entries first))
@@ -74,7 +74,7 @@ module _ {R : Type 0} (quota : ℕ) (allows : ℕ → Bool → Type 0) (uploads 
         client = is.client;
         is_taken = subst (λ found. IsTaken (log_before quota upload found) (resumed_upload upload found) lane.1) (ap (lookup (bytes_eq upload.client)) first.1) is.is_taken;
       })
-      uploads first.2.lanes (lanes_of known quota uploads first.2.lanes first.2.taken.lanes_are))
+      uploads first.2.lanes (lanes_of known quota (read_ahead more (length uploads)) uploads first.2.lanes first.2.taken.lanes_are))
 
 -- ---- decisions leave the cases
 

@@ -3,4 +3,5 @@ pub mod HeadlineLaws
 pub mod RoundsLaws
 pub mod RoundSteps
 pub mod ServeLaws
+pub mod ListenLaws
 pub mod CallLaws

@@ -15,6 +15,10 @@ use Rattle.lanes_in_turn.specs.Taking.{never}
 use Rattle.warp_run.specs.Shortage.{status_of}
 use Rattle.warp_run.specs.declared.status.Status.TheVariants.{Done}
 
+-- how many messages of an upload wait in its queue at the most
+abbrev pub server_room : ℕ
+server_room = 1024
+
 module _ {R : Type 0} where
   -- ---- round by round
 
@@ -27,7 +31,7 @@ module _ {R : Type 0} where
       (gathered : Gathered R) : Type 0 where
     pub whole : status_of earlier ≡ Done
     pub round : Gathered R
-    pub gathers : Gathers never earlier uploads quota round
+    pub gathers : Gathers never server_room earlier uploads quota round
     pub clients_are : gathered.clients.entries ≡ map (λ entry. (entry.0, without_reader entry.1)) round.clients.entries
     pub stop_is : gathered.stop ≡ round.stop
 

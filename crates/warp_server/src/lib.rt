@@ -8,8 +8,8 @@
 mod program;
 
 pub use program::{
-    AnswerFault, Answered, Call, CallFault, Callers, Listening, MAX_ROUNDS, accept_call, answer,
-    listen, serve, serve_callers,
+    AnswerFault, Answered, Call, CallFault, Callers, Listening, MAX_ROUNDS, Opens, accept_call,
+    answer, listen, listen_by, serve, serve_callers,
 };
 pub use upload_lanes::{
     GatherFault, Gathered, LaneResult, RefusedRound, Stop, gather, gather_again,
@@ -17,5 +17,5 @@ pub use upload_lanes::{
 };
 pub use warp_run::{
     ClientSummary, Decision, Listed, PutDecision, Repaired, ReportFault, Sink, Site, SiteFault,
-    Status, Told, repair, report, run, settle,
+    Status, Told, exit_with, repair, report, run, settle,
 };

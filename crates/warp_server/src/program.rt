@@ -4,10 +4,14 @@ mod call;
 mod callers;
 mod connections;
 mod greeting;
+mod listening;
+mod opens;
 mod rounds;
 mod serving;
 
 pub use answering::{AnswerFault, Answered, answer};
 pub use call::{Call, CallFault, Listening, MAX_ROUNDS, accept_call};
 pub use callers::Callers;
-pub use serving::{listen, serve, serve_callers};
+pub use listening::{listen, listen_by};
+pub use opens::Opens;
+pub use serving::{serve, serve_callers};

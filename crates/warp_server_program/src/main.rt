@@ -4,28 +4,20 @@
 use std::process::ExitCode;
 use std::{env, io};
 use upload_reader::Fed;
-use warp_server::{Call, Told, accept_call, listen, run};
+use warp_server::{Call, Told, accept_call, exit_with, listen, run};
 
 fn main(rt: HostRuntime) -> ExitCode {
     let mut writer = Told::new(io::writer(&rt));
     match accept_call(env::args(&rt)) {
-        Err(fault) => ended(&rt, fault.code(), Some(fault.line())),
+        Err(fault) => exit_with(&rt, fault.code(), Some(fault.line())),
         Ok(Call::Run) => {
             let mut reader = Fed::new(rt.stdin());
             let status = run(&rt, &mut reader, &mut writer);
-            ended(&rt, status.code(), status.line())
+            exit_with(&rt, status.code(), status.line())
         }
         Ok(Call::Listen(listening)) => {
             let status = listen(&rt, &listening, &mut writer);
-            ended(&rt, status.code(), status.line())
+            exit_with(&rt, status.code(), status.line())
         }
     }
-}
-
-// Says on standard error how it ended, and gives the exit status.
-fn ended(rt: &impl Eprint, code: u8, line: Option<&'static str>) -> ExitCode {
-    if let Some(line) = line {
-        let _ = rt.eprintln(line);
-    }
-    ExitCode::from(code)
 }

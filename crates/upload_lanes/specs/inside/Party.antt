@@ -1,5 +1,5 @@
 -- A recorder with the uploaders of its lanes: what each is given, and what all of them make of the lanes.
-use Rattle.std.specs.Prelude.{◌≡◌, ℕ, List, length, map, Bool, Option, Some, None, slice_get, Vec}
+use Rattle.std.specs.Prelude.{◌≡◌, ℕ, ◌+◌, List, length, map, Bool, Option, Some, None, slice_get, Vec}
 use Rattle.std.specs.Arc.{arc_value}
 use Rattle.std.specs.List.{AllByRecursion, AllZip}
 use Rattle.crossbeam_queue.specs.Passes.{Pass, view}
@@ -57,39 +57,40 @@ module _ {R : Type 0} where
     pub sending : AreSending (arc_value party.queue) party.fresh.value.items
         (map (λ handle. handle.promise) party.uploads.items)
 
-  -- and the recorder asks that
-  pub record RunsBy {H : Type 0} (halt : H) (party : Party H R) : Type 0 where
+  -- the recorder asks that, and the queue has that room
+  pub record RunsBy {H : Type 0} (halt : H) (room : ℕ) (party : Party H R) : Type 0 where
     pub running : IsRunning party
+    pub room_is : (arc_value party.queue).room ≡ room
     pub halt_is : party.recorder.promise.halt.value ≡ halt
 
   -- ---- what they make of it
 
   -- what is known of an upload by what was taken of its lane
-  abbrev pub TellsUpload : UploadState R → UploadState R → List (Item Sent) → Type 0
-  TellsUpload begun upload items = IsReadOn begun upload × IsPut items upload
+  abbrev pub TellsUpload : ℕ → UploadState R → UploadState R → List (Item Sent) → Type 0
+  TellsUpload more begun upload items = IsReadOn begun upload × IsPut more items upload
 
   abbrev pub with_upload : List ℕ × LaneResult R → UploadState R → List ℕ × LaneResult R
   with_upload lane upload = (lane.0, record lane.1 { upload = Some upload })
 
-  -- this lane has its upload, by what was taken of it
-  pub record IsJoined (promises : List (Uploads R)) (got : List (Item Sent)) (k : ℕ)
+  -- this lane has its upload, by what was taken of it of a queue of so much room
+  pub record IsJoined (room : ℕ) (promises : List (Uploads R)) (got : List (Item Sent)) (k : ℕ)
       (old new : List ℕ × LaneResult R) : Type 0 where
     pub promise : Uploads R
     pub promise_at : slice_get promises k ≡ Some promise
     pub upload : UploadState R
-    pub told : TellsUpload promise.upload.value upload (of_lane k got)
+    pub told : TellsUpload (room + 1) promise.upload.value upload (of_lane k got)
     pub lane_is : new ≡ with_upload old upload
 
-  pub record AreJoined (promises : List (Uploads R)) (got : List (Item Sent))
+  pub record AreJoined (room : ℕ) (promises : List (Uploads R)) (got : List (Item Sent))
       (old new : List (List ℕ × LaneResult R)) : Type 0 where
     pub count : length new ≡ length old
     pub each : (k : ℕ) (lane lane' : List ℕ × LaneResult R) → slice_get old k ≡ Some lane
-        → slice_get new k ≡ Some lane' → IsJoined promises got k lane lane'
+        → slice_get new k ≡ Some lane' → IsJoined room promises got k lane lane'
 
   -- One recorder took this of these lanes, and stopped so.
-  pub record TakesByOne (allows : ℕ → Bool → Type 0) (fresh lanes : List (List ℕ × LaneResult R))
+  pub record TakesByOne (allows : ℕ → Bool → Type 0) (more : ℕ) (fresh lanes : List (List ℕ × LaneResult R))
       (stop : Stop) : Type 0 where
-    pub each : AllZip TakesLane fresh lanes
+    pub each : AllZip (TakesLane more) fresh lanes
     pub stops : Stops allows lanes stop
 
   -- ---- the parties of all recorders
@@ -110,4 +111,5 @@ module _ {R : Type 0} where
   -- what a party takes of its lanes
   abbrev pub TakesParty : {H : Type 0} → (H → ℕ → Bool → Type 0) → Party H R → List (List ℕ × LaneResult R) → Stop
       → Type 0
-  TakesParty allows party = TakesByOne (allows party.recorder.promise.halt.value) party.fresh.value.items
+  TakesParty allows party = TakesByOne (allows party.recorder.promise.halt.value) ((arc_value party.queue).room + 2)
+      party.fresh.value.items

@@ -73,10 +73,11 @@ module _ {R : Type 0} where
     pub all : bodies put ≡ map One now.given
     pub marked : AllByRecursion IsMarked put
 
-  -- what was put is the front of what is sent of the upload
-  pub record IsPut (put : List (Item Sent)) (now : UploadState R) : Type 0 where
+  -- what was put is the front of what is sent of the upload, which is so many items more at the most
+  pub record IsPut (more : ℕ) (put : List (Item Sent)) (now : UploadState R) : Type 0 where
     pub rest : List Sent
     pub front : sent_items now.given now.ending ≡ bodies put ++ rest
+    pub few : length rest ≤ more
     pub marked : AllByRecursion IsMarked put
 
   -- what an uploader hands back of that lane of the queue
@@ -84,4 +85,4 @@ module _ {R : Type 0} where
     pub of : IsPassOf queue done.putter
     pub lane_is : (view done.putter).lane ≡ lane
     pub read : IsReadOn begun done.upload
-    pub put : IsPut (view done.putter).put done.upload
+    pub put : IsPut 1 (view done.putter).put done.upload

@@ -19,7 +19,6 @@ use Rattle.warp_server.specs.Headline.{HeadlineOfRounds}
 use Rattle.warp_run.specs.Report.{report_text}
 use Rattle.warp_run.specs.Run.{fresh_lines, IsReadOf}
 use Rattle.warp_server.specs.Rounds.{GathersRound}
-use Rattle.warp_run.specs.Intake.{IsUnopened}
 use Rattle.warp_run.specs.Shortage.{status_of}
 use Rattle.warp_run.specs.declared.status.Status.{Status}
 use Rattle.warp_run.specs.declared.status.Status.TheVariants.{Done, BadSite, BadHello, OutOfMemory, InputOutput}
@@ -39,7 +38,7 @@ abbrev pub sayings : {C R : Type 0} → (R → R → List Answer → Type 0) →
     → (C → R → C → Type 0) → Sayings C R
 sayings was_read brings nobody takes = record { was_read = was_read; brings = brings; nobody = nobody; takes = takes }
 
--- Callers that say nothing, as connections: what one gives isn't known, but what was read of it.
+-- Callers that say nothing, as connections: no contract knows what came of them.
 abbrev pub silent : {R : Type 0} → (R → R → List Answer → Type 0) → Sayings (Unit {0}) R
 silent was_read = sayings was_read (λ _ _ _. ⊤) (λ _ _. ⊤) (λ _ _ _. ⊤)
 
@@ -173,11 +172,3 @@ module _ {C R : Type 0} (says : Sayings C R) (site : Site) (lanes rounds : ℕ) 
     Serves InputOutput = (WritesNothing call × NoFurtherRound now InputOutput)
         ⊎ ((status : Status) × (text : List ℕ) × HasServed now status text × TakesPart call text)
     Serves BadSite = ⊥
-
--- ---- a listener
-
--- so it ended, or some site was served to connections
-abbrev pub Listens : {R : Type 0} → (R → R → List Answer → Type 0) → ℕ → ℕ → CallWrites → Status → Type 0
-Listens was_read lanes rounds call status =
-    (IsUnopened status × WritesNothing call)
-    ⊎ ((site : Site) × Serves (silent was_read) site lanes rounds tt tt call status)

@@ -11,6 +11,7 @@ ghost use Rattle.warp_run.specs.Conclusion.{repaired_site, site_settled};
 ghost use Rattle.warp_server.specs.Answer.{IsNoAnswer};
 ghost use Rattle.warp_server.specs.declared.program.answering.AnswerFault.TheVariants.{NoMemory};
 ghost use Rattle.warp_server.specs.Headline.{Headline};
+ghost use Rattle.warp_server.specs.Rounds.{server_room};
 ghost use Rattle.warp_run.specs.Report.{WritesReport, report_text};
 
 use byte_streams::{Sink, Source};
@@ -24,11 +25,8 @@ use upload_lanes::{GatherFault, Gathered, RefusedRound, gather_again};
 use upload_reader::Upload;
 use warp_run::{Concluded, Repaired, ReportFault, conclude};
 
-/// The room that `gather_again` is given for one client. It makes no queue then: what is read is recorded on the same thread.
-const ROOM_FOR_ONE: usize = 64;
-
 /// How many messages wait in each queue of a round of several clients, at the most. At a smaller one uploaders stop too often.
-const ROOM_FOR_SEVERAL: usize = 1_024;
+const ROOM: usize = 1_024;
 
 /// What became of uploads.
 #[derive(Drop)]
@@ -73,7 +71,8 @@ pub fn answer<R: Source + Drop + Send, W: Sink, T: AllocGlobal + Threads + Wait 
         uploads.items answered.gathered answered.repaired) }
 
     // The same to the letter: what each step made of what the one before gave.
-    ensures gathered { IfOk result (λ answered. GathersFirst never uploads.items (site_quota site.now) answered.gathered) }
+    ensures gathered { IfOk result (λ answered.
+        GathersFirst never server_room uploads.items (site_quota site.now) answered.gathered) }
     ensures repaired { IfOk result (λ answered. answered.repaired ≡ site_settled site.now answered.gathered) }
     ensures report { IfOk result (λ answered. WritesReport (writes_of W.puts W.contents writer.old writer.new)
         (report_text answered.repaired) answered.report) }
@@ -103,21 +102,17 @@ pub(crate) fn take_to_ends<R: Source + Drop + Send, T: AllocGlobal + Threads + W
     quota: Quota,
 ) -> Result<Gathered<R>, RefusedRound<R>>
     requires untouched { AllByRecursion IsUntouched uploads.items }
-    ensures ok { IfOk result (Gathers never earlier uploads.items quota) }
+    ensures ok { IfOk result (Gathers never server_room earlier uploads.items quota) }
     ensures refused { IfErr result (RefusesRound earlier uploads.items) }
 {
-    let room = room_for(uploads.len());
-    Ok(gather_again(rt, earlier, uploads, quota, room, &|_items: u64| false)?)
+    Ok(gather_again(rt, earlier, uploads, quota, room(), &|_items: u64| false)?)
 }
 
-// As much as a queue holds where so many clients upload.
-fn room_for(uploads: usize) -> Room {
-    let items = if uploads == 1 {
-        ROOM_FOR_ONE
-    } else {
-        ROOM_FOR_SEVERAL
-    };
-    let Ok(room) = Room::new(items) else {
+// As much as a queue holds.
+fn room() -> Room
+    ensures { result ≡ server_room }
+{
+    let Ok(room) = Room::new(ROOM) else {
         unreachable!()
     };
     room

@@ -2,7 +2,8 @@
 ghost use Rattle.std.specs.Prelude.{IfSome, IfNone};
 
 /// Callers that come one after another, each with the source of an upload, and are given it back when its round is over. Contracts see what they say of
-/// themselves by three relations, each between what they were before a call and what they are behind it.
+/// themselves by three relations, each between what they were before a call and what they are behind it. So as much is known of who came as these say: of a
+/// list of known uploads, whose `accept` gives the next, which uploads each round had, and with them each client's log; of connections nothing.
 pub trait Callers {
     /// What an upload is read from.
     type Reader;

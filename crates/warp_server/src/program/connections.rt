@@ -33,13 +33,50 @@ impl<S: Read + Send + Drop, L: OpenListener<Stream = S>> Callers for Connections
         ensures brought { IfSome result (λ _. ⊤) }
         ensures none { IfNone result ⊤ }
     {
-        match self.listener.accept() {
-            Ok((connection, _)) => Some(Fed::new(connection)),
-            Err(_) => None,
-        }
+        accepted(self.listener)
     }
 
     fn take_back(&mut self, _reader: Fed<S>)
         ensures { ⊤ }
     {}
+}
+
+/// A port of this machine, whose connections are the callers. Likewise nothing is said of it.
+#[derive(Drop)]
+pub(crate) struct Port<L> {
+    pub listener: L,
+}
+
+impl<L> Model for Port<L> {
+    ghost Value = { Unit {0} };
+
+    ghost view = { λ _. tt };
+}
+
+impl<S: Read + Send + Drop, L: OpenListener<Stream = S>> Callers for Port<L> {
+    type Reader = Fed<S>;
+
+    ghost brings = { λ _ _ _. ⊤ };
+
+    ghost brings_none = { λ _ _. ⊤ };
+
+    ghost takes_back = { λ _ _ _. ⊤ };
+
+    fn accept(&mut self) -> Option<Fed<S>>
+        ensures brought { IfSome result (λ _. ⊤) }
+        ensures none { IfNone result ⊤ }
+    {
+        accepted(&self.listener)
+    }
+
+    fn take_back(&mut self, _reader: Fed<S>)
+        ensures { ⊤ }
+    {}
+}
+
+fn accepted<S: Read, L: OpenListener<Stream = S>>(listener: &L) -> Option<Fed<S>> {
+    match listener.accept() {
+        Ok((connection, _)) => Some(Fed::new(connection)),
+        Err(_) => None,
+    }
 }

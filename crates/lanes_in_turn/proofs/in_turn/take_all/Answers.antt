@@ -1,4 +1,6 @@
-use Rattle.std.proofs.Common.{◌≡◌, ◌+◌, take, length, refl, sym, ◌∙◌, arith}
+use Rattle.std.proofs.Common.{◌≡◌, ◌+◌, ◌<◌, subst, take, length, refl, sym, ◌∙◌, arith}
+use Rattle.std.proofs.lemmas.Option.{slice_get-get_or}
+use Rattle.std.specs.Prelude.{IsSomeAnd}
 use Rattle.lanes_in_turn.specs.Round.{entries_of}
 use Rattle.lanes_in_turn.specs.inside.{none}
 use Rattle.lanes_in_turn.proofs.RoundLaws.{lanes_begun, lanes_asked, entries_more, only_there}
@@ -15,7 +17,9 @@ returns-then-is_err g c = λ known quota uploads untouched is. record {
       let seen = entries_of (take c.loop-k.k-index c.args.schedule.now) in
       lanes_asked known quota uploads seen seen _ _ c.take_at.new.lanes (λ j. refl) (only_there c.args.schedule.now c.loop-k.k-index c.loop-k-test.true)
       (when_err c.take_at.result _ (sym c.is_err.ensures.value ∙ c.if-is_err.true) c.take_at.ensures.refused known quota uploads _ (c.loop-k.invariant.lanes known quota uploads untouched is));
-  stop_is = c.loop-k-test.true;
+  stop_is =
+      subst (λ entry. IsSomeAnd entry (λ lane. lane < length c.take_at.new.lanes)) (sym (slice_get-get_or c.args.schedule.now c.loop-k.k-index 0 c.loop-k-test.true))
+      (when_err c.take_at.result _ (sym c.is_err.ensures.value ∙ c.if-is_err.true) c.take_at.ensures.there);
 }
 
 pub loop-k-preserved : goal.loop-k-preserved

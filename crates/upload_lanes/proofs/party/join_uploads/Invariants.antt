@@ -8,7 +8,7 @@ abbrev pub invariant-loop-handle : goal.invariant-loop-handle
 invariant-loop-handle g l =
     IsPassOf l.queue l.taker
     × ((view l.taker).got ≡ (view l.fn.taker).got)
-    × IsJoining (map (λ handle. handle.promise) l.fn.handles.items) (map (λ handle. handle.promise) l.handles.items) (view l.fn.taker).got l.fn.lanes l.lanes
+    × IsJoining l.queue.room (map (λ handle. handle.promise) l.fn.handles.items) (map (λ handle. handle.promise) l.handles.items) (view l.fn.taker).got l.fn.lanes l.lanes
 
 abbrev pub decreases-loop-handle : goal.decreases-loop-handle
 decreases-loop-handle g l = length l.handles.items

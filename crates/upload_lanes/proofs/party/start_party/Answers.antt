@@ -34,5 +34,6 @@ returns-in_ok-recorder-in-Ok-clause-runs g c =
         sending = subst (λ lanes. AreSending (arc_value c.in_ok-queue-in-Ok.queue) lanes.items (map (λ handle. handle.promise) c.in_ok-lanes-in-Ok.field-0.uploads.items)) fresh
             c.in_ok-lanes-in-Ok.ensures.sending;
       };
+      room_is = ap (λ queue. queue.room) c.in_ok-queue-in-Ok.ensures.ok ∙ c.in-Ok.ensures.opened.1.room_is;
       halt_is = c.in_ok-recorder-in-Ok.ensures.halt;
     }

@@ -1,9 +1,9 @@
-use Rattle.std.proofs.Common.{ℕ, Bool, ap, arith, bytes_eq, length, map, subst, sym, ◌∙◌}
+use Rattle.std.proofs.Common.{ℕ, ◌+◌, Bool, ap, arith, bytes_eq, length, map, subst, sym, ◌∙◌}
 use Rattle.std.proofs.lemmas.List.{length-map}
 use Rattle.indexmap.specs.IndexMap.{get, insert_all}
 use Rattle.lanes_in_turn.specs.Round.{AreRoundLanes, IsNoRound, without_lanes}
 use Rattle.lanes_in_turn.specs.Taking.{begun_lane, TakesLane}
-use Rattle.upload_lanes.specs.Threads.{AreTaken}
+use Rattle.upload_lanes.specs.Threads.{read_ahead, AreTaken}
 use Rattle.upload_lanes.proofs.Zips.{zip_length}
 use Rattle.upload_lanes.proofs.threads.gather_again.Goals as goal
 
@@ -18,7 +18,7 @@ take_lanes-requires-clause-lanes g c = λ κs within.
 pub end_round-requires-clause-room : goal.end_round-requires-clause-room
 end_round-requires-clause-room g c = λ κs within.
     let begun = c.in_ok-earlier.ensures.begun in
-    let size = zip_length TakesLane c.in_ok-earlier.field-0.lanes.items c.in-Ok.lanes.items c.in-Ok.ensures.lanes_are in
+    let size = zip_length (TakesLane (read_ahead c.args.room (length c.in_ok-earlier.field-0.lanes.items))) c.in_ok-earlier.field-0.lanes.items c.in-Ok.lanes.items c.in-Ok.ensures.lanes_are in
     omega (arith, size, begun.room)
 
 pub returns-in-Ok-clause-ok : goal.returns-in-Ok-clause-ok
@@ -28,8 +28,9 @@ returns-in-Ok-clause-ok g c =
     record {
       is_round = begun.is_round;
       lanes = lanes;
-      taken = subst (AreTaken allows (map (begun_lane known c.args.quota) c.args.uploads.items) lanes) (sym c.end_round.ensures.stop)
-          (subst (λ fresh. AreTaken allows fresh lanes c.in-Ok.stop) begun.lanes_are c.in-Ok.ensures);
+      taken = subst (AreTaken allows (read_ahead c.args.room (length c.args.uploads.items)) (map (begun_lane known c.args.quota) c.args.uploads.items) lanes) (sym c.end_round.ensures.stop)
+          (subst (λ n. AreTaken allows (read_ahead c.args.room n) (map (begun_lane known c.args.quota) c.args.uploads.items) lanes c.in-Ok.stop) (length-map c.args.uploads.items (begun_lane known c.args.quota))
+          (subst (λ fresh. AreTaken allows (read_ahead c.args.room (length fresh)) fresh lanes c.in-Ok.stop) begun.lanes_are c.in-Ok.ensures));
       clients_are = c.end_round.ensures.clients ∙ ap (λ entries. insert_all bytes_eq (without_lanes entries) lanes) begun.clients;
     }
 

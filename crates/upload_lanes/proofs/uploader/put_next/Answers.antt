@@ -24,7 +24,7 @@ returns-in-Over-clause-read g c = λ begun before.
 
 pub returns-in-Over-clause-put : goal.returns-in-Over-clause-put
 returns-in-Over-clause-put g c =
-    subst (λ more. MatchBool more (IsPutting (view c.end_lane.new.putter).put c.next.new.self) (IsPut (view c.end_lane.new.putter).put c.next.new.self)) (sym c.end_lane.ensures.over)
+    subst (λ more. MatchBool more (IsPutting (view c.end_lane.new.putter).put c.next.new.self) (IsPut 1 (view c.end_lane.new.putter).put c.next.new.self)) (sym c.end_lane.ensures.over)
     (put_last c.args.upload.now (view c.args.putter.now) (view c.end_lane.new.putter) c.requires.putting c.next.new.self (ending.Over c.in-Over.end) c.end_lane.ensures.sent.0
     (ap (λ upload. upload.given) c.in-Over.ensures.given) (ap (λ upload. upload.ending) c.in-Over.ensures.given) c.end_lane.ensures.sent.1)
 
@@ -34,6 +34,6 @@ returns-in-GaveUp-clause-read g c = λ begun before.
 
 pub returns-in-GaveUp-clause-put : goal.returns-in-GaveUp-clause-put
 returns-in-GaveUp-clause-put g c =
-    subst (λ more. MatchBool more (IsPutting (view c.end_lane-in-GaveUp.new.putter).put c.next.new.self) (IsPut (view c.end_lane-in-GaveUp.new.putter).put c.next.new.self)) (sym c.end_lane-in-GaveUp.ensures.over)
+    subst (λ more. MatchBool more (IsPutting (view c.end_lane-in-GaveUp.new.putter).put c.next.new.self) (IsPut 1 (view c.end_lane-in-GaveUp.new.putter).put c.next.new.self)) (sym c.end_lane-in-GaveUp.ensures.over)
     (put_last c.args.upload.now (view c.args.putter.now) (view c.end_lane-in-GaveUp.new.putter) c.requires.putting c.next.new.self ending.GaveUp c.end_lane-in-GaveUp.ensures.sent.0
     (ap (λ upload. upload.given) c.in-GaveUp.ensures.given) (ap (λ upload. upload.ending) c.in-GaveUp.ensures.given) c.end_lane-in-GaveUp.ensures.sent.1)

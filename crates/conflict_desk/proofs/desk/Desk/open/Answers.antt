@@ -3,6 +3,7 @@ use Rattle.conflict_desk.specs.Laws.{IsInOrder, IsSteady}
 use Rattle.conflict_desk.proofs.Books.{all_opened}
 use Rattle.conflict_desk.proofs.Leaving.{all_leave}
 use Rattle.conflict_desk.proofs.Staying.{all_stay}
+use Rattle.conflict_desk.proofs.Isolation.{isolated}
 use Rattle.conflict_desk.proofs.desk.Desk.open.Goals as goal
 
 pub returns-clause-opened : goal.returns-clause-opened
@@ -26,3 +27,6 @@ returns-clause-stay c =
     (sym (all_opened c.loop-docket.open.entries rest.items c.into_iter-docket-iterator.result.rest.items c.args.dockets.items c.loop-docket.invariant.entries (sym rest.ok.0 ∙ c.in-None.ensures.steps.0)
     c.into_iter-docket-iterator.ensures.into_iter_gives.0 c.requires.clients))
     (all_stay c.args.dockets.items c.requires.visits)
+
+pub returns-clause-apart : goal.returns-clause-apart
+returns-clause-apart c = isolated _

@@ -3,6 +3,7 @@ use Rattle.lanes_in_turn.specs.Round.{IsNoRound}
 use Rattle.upload_lanes.specs.Threads.{Gathers}
 use Rattle.byte_streams.specs.Reading.{WasRead}
 use Rattle.lanes_in_turn.specs.Taking.{never}
+use Rattle.warp_server.specs.Rounds.{server_room}
 use Rattle.warp_server.specs.program.Callers.{sayings, OneByOne, GivesBack}
 use Rattle.warp_server.proofs.RoundSteps.{all_untouched}
 use Rattle.warp_server.proofs.program.rounds.gather_round.Goals as goal
@@ -19,7 +20,7 @@ returns-in-Ok-clause-ok g c = (
     gathers = record {
       whole = c.requires.whole;
       round = c.in-Ok.round;
-      gathers = subst (λ quota. Gathers never c.args.earlier c.in_ok-uploads.uploads.items quota c.in-Ok.round) c.quota.ensures c.in-Ok.ensures.ok;
+      gathers = subst (λ quota. Gathers never server_room c.args.earlier c.in_ok-uploads.uploads.items quota c.in-Ok.round) c.quota.ensures c.in-Ok.ensures.ok;
       clients_are = c.give_back_all.ensures.clients;
       stop_is = c.give_back_all.ensures.stop;
     };
