@@ -10,7 +10,7 @@ use Rattle.std.specs.Cmp.Lexicographic.{nat_list_eq_equiv}
 use Rattle.indexmap.specs.IndexMap.{insert_all, set_value_at}
 use Rattle.indexmap.proofs.MapLemmas.{insert_entry-first, insert_entry-absent, absent_from_lookup, Found-position}
 use Rattle.conflict_desk.specs.Book.{Book, new_book, is_decided, is_cancelled, standing_by, standing_in, with_decision}
-use Rattle.conflict_desk.specs.Desk.{book_of, decided_on, decided_in, new_books}
+use Rattle.conflict_desk.specs.Desk.{book_of, decided_on, new_books}
 use Rattle.conflict_desk.specs.declared.docket.Docket.{Docket}
 use Rattle.conflict_desk.specs.declared.decided.Choice.{Choice}
 use Rattle.visit_replay.specs.declared.outcome.Outcome.{Outcome}
@@ -19,6 +19,7 @@ use Rattle.conflict_desk.specs.Laws.{IsBelowCancelled}
 use Rattle.conflict_desk.specs.declared.docket.Case.{Case}
 use Rattle.conflict_desk.specs.declared.decided.Standing.TheVariants as standing
 use Rattle.conflict_desk.proofs.Chains.{below_cancelled, cancelled_below}
+use Rattle.conflict_desk.proofs.Decisions.{decided_in}
 
 pub value_same : (books : List (List ℕ × Book)) (place : ℕ) (book : Book) → slice_get (values_of books) place ≡ Some book → set_value_at books place book ≡ books
 value_same [] place book at = refl

@@ -7,11 +7,12 @@ use Rattle.std.specs.List.{filter}
 use Rattle.std.specs.Option.{option_eq, option_map_or}
 use Rattle.indexmap.specs.IndexMap.{insert_entry}
 use Rattle.conflict_desk.specs.Book.{Book, front_visit, with_decision}
-use Rattle.conflict_desk.specs.Desk.{Books, book_of, refusal_of, decided_in, unless_refused, after_call, after_calls}
+use Rattle.conflict_desk.specs.Desk.{Books, book_of, refusal_of, after_call, after_calls}
 use Rattle.conflict_desk.specs.Laws.{IsIsolated}
 use Rattle.conflict_desk.specs.declared.decision.Decision.{Decision}
 use Rattle.conflict_desk.specs.declared.decided.Choice.{Choice}
 use Rattle.conflict_desk.specs.declared.fault.DeskFault.TheVariants.{NoClient, NotFront}
+use Rattle.conflict_desk.proofs.Decisions.{decided_in, unless_refused}
 
 same_key : (a b : List ℕ) → bytes_eq a b ≡ true → a ≡ b
 same_key a b is = (bytes_eq-Decides a b).0 is

@@ -11,14 +11,14 @@ use Rattle.conflict_desk.specs.Desk.{refusal_of}
 use Rattle.conflict_desk.specs.declared.fault.DeskFault.TheVariants.{NotFront}
 use Rattle.conflict_desk.specs.inside.Links.{Follows, AreLinks}
 use Rattle.conflict_desk.specs.inside.Settling.{Tell, IsSettled, Settles}
-use Rattle.conflict_desk.specs.inside.Kept.{cancelled_at, IsKept}
+use Rattle.conflict_desk.specs.inside.Kept.{IsKept}
 use Rattle.conflict_desk.specs.declared.docket.Case.{Case}
 use Rattle.conflict_desk.specs.declared.decided.Choice.{Choice}
 use Rattle.conflict_desk.specs.declared.links.Link.{Link}
 use Rattle.conflict_desk.proofs.Gets.{there_is, find_is, find_none}
 use Rattle.conflict_desk.proofs.Places.{in_order}
 use Rattle.conflict_desk.proofs.Chains.{decided_other, decided_now, decided_still, cancelled_before, cancelled_still, cancelled_now}
-use Rattle.conflict_desk.proofs.Ways.{at_case, cancelled_follows}
+use Rattle.conflict_desk.proofs.Ways.{cancelled_at, at_case, cancelled_follows}
 use Rattle.conflict_desk.proofs.Fronts.{tell_more}
 
 -- ---- who waits

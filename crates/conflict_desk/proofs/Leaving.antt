@@ -11,7 +11,7 @@ use Rattle.std.proofs.lemmas.List.{map-append, get_or_append_left, get_or_push, 
 use Rattle.indexmap.specs.IndexMap.{insert_entry}
 use Rattle.conflict_desk.specs.Docket.{AreAscending, case_of_visit, parent_of, is_conflict}
 use Rattle.conflict_desk.specs.Book.{Book, new_book, is_decided, is_cancelled, waits, front_visit, with_decision}
-use Rattle.conflict_desk.specs.Desk.{new_books, book_of, refusal_of, decided_in, unless_refused, after_call, after_calls}
+use Rattle.conflict_desk.specs.Desk.{new_books, book_of, refusal_of, after_call, after_calls}
 use Rattle.conflict_desk.specs.declared.decision.Decision.{Decision}
 use Rattle.conflict_desk.specs.Laws.{IsConflictOf, IsSpared, HasLeft, IsBehindNone, LeaveInOrder, AllLeaveInOrder}
 use Rattle.conflict_desk.specs.declared.docket.Case.{Case}
@@ -23,6 +23,7 @@ use Rattle.conflict_desk.proofs.Gets.{not_none, IsFirst, find_passes, find_where
 use Rattle.conflict_desk.proofs.Places.{in_order, case_at, is_of, parent_is}
 use Rattle.conflict_desk.proofs.Chains.{decided_more, decided_now, cancelled_is, cancelled_before, below_cancelled, cancelled_below}
 use Rattle.conflict_desk.proofs.Keeping.{why, no_wait, no_wait_still, waiting_parts}
+use Rattle.conflict_desk.proofs.Decisions.{decided_in, unless_refused}
 
 -- ---- lists
 

@@ -3,6 +3,7 @@ pub mod Places
 pub mod Chains
 pub mod Ways
 pub mod Fronts
+pub mod Decisions
 pub mod Keeping
 pub mod Books
 pub mod Leaving

@@ -10,7 +10,7 @@ use Rattle.visit_replay.specs.declared.outcome.Outcome.{Outcome}
 use Rattle.visit_replay.specs.declared.outcome.Outcome.TheVariants as outcome
 use Rattle.conflict_desk.specs.Docket.{AreAscending, case_of_visit}
 use Rattle.conflict_desk.specs.Book.{Book, is_decided, is_cancelled, waits, front_visit, with_decision, standing_by, standing_in}
-use Rattle.conflict_desk.specs.Desk.{book_of, refusal_of, decided_in, new_books, unless_refused, after_call, after_calls}
+use Rattle.conflict_desk.specs.Desk.{book_of, refusal_of, new_books, after_call, after_calls}
 use Rattle.conflict_desk.specs.declared.decision.Decision.{Decision}
 use Rattle.conflict_desk.specs.Laws.{IsSteady}
 use Rattle.conflict_desk.specs.declared.docket.Case.{Case}
@@ -23,6 +23,7 @@ use Rattle.conflict_desk.proofs.Gets.{not_none, IsFirst, find_passes, find_where
 use Rattle.conflict_desk.proofs.Chains.{below_cancelled, cancelled_below, decided_still, cancelled_before, cancelled_still}
 use Rattle.conflict_desk.proofs.Books.{stands_below, below_stands}
 use Rattle.conflict_desk.proofs.Leaving.{Goes, of_client, is_the_front, all_call, all_calls, all_opened}
+use Rattle.conflict_desk.proofs.Decisions.{decided_in, unless_refused}
 
 -- ---- one case, over a decision on the front
 

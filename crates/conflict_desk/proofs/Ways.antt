@@ -5,12 +5,15 @@ use Rattle.std.proofs.lemmas.Option.{slice_get-get_or}
 use Rattle.conflict_desk.specs.Docket.{AreAscending, parent_of}
 use Rattle.conflict_desk.specs.Book.{Book, is_decided, is_cancelled}
 use Rattle.conflict_desk.specs.inside.Links.{Follows, LeadsTo, AllLeadBack, IsLink, AreLinks}
-use Rattle.conflict_desk.specs.inside.Kept.{cancelled_at}
 use Rattle.conflict_desk.specs.declared.docket.Case.{Case}
 use Rattle.conflict_desk.specs.declared.links.Link.{Link}
 use Rattle.conflict_desk.proofs.Gets.{there_is, still_at, at_push, at_end}
 use Rattle.conflict_desk.proofs.Places.{before_it, parent_is}
 use Rattle.conflict_desk.proofs.Chains.{cancelled_is, undecided_stays}
+
+-- whether the visit at that place is cancelled
+abbrev pub cancelled_at : Book → ℕ → Bool
+cancelled_at book k = option_map_or (is_cancelled book) (slice_get book.cases k) false
 
 -- ---- longer lists of links
 

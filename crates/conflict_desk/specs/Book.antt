@@ -2,10 +2,11 @@
 use Rattle.std.specs.Prelude.{ℕ, zero, suc, List, [], ◌∷◌, ◌++◌, Bool, true, false, not, ◌&&◌, ◌==◌, if◌then◌else◌, Option, option_map}
 use Rattle.std.specs.List.{find, list_any}
 use Rattle.std.specs.Option.{option_map_or}
+use Rattle.visit_replay.specs.Moved.{requests_of}
 use Rattle.visit_replay.specs.declared.outcome.Outcome.{Outcome}
 use Rattle.visit_replay.specs.declared.outcome.Outcome.TheVariants as outcome
 use Rattle.visit_replay.specs.declared.requests.Request.{Request}
-use Rattle.conflict_desk.specs.Docket.{case_of_visit, parent_of, is_conflict, requests_in}
+use Rattle.conflict_desk.specs.Docket.{case_of_visit, parent_of, is_conflict}
 use Rattle.conflict_desk.specs.declared.docket.Case.{Case}
 use Rattle.conflict_desk.specs.declared.decided.Choice.{Choice}
 use Rattle.conflict_desk.specs.declared.decided.Choice.TheVariants.{Cancel, Keep}
@@ -75,7 +76,7 @@ standing_in book case =
 
 -- those of its outcome, and none of a cancelled visit
 abbrev pub standing_requests : Book → Case → List Request
-standing_requests book case = if is_cancelled book case then [] else requests_in case.outcome
+standing_requests book case = if is_cancelled book case then [] else requests_of case.outcome
 
 -- what is said of the case of that visit, where the docket has it
 abbrev pub at_visit : {T : Type 0} → (Book → Case → T) → Book → ℕ → Option T

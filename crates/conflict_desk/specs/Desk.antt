@@ -1,5 +1,5 @@
 -- What a desk answers and what a decision does: this project's own rule.
-use Rattle.std.specs.Prelude.{ℕ, nat_eq, List, if◌then◌else◌, bytes_eq, map, fold, Option, Some, None, option_and_then}
+use Rattle.std.specs.Prelude.{ℕ, nat_eq, List, if◌then◌else◌, bytes_eq, map, fold, Option, Some, None, option_map, option_and_then}
 use Rattle.std.specs.Option.{option_eq, option_map_or}
 use Rattle.std.specs.List.{IsDistinct, AllByRecursion}
 use Rattle.std.specs.Map.{lookup}
@@ -48,21 +48,16 @@ abbrev pub refusal : List ℕ → ℕ → Books → Option DeskFault
 refusal client visit books = option_map_or (refusal_of visit) (book_of client books) (Some NoClient)
 
 -- a decision more in a client's book
-abbrev pub decided_in : List ℕ → ℕ → Choice → Books → Option Book → Books
-decided_in client visit choice books None = books
-decided_in client visit choice books (Some book) = insert_entry bytes_eq books client (with_decision visit choice book)
-
 abbrev pub decided_on : List ℕ → ℕ → Choice → Books → Books
-decided_on client visit choice books = decided_in client visit choice books (book_of client books)
+decided_on client visit choice books = let found = book_of client books in
+    option_map_or (insert_entry bytes_eq books client) (option_map (with_decision visit choice) found) books
 
 -- ---- any calls
 
-abbrev pub unless_refused : Option DeskFault → Books → Books → Books
-unless_refused refused new old = option_map_or (λ _. old) refused new
-
+-- a call that is refused changes nothing
 abbrev pub after_call : Books → Decision → Books
-after_call books call =
-    unless_refused (refusal call.client call.visit books) (decided_on call.client call.visit call.choice books) books
+after_call books call = let refused = refusal call.client call.visit books in
+    option_map_or (λ _. books) refused (decided_on call.client call.visit call.choice books)
 
 abbrev pub after_calls : Books → List Decision → Books
 after_calls books calls = fold after_call books calls

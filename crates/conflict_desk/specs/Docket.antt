@@ -1,10 +1,9 @@
 -- A client's docket: what became of its visits, in the order of their numbers.
-use Rattle.std.specs.Prelude.{ℕ, List, [], Bool, true, false, ◌&&◌, ◌==◌, if◌then◌else◌, nat_lt, map, Option, None}
+use Rattle.std.specs.Prelude.{ℕ, List, Bool, true, false, ◌&&◌, ◌==◌, if◌then◌else◌, nat_lt, map, Option, None}
 use Rattle.std.specs.List.{find}
 use Rattle.std.specs.List.Sorted.{IsStrictlyIncreasing}
 use Rattle.visit_replay.specs.declared.outcome.Outcome.{Outcome}
-use Rattle.visit_replay.specs.declared.outcome.Outcome.TheVariants.{Untouched, Done, Conflict}
-use Rattle.visit_replay.specs.declared.requests.Request.{Request}
+use Rattle.visit_replay.specs.declared.outcome.Outcome.TheVariants.{Conflict}
 use Rattle.conflict_desk.specs.declared.docket.Case.{Case}
 
 -- each visit's number is below the next one's
@@ -24,8 +23,3 @@ parent_of cases case =
 abbrev pub is_conflict : Outcome → Bool
 is_conflict (Conflict requests at kind) = true
 is_conflict _ = false
-
-abbrev pub requests_in : Outcome → List Request
-requests_in Untouched = []
-requests_in (Done requests) = requests
-requests_in (Conflict requests at kind) = requests

@@ -32,8 +32,7 @@ IsConflictOf cases decided = IsSomeAnd (case_of_visit cases decided.visit) (λ c
 
 -- no visit above the decided one on its chain of parents was cancelled by a decision, be it an earlier or a later one
 abbrev pub IsSpared : Book → Decided → Type 0
-IsSpared book decided =
-    (case parent : Case) → case_of_visit book.cases decided.visit ≡ Some case
+IsSpared book decided = (case parent : Case) → case_of_visit book.cases decided.visit ≡ Some case
     → parent_of book.cases case ≡ Some parent → ¬ IsBelowCancelled book parent
 
 -- a conflict that left: it was decided, or a visit above it was cancelled
@@ -72,8 +71,7 @@ IsSteady books =
 
 -- Each client's decisions are made by themselves: behind any calls its book is the one behind its own calls alone.
 abbrev pub IsIsolated : Books → Type 0
-IsIsolated books =
-    (calls : List Decision) (client : List ℕ) → book_of client (after_calls books calls)
+IsIsolated books = (calls : List Decision) (client : List ℕ) → book_of client (after_calls books calls)
     ≡ book_of client (after_calls books (filter (λ call. bytes_eq client call.client) calls))
 
 -- a visit stands cancelled exactly where it, or a visit on its chain of parents, was cancelled by a decision

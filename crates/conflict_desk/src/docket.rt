@@ -1,7 +1,8 @@
 //! Dockets: what became of a client's visits.
 ghost use Rattle.std.specs.Prelude.{◌≡◌, ◌↔◌, true, ◌<◌, ◌++◌, [], ◌∷◌, length, slice_get, option_and_then, bytes_eq, OnOk, OnErr, IfSome};
 ghost use Rattle.std.specs.List.{list_any};
-ghost use Rattle.conflict_desk.specs.Docket.{AreAscending, case_of_visit, parent_of, is_conflict, requests_in};
+ghost use Rattle.visit_replay.specs.Moved.{requests_of};
+ghost use Rattle.conflict_desk.specs.Docket.{AreAscending, case_of_visit, parent_of, is_conflict};
 ghost use Rattle.conflict_desk.specs.Desk.{AreDockets};
 
 use page_tree::NoMemory;
@@ -31,7 +32,7 @@ impl Case {
     }
 
     pub(crate) fn requests(&self) -> &[Request]
-        ensures { result.now ≡ requests_in self.now.outcome }
+        ensures { result.now ≡ requests_of self.now.outcome }
     {
         match &self.outcome {
             Outcome::Untouched => &[],

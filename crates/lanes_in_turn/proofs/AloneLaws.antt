@@ -8,7 +8,7 @@ use Rattle.lanes_in_turn.proofs.Counts.{one_lesser}
 use Rattle.lanes_in_turn.proofs.RoundLaws.{lane_begun}
 use Rattle.lanes_in_turn.specs.Lane.{IsTaken}
 use Rattle.lanes_in_turn.specs.Round.{IsTakenInTurn}
-use Rattle.lanes_in_turn.specs.Taking.{items_in, items_of, items_taken, refused_by, Stops, IsFreshLane, TakesLane}
+use Rattle.lanes_in_turn.specs.Taking.{items_in, items_taken, refused_by, Stops, IsFreshLane, TakesLane}
 use Rattle.lanes_in_turn.specs.inside.{HasFewTaken}
 use Rattle.lanes_in_turn.specs.declared.gathered.LaneResult.{LaneResult}
 use Rattle.lanes_in_turn.specs.declared.gathered.Stop.{Stop}
@@ -63,16 +63,16 @@ module _ {R : Type 0} where
         let same = some_only way.in_turn.is_taken.now now (sym way.in_turn.is_taken.upload_is ∙ is) in
         subst (λ upload. lane.1.taken ≤ length upload.given) same way.in_turn.is_taken.some
 
-    -- where one message at the most was given that isn't recorded
-    pub takes_so : (new : LaneResult R) (ahead : ℕ) → ahead ≤ 1 → IsTakenInTurn first.1.log way.begun items ahead new → TakesLane 1 first (lane.0, new)
-    takes_so new ahead one turn = let taken = turn.is_taken in record {
+    -- where so many messages were given that aren't recorded
+    pub takes_so : (new : LaneResult R) (ahead : ℕ) → IsTakenInTurn first.1.log way.begun items ahead new → TakesLane ahead first (lane.0, new)
+    takes_so new ahead turn = let taken = turn.is_taken in record {
       client = way.client;
-      ahead = λ now is. subst (λ upload. length upload.given ≤ new.taken + 1) (some_only taken.now now (sym taken.upload_is ∙ is)) (omega (arith, turn.ahead_is, one));
+      ahead = λ now is. subst (λ upload. length upload.given ≤ new.taken + ahead) (some_only taken.now now (sym taken.upload_is ∙ is)) (omega (arith, turn.ahead_is));
       is_taken = λ begun is. subst (λ upload. IsTaken first.1.log upload new) (some_only way.begun begun (sym way.begun_is ∙ is)) taken;
     }
 
     size : (stop : Stop) → items_taken (lane ∷ []) stop ≡ items + refused_by stop
-    size stop = let all = sum_by-cons items_of lane [] in omega (arith, all, way.count)
+    size stop = let all = sum_by-cons (λ l. items_in l.1) lane [] in omega (arith, all, way.count)
 
     -- where it stops behind items that were all recorded
     pub stops_none : is_some lane.1.end ≡ true → Stops allows (lane ∷ []) stops.None
@@ -108,7 +108,7 @@ module _ {R : Type 0} where
     stops_refused new turn taken end going answer =
         let same : items_in new ≡ items_in lane.1 = ap (λ e. new.taken + (if is_some e then 1 else 0)) end ∙ ap (λ n. n + (if is_some lane.1.end then 1 else 0)) taken in
         record {
-          lesser = λ n less. one_lesser (λ m. allows m false) items way.lesser answer n (omega (arith, less, same, way.count, sum_by-cons items_of (lane.0, new) []));
+          lesser = λ n less. one_lesser (λ m. allows m false) items way.lesser answer n (omega (arith, less, same, way.count, sum_by-cons (λ (l : List ℕ × LaneResult R). items_in l.1) (lane.0, new) []));
           asked = λ is. cc;
           ended = ap (λ b. b && true) (ap is_some end ∙ going);
           refused = λ is. (0, (lane.0, new), refl, record { upload = turn.is_taken.now; upload_is = turn.is_taken.upload_is; more = omega (arith, turn.ahead_is) });

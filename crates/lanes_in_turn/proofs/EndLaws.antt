@@ -6,7 +6,7 @@ use Rattle.upload_reader.specs.declared.ending.Ending.{Ending}
 use Rattle.client_log.specs.Client.{OfClient}
 use Rattle.indexmap.specs.IndexMap.{insert_entry}
 use Rattle.upload_reader.specs.Upload.{UploadState}
-use Rattle.lanes_in_turn.specs.Taking.{never, IsGatheredAlone, new_lane, Stops, TakesLane}
+use Rattle.lanes_in_turn.specs.Taking.{never, refused_by, IsGatheredAlone, new_lane, Stops, TakesLane}
 use Rattle.lanes_in_turn.specs.Round.{new_log}
 use Rattle.lanes_in_turn.specs.declared.gathered.Gathered.{Gathered}
 use Rattle.lanes_in_turn.specs.declared.gathered.LaneResult.{LaneResult}
@@ -33,12 +33,12 @@ module _ {R : Type 0} (upload : UploadState R) (quota : ℕ) (client copied : Li
   fresh_is client_is copied_is log_is is = rw (is, log_is, copied_is, client_is) refl
 
   pub gathered_alone : (lane : List ℕ × LaneResult R) (gathered : Gathered R) → client ≡ upload.client → copied ≡ client → log ≡ new_log quota copied
-      → fresh ≡ new_lane log upload → TakesLane 1 (client, fresh) lane → Stops never (lane ∷ []) gathered.stop → gathered.clients.entries ≡ insert_entry bytes_eq [] lane.0 lane.1
+      → fresh ≡ new_lane log upload → TakesLane (refused_by gathered.stop) (client, fresh) lane → Stops never (lane ∷ []) gathered.stop → gathered.clients.entries ≡ insert_entry bytes_eq [] lane.0 lane.1
       → IsGatheredAlone upload quota gathered
   gathered_alone lane gathered client_is copied_is log_is is takes so entries = record {
     lane = lane.1;
     entries_are = entries ∙ ap (λ name. (name, lane.1) ∷ []) (takes.client ∙ client_is);
-    is_taken = (subst (λ first. TakesLane 1 first lane) (fresh_is client_is copied_is log_is is) takes).is_taken upload refl;
+    is_taken = (subst (λ first. TakesLane (refused_by gathered.stop) first lane) (fresh_is client_is copied_is log_is is) takes).is_taken upload refl;
     ahead = takes.ahead;
     ends = ended_by lane gathered.stop so;
   }

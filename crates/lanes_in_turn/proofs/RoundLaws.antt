@@ -23,9 +23,13 @@ use Rattle.lanes_in_turn.proofs.LaneSteps.{continues_none}
 use Rattle.lanes_in_turn.specs.Lane.{NotOver}
 use Rattle.lanes_in_turn.specs.Round.{has_twice, clients_of, log_before, resumed_upload, without_lane, entries_of, ahead_of, IsAsked, IsTakenInTurn, IsLaneInTurn, AreTakenInTurn, without_lanes}
 use Rattle.lanes_in_turn.specs.Taking.{begun_lane}
-use Rattle.lanes_in_turn.specs.inside.{HasFewTaken, HaveFewTaken, one_more, only, none}
+use Rattle.lanes_in_turn.specs.inside.{HasFewTaken, HaveFewTaken, one_more, only}
 use Rattle.lanes_in_turn.specs.declared.gathered.Stop.TheVariants as stop
 use Rattle.lanes_in_turn.specs.declared.gathered.LaneResult.{LaneResult}
+
+-- none for any lane
+abbrev pub none : ℕ → ℕ
+none lane = 0
 
 pub pick_true : {A : Type 0} (b : Bool) (x y : A) → b ≡ true → (if b then x else y) ≡ x
 pick_true true x y is = refl

@@ -53,16 +53,14 @@ new_log quota client = record { client = client; quota = quota; log = empty_log;
 module _ {R : Type 0} where
   -- the log before, of a client of which this is known
   abbrev pub log_before : ℕ → UploadState R → Option (LaneResult R) → OfClient
-  log_before quota upload None = new_log quota upload.client
-  log_before quota upload (Some known) = known.log
+  log_before quota upload known = option_map_or (λ lane. lane.log) known (new_log quota upload.client)
 
   -- its upload, behind the session of that log
   abbrev pub behind_log : OfClient → UploadState R → UploadState R
   behind_log log upload = record upload { lane = record upload.lane { earlier = log.session } }
 
   abbrev pub resumed_upload : UploadState R → Option (LaneResult R) → UploadState R
-  resumed_upload upload None = upload
-  resumed_upload upload (Some known) = behind_log known.log upload
+  resumed_upload upload known = option_map_or (λ lane. behind_log lane.log upload) known upload
 
   -- a client that has no lane in this round
   abbrev pub without_lane : LaneResult R → LaneResult R

@@ -74,11 +74,8 @@ module _ {R : Type 0} where
   abbrev pub items_in : LaneResult R → ℕ
   items_in lane = lane.taken + (if is_some lane.end then 1 else 0)
 
-  abbrev pub items_of : List ℕ × LaneResult R → ℕ
-  items_of lane = items_in lane.1
-
   abbrev pub items_taken : List (List ℕ × LaneResult R) → Stop → ℕ
-  items_taken lanes stop = sum_by items_of lanes + refused_by stop
+  items_taken lanes stop = sum_by (λ lane. items_in lane.1) lanes + refused_by stop
 
   -- more was given than was recorded
   pub record GaveMore (lane : LaneResult R) : Type 0 where
@@ -101,5 +98,5 @@ module _ {R : Type 0} where
     pub lane : LaneResult R
     pub entries_are : gathered.clients.entries ≡ (upload.client, lane) ∷ []
     pub is_taken : IsTaken (new_log quota upload.client) upload lane
-    pub ahead : GaveFewMore 1 lane
+    pub ahead : GaveFewMore (refused_by gathered.stop) lane
     pub ends : ((gathered.stop ≡ kind.None) × IsSome lane.end) ⊎ ((gathered.stop ≡ kind.Memory) × (lane.end ≡ None))

@@ -11,12 +11,9 @@ use Rattle.lanes_in_turn.specs.declared.gathered.Stop.{Stop}
 abbrev pub one_more : ℕ → (ℕ → ℕ) → ℕ → ℕ
 one_more k asked j = if k == j then asked j + 1 else asked j
 
--- one for that lane, and none for another
+-- one for that lane, none for another
 abbrev pub only : ℕ → ℕ → ℕ
 only k j = if k == j then 1 else 0
-
-abbrev pub none : ℕ → ℕ
-none j = 0
 
 module _ {R : Type 0} where
   -- no more were taken than its upload gave
@@ -31,7 +28,8 @@ module _ {R : Type 0} where
       → Type 0
   AskLanes further ahead old new =
       (known : List ℕ → Option (LaneResult R)) (quota : ℕ) (uploads : List (UploadState R)) (asked : ℕ → ℕ)
-      → AreTakenInTurn known quota uploads asked none old → AreTakenInTurn known quota uploads (further asked) ahead new
+      → AreTakenInTurn known quota uploads asked (λ _. 0) old
+      → AreTakenInTurn known quota uploads (further asked) ahead new
 
   -- what is taken in turn of lanes of which nothing was taken, whatever is known of their clients
   abbrev pub FollowsSchedule : List ℕ → List (List ℕ × LaneResult R) → List (List ℕ × LaneResult R) → Stop → Type 0

@@ -3,7 +3,7 @@ ghost use Rattle.std.specs.Prelude.{ℕ, ◌≡◌, ◌+◌, ◌≤◌, [], ◌�
 ghost use Rattle.indexmap.specs.IndexMap.{spare};
 ghost use Rattle.upload_reader.specs.Limits.{max_messages};
 ghost use Rattle.upload_reader.specs.Upload.{IsUntouched};
-ghost use Rattle.lanes_in_turn.specs.Taking.{IsGatheredAlone, Stops, IsFreshLane, TakesLane};
+ghost use Rattle.lanes_in_turn.specs.Taking.{refused_by, IsGatheredAlone, Stops, IsFreshLane, TakesLane};
 
 use crate::gathered::{Gathered, LaneResult, Stop};
 use crate::halt::{Halt, Never};
@@ -42,7 +42,7 @@ pub fn take_alone<H: Halt, R: Source + Drop, W: Wait>(
 ) -> Stop
     requires fresh { IsFreshLane lane.old }
     requires halt { (n : ℕ) → n ≤ max_messages + 1 → H.may halt.now n }
-    ensures taken { TakesLane 1 lane.old lane.new }
+    ensures taken { TakesLane (refused_by result) lane.old lane.new }
     ensures stops { Stops (H.allows halt.now) (lane.new ∷ []) result }
 {
     let mut items = 0;

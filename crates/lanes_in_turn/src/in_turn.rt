@@ -3,7 +3,7 @@ ghost use Rattle.std.specs.Prelude.{◌<◌, length, IfOk, IfErr, OnOk, OnErr};
 ghost use Rattle.std.specs.List.{AllByRecursion};
 ghost use Rattle.upload_reader.specs.Upload.{IsUntouched};
 ghost use Rattle.lanes_in_turn.specs.Round.{GathersInTurn, IsFirst, IsNoRound, RefusesRound};
-ghost use Rattle.lanes_in_turn.specs.inside.{one_more, only, none, HaveFewTaken, AskLanes, FollowsSchedule};
+ghost use Rattle.lanes_in_turn.specs.inside.{one_more, only, HaveFewTaken, AskLanes, FollowsSchedule};
 
 use crate::fault::{GatherFault, RefusedRound};
 use crate::gathered::{Gathered, LaneResult, Stop};
@@ -74,7 +74,7 @@ fn take_at<R: Source + Drop>(
 ) -> Result<(), NoMemory>
     requires few { HaveFewTaken lanes.old }
     ensures few { HaveFewTaken lanes.new }
-    ensures goes { OnOk result (AskLanes (one_more k) none lanes.old lanes.new) }
+    ensures goes { OnOk result (AskLanes (one_more k) (λ _. 0) lanes.old lanes.new) }
     ensures refused { OnErr result (AskLanes (λ asked. asked) (only k) lanes.old lanes.new) }
     ensures there { OnErr result (k < length lanes.new) }
 {

@@ -34,8 +34,7 @@ IsParent t child parent = (parent < child) × ((i : ℕ) × IsChild t parent i c
 
 -- the next sibling of a node, where it has one
 abbrev pub IsNext : Tree → ℕ → ℕ → Type 0
-IsNext t n next =
-    (at : List ℕ) (i : ℕ) → place_numbered n t ≡ at ++ i ∷ [] → suc i < child_count_at at t
+IsNext t n next = (at : List ℕ) (i : ℕ) → place_numbered n t ≡ at ++ i ∷ [] → suc i < child_count_at at t
     → place_numbered next t ≡ at ++ suc i ∷ []
 
 -- ---- siblings

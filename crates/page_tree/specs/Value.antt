@@ -55,7 +55,6 @@ trees_in one (item d ds) = tree (one d) (trees_in one ds)
 -- the tree, where the value stands for one that has at most so many levels of elements
 unfoldable pub tree_in : ℕ → Data → Tree
 tree_in zero d = words (unwrap_or (as_str d) [])
-tree_in (suc levels) d =
-    option_map_or words (as_str d)
+tree_in (suc levels) d = option_map_or words (as_str d)
     (element (unwrap_or (name_in d) []) (unwrap_or (attributes_in d) [])
     (option_map_or (trees_in (tree_in levels)) (children_in d) no_trees))

@@ -4,6 +4,7 @@ use Rattle.std.proofs.lemmas.Bool.Decides.{nat_tests}
 use Rattle.std.proofs.lemmas.List.{length-append, length-map, map-append}
 use Rattle.std.proofs.lemmas.List.Sums.{fold-append}
 use Rattle.std.proofs.lemmas.Option.{slice_get_within}
+use Rattle.std.specs.Prelude.{fold}
 use Rattle.std.specs.Arc.{arc_value}
 use Rattle.std.specs.List.{AllByRecursion, AllZip}
 use Rattle.lane_queue.specs.Limits.{max_lanes}
@@ -12,13 +13,55 @@ use Rattle.round_robin.specs.Dealt.{every}
 use Rattle.upload_lanes.proofs.JoinLaws.{some_at}
 use Rattle.lanes_in_turn.proofs.RoundLaws.{in_map, pick_false, pick_true}
 use Rattle.upload_lanes.proofs.Zips.{all_each, all_more, empty, mapped_at, zip_get, zip_length, zip_push}
-use Rattle.lanes_in_turn.specs.Taking.{Stops, IsFreshLane, TakesLane}
+use Rattle.lanes_in_turn.specs.Taking.{refused_by, Stops, IsFreshLane, TakesLane}
 use Rattle.upload_lanes.specs.Threads.{both_stops, recorders_of, stop_of, AreTaken}
 use Rattle.upload_lanes.specs.inside.Party.{Hand, IsFreshHand, TakeEach, TakesParty, IsRunning, RunsBy, TakesByOne}
 use Rattle.lanes_in_turn.specs.declared.gathered.LaneResult.{LaneResult}
 use Rattle.lanes_in_turn.specs.declared.gathered.Stop.{Stop}
 use Rattle.lanes_in_turn.specs.declared.gathered.Stop.TheVariants as stops
 use Rattle.upload_lanes.specs.declared.party.Party.{Party}
+
+-- ---- where one recorder is refused, all of them stop by that
+
+refused_left : (a b : Stop) → refused_by a ≤ refused_by (both_stops a b)
+refused_left stops.Memory b = omega arith
+refused_left stops.None b = omega arith
+refused_left stops.Asked stops.Memory = omega arith
+refused_left stops.Asked b = omega arith
+
+refused_right : (a b : Stop) → refused_by b ≤ refused_by (both_stops a b)
+refused_right stops.Memory stops.Memory = omega arith
+refused_right stops.Memory b = omega arith
+refused_right stops.None b = omega arith
+refused_right stops.Asked stops.Memory = omega arith
+refused_right stops.Asked stops.None = omega arith
+refused_right stops.Asked stops.Asked = omega arith
+
+fold_keeps : (a : Stop) (ss : List Stop) → refused_by a ≤ refused_by (fold both_stops a ss)
+fold_keeps a [] = omega arith
+fold_keeps a (s ∷ ss) = let here = refused_left a s in let there = fold_keeps (both_stops a s) ss in omega (arith, here, there)
+
+fold_has : (a : Stop) (ss : List Stop) (k : ℕ) (one : Stop) → slice_get ss k ≡ Some one → refused_by one ≤ refused_by (fold both_stops a ss)
+fold_has a [] k one at = cc
+fold_has a (s ∷ ss) zero one at =
+    let same : s ≡ one = cc in
+    let sum = ap refused_by same in
+    let here = refused_right a s in
+    let there = fold_keeps (both_stops a s) ss in
+    omega (arith, sum, here, there)
+fold_has a (s ∷ ss) (suc k) one at = fold_has (both_stops a s) ss k one at
+
+refused_most : (ss : List Stop) (k : ℕ) (one : Stop) → slice_get ss k ≡ Some one → refused_by one ≤ refused_by (stop_of ss)
+refused_most ss k one at = fold_has stops.None ss k one at
+
+zip_weaker : {X Y : Type 0} (P Q : X → Y → Type 0) → ((x : X) (y : Y) → P x y → Q x y) → (xs : List X) (ys : List Y) → AllZip P xs ys → AllZip Q xs ys
+zip_weaker P Q goes [] [] all = tt
+zip_weaker P Q goes [] (y ∷ ys) all = all
+zip_weaker P Q goes (x ∷ xs) [] all = all
+zip_weaker P Q goes (x ∷ xs) (y ∷ ys) all = (goes x y all.0, zip_weaker P Q goes xs ys all.1)
+
+takes_more : {R : Type 0} (less more : ℕ) → less ≤ more → (first lane : List ℕ × LaneResult R) → TakesLane less first lane → TakesLane more first lane
+takes_more less more fewer first lane takes = record { client = takes.client; ahead = λ now is. let few = takes.ahead now is in omega (arith, few, fewer); is_taken = takes.is_taken }
 
 -- ---- hands
 
@@ -71,7 +114,7 @@ module _ {R : Type 0} (fresh : List (List ℕ × LaneResult R)) (hands : List (H
     shares size size_is g held at =
         let (one, one_at, is) = in_map (λ o. o.0) takes.made g held (ap (λ all. slice_get all g) (sym takes.taken_is) ∙ at) in
         let by = taken_by g one one_at in
-        let same : length one.0.items ≡ length (every {A = ℕ} n g (replicate (length fresh) 0)) = sym (zip_length (TakesLane more) (every n g fresh) one.0.items by.each) ∙ every_length n g fresh in
+        let same : length one.0.items ≡ length (every {A = ℕ} n g (replicate (length fresh) 0)) = sym (zip_length (TakesLane (more + refused_by one.1)) (every n g fresh) one.0.items by.each) ∙ every_length n g fresh in
         ap (λ h. length h.items) (sym is) ∙ same ∙ ap (λ m. length (every {A = ℕ} n g (replicate m 0))) (sym size_is)
         ∙ ap (λ m. length (every {A = ℕ} m g (replicate size 0))) (sym taken_count)
 
@@ -79,9 +122,11 @@ module _ {R : Type 0} (fresh : List (List ℕ × LaneResult R)) (hands : List (H
         → ((g : ℕ) (held : Hand R) → slice_get taken g ≡ Some held → held.items ≡ every (length taken) g lanes)
         → n ≡ recorders_of (length fresh) → 0 < n → AreTaken allows more fresh lanes stop
     take_lanes lanes size each recorders some = record {
-      lanes_are = every_zip (TakesLane more) n fresh lanes (sym size) some (λ g within.
+      lanes_are = every_zip (TakesLane (more + refused_by stop)) n fresh lanes (sym size) some (λ g within.
           let (one, one_at) = some_at takes.made g (omega (arith, within, made_count)) in
-          subst (AllZip (TakesLane more) (every n g fresh)) (held_is g one one_at) (taken_by g one one_at).each);
+          subst (AllZip (TakesLane (more + refused_by stop)) (every n g fresh)) (held_is g one one_at)
+          (zip_weaker (TakesLane (more + refused_by one.1)) (TakesLane (more + refused_by stop)) (λ first lane takes. takes_more (more + refused_by one.1) (more + refused_by stop)
+          (at_stop g one one_at) first lane takes) (every n g fresh) one.0.items (taken_by g one one_at).each));
       stops = map (λ one. one.1) takes.made;
       count = length-map takes.made (λ one. one.1) ∙ made_count ∙ recorders;
       each = λ g one_stop stop_at.
@@ -91,6 +136,12 @@ module _ {R : Type 0} (fresh : List (List ℕ × LaneResult R)) (hands : List (H
       stop_is = takes.stop_is;
     }
       where
+        at_stop : (g : ℕ) (one : Hand R × Stop) → slice_get takes.made g ≡ Some one → more + refused_by one.1 ≤ more + refused_by stop
+        at_stop g one one_at =
+            let less = refused_most (map (λ o. o.1) takes.made) g one.1 (mapped_at (λ o. o.1) takes.made (map (λ o. o.1) takes.made) g one refl one_at) in
+            let is = ap refused_by takes.stop_is in
+            omega (arith, less, is)
+
         held_is : (g : ℕ) (one : Hand R × Stop) → slice_get takes.made g ≡ Some one → one.0.items ≡ every n g lanes
         held_is g one one_at =
             let held_at : slice_get taken g ≡ Some one.0 = mapped_at (λ o. o.0) takes.made taken g one takes.taken_is one_at in
@@ -170,21 +221,21 @@ module _ {R H : Type 0} (halt : H) (kept : ℕ) where
   running_all (party ∷ parties) all = (all.0.running, running_all parties all.1)
 
   by_hands : (allows : H → ℕ → Bool → Type 0) (parties : List (Party H R)) (made : List (Hand R × Stop)) → AllByRecursion (RunsBy halt kept) parties
-      → AllZip (λ party one. TakesParty allows party one.0.items one.1) parties made → AllZip (λ hand one. TakesByOne (allows halt) (kept + 2) hand.items one.0.items one.1) (map fresh_of parties) made
+      → AllZip (λ party one. TakesParty allows party one.0.items one.1) parties made → AllZip (λ hand one. TakesByOne (allows halt) (kept + 1) hand.items one.0.items one.1) (map fresh_of parties) made
   by_hands allows [] [] runs all = tt
   by_hands allows [] (one ∷ made) runs all = absurd all
   by_hands allows (party ∷ parties) [] runs all = absurd all
   by_hands allows (party ∷ parties) (one ∷ made) runs all = (
-    subst (λ n. TakesByOne (allows halt) (n + 2) party.fresh.value.items one.0.items one.1) runs.0.room_is
-        (subst (λ h. TakesByOne (allows h) ((arc_value party.queue).room + 2) party.fresh.value.items one.0.items one.1) runs.0.halt_is all.0),
+    subst (λ n. TakesByOne (allows halt) (n + 1) party.fresh.value.items one.0.items one.1) runs.0.room_is
+        (subst (λ h. TakesByOne (allows h) ((arc_value party.queue).room + 1) party.fresh.value.items one.0.items one.1) runs.0.halt_is all.0),
     by_hands allows parties made runs.1 all.1,
   )
 
   pub hands_taken : (allows : H → ℕ → Bool → Type 0) (all rest : List (Hand R)) (parties : List (Party H R)) (room : ℕ) (taken : List (Hand R)) (stop : Stop) → length rest ≡ 0
-      → IsStartingAll all rest parties room → TakeEach (TakesParty allows) parties taken stop → TakeEach (λ hand. TakesByOne (allows halt) (kept + 2) hand.items) all taken stop
+      → IsStartingAll all rest parties room → TakeEach (TakesParty allows) parties taken stop → TakeEach (λ hand. TakesByOne (allows halt) (kept + 1) hand.items) all taken stop
   hands_taken allows all rest parties room taken stop none starting takes =
       let whole : map fresh_of parties ≡ all = sym (append-nil (map fresh_of parties)) ∙ ap (λ left. map fresh_of parties ++ left) (sym (empty rest none)) ∙ starting.fresh_are in
-      subst (λ hands. TakeEach (λ hand. TakesByOne (allows halt) (kept + 2) hand.items) hands taken stop) whole
+      subst (λ hands. TakeEach (λ hand. TakesByOne (allows halt) (kept + 1) hand.items) hands taken stop) whole
       (record { made = takes.made; each = by_hands allows parties takes.made starting.runs takes.each; taken_is = takes.taken_is; stop_is = takes.stop_is })
 
 pub recorders_range : (n : ℕ) → 1 ≤ n → (1 ≤ recorders_of n) × (recorders_of n ≤ n)

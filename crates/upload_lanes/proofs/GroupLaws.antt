@@ -12,12 +12,13 @@ use Rattle.upload_reader.specs.Upload.{UploadState, EndsBy}
 use Rattle.upload_reader.specs.declared.ending.Ending.{Ending}
 use Rattle.lanes_in_turn.specs.Lane.{Continues, EndsWith, IsTaken}
 use Rattle.lanes_in_turn.specs.Taking.{GaveFewMore}
-use Rattle.upload_lanes.specs.inside.Sent.{sent_items, bodies, sent_messages, ending_behind, is_last, IsMarked, IsPut}
+use Rattle.upload_lanes.specs.inside.Sent.{bodies, sent_messages, ending_behind, is_last, IsMarked, IsPut}
 use Rattle.upload_lanes.specs.inside.Party.{TellsUpload}
 use Rattle.upload_lanes.specs.inside.Recording.{IsLaneRecorded}
 use Rattle.lanes_in_turn.specs.declared.gathered.LaneResult.{LaneResult}
 use Rattle.upload_lanes.specs.declared.sent.Sent.{Sent}
 use Rattle.upload_lanes.specs.declared.sent.Sent.TheVariants.{One, Last}
+use Rattle.upload_lanes.proofs.UploaderLaws.{sent_items}
 
 abbrev pub ends_in : Option Ending → ℕ
 ends_in end = if is_some end then 1 else 0

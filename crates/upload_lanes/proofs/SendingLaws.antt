@@ -1,18 +1,22 @@
 -- What starting the uploaders of lanes keeps.
-use Rattle.std.proofs.Common.{◌≡◌, ℕ, zero, suc, ◌+◌, ◌≤◌, List, [], ◌∷◌, ◌++◌, length, map, slice_get, Some, inl, inr, ◌⊎◌, refl, sym, ap, subst, ◌∙◌, arith, append_assoc, append-nil}
+use Rattle.std.proofs.Common.{◌≡◌, ℕ, zero, suc, ◌+◌, ◌≤◌, List, [], ◌∷◌, ◌++◌, length, map, slice_get, Option, Some, inl, inr, ◌⊎◌, refl, sym, ap, subst, ◌∙◌, arith, append_assoc, append-nil}
 use Rattle.std.proofs.lemmas.List.{length-append, map-append}
 use Rattle.std.specs.List.{AllByRecursion}
 use Rattle.crossbeam_queue.specs.Passes.{Pass, view}
+use Rattle.upload_reader.specs.Upload.{UploadState}
 use Rattle.lane_queue.specs.Opened.{IsNewPutterOf}
 use Rattle.lane_queue.specs.Queue.{Queue}
 use Rattle.lane_queue.specs.declared.item.Item.{Item}
 use Rattle.lane_queue.specs.declared.view.QueueView.{QueueView}
 use Rattle.upload_lanes.proofs.Zips.{empty}
 use Rattle.lanes_in_turn.specs.Taking.{IsFreshLane}
-use Rattle.upload_lanes.specs.inside.Party.{AreEnds, AreUploads, AreSending, own_upload, without_upload}
+use Rattle.upload_lanes.specs.inside.Party.{AreEnds, AreUploads, AreSending, without_upload}
 use Rattle.lanes_in_turn.specs.declared.gathered.LaneResult.{LaneResult}
 use Rattle.upload_lanes.specs.declared.sent.Sent.{Sent}
 use Rattle.upload_lanes.specs.declared.uploader.Uploads.{Uploads}
+
+abbrev pub own_upload : {R : Type 0} → List ℕ × LaneResult R → Option (UploadState R)
+own_upload lane = lane.1.upload
 
 -- the same of the ends from that lane on
 abbrev pub AreEndsFrom : Queue → ℕ → List (Pass (Item Sent) (QueueView Sent)) → Type 0

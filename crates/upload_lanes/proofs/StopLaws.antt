@@ -10,11 +10,12 @@ use Rattle.lane_queue.specs.declared.item.Item.{Item}
 use Rattle.upload_lanes.proofs.GroupLaws.{ends_in, few_more, gave_more, lane_count, lane_ended, lane_taken, put_first}
 use Rattle.upload_lanes.proofs.JoinLaws.{some_at}
 use Rattle.upload_lanes.proofs.RecorderLaws.{total, lanes_total}
+use Rattle.upload_lanes.proofs.SendingLaws.{own_upload}
 use Rattle.upload_lanes.proofs.Zips.{mapped_at, zip_at}
 use Rattle.lanes_in_turn.specs.Lane.{IsTaken}
 use Rattle.lanes_in_turn.specs.Round.{have_ended}
-use Rattle.lanes_in_turn.specs.Taking.{is_ended, items_of, GaveFewMore, items_taken, refused_by, GaveMore, Stops, TakesLane}
-use Rattle.upload_lanes.specs.inside.Party.{TellsUpload, IsJoined, AreJoined, TakesByOne, own_upload, without_upload}
+use Rattle.lanes_in_turn.specs.Taking.{is_ended, items_in, GaveFewMore, items_taken, refused_by, GaveMore, Stops, TakesLane}
+use Rattle.upload_lanes.specs.inside.Party.{TellsUpload, IsJoined, AreJoined, TakesByOne, without_upload}
 use Rattle.upload_lanes.specs.inside.Sent.{is_last}
 use Rattle.upload_lanes.specs.inside.Recording as Recorder
 use Rattle.upload_lanes.specs.inside.Recording.{IsHalted, IsRecording, IsUnrecorded}
@@ -40,7 +41,7 @@ total_list f (x ∷ xs) h same =
     let all = sum_by-cons f x xs in
     omega (arith, first, rest, all)
 
-one_refused : (s : Stop) (rest : List (Item Sent)) → IsUnrecorded s rest → length rest ≤ 1
+one_refused : (s : Stop) (rest : List (Item Sent)) → IsUnrecorded s rest → length rest ≤ refused_by s
 one_refused stops.Memory rest (item, is, one) = let size = ap length is in omega (arith, size)
 one_refused stops.None rest is = let size = ap length is in omega (arith, size)
 one_refused stops.Asked rest is = let size = ap length is in omega (arith, size)
@@ -84,10 +85,10 @@ module _ {R : Type 0} where
         record { first = first; first_at = first_at; recorded = recorded; recorded_at = recorded_at; is_joined = joined.each k recorded lane recorded_at lane_at }
 
     module _ (k : ℕ) (lane : List ℕ × LaneResult R) (here : At k lane) where
-      told : TellsUpload (room + 2) here.is_joined.promise.upload.value here.is_joined.upload (of_lane k recording.done)
+      told : TellsUpload (room + 1 + refused_by stop) here.is_joined.promise.upload.value here.is_joined.upload (of_lane k recording.done)
       told =
           let few = of_few k recording.rest in let one = one_refused stop recording.rest recording.refused in
-          (here.is_joined.told.0, put_first (room + 1) (room + 2) here.is_joined.upload (of_lane k got) (of_lane k recording.done) (of_lane k recording.rest) (split k) (omega (arith, few, one)) here.is_joined.told.1)
+          (here.is_joined.told.0, put_first (room + 1) (room + 1 + refused_by stop) here.is_joined.upload (of_lane k got) (of_lane k recording.done) (of_lane k recording.rest) (split k) (omega (arith, few, one)) here.is_joined.told.1)
 
       same_end : lane.1.end ≡ here.recorded.1.end
       same_end = ap (λ l. l.1.end) here.is_joined.lane_is
@@ -96,27 +97,27 @@ module _ {R : Type 0} where
       taken =
           let was = recording.lanes_are.each k here.first here.recorded here.first_at here.recorded_at in
           subst (λ l. IsTaken here.first.1.log here.is_joined.promise.upload.value l.1) (sym here.is_joined.lane_is)
-          (lane_taken here.first.1 here.recorded.1 here.is_joined.promise.upload.value here.is_joined.upload (of_lane k recording.done) was.1 (room + 2) told)
+          (lane_taken here.first.1 here.recorded.1 here.is_joined.promise.upload.value here.is_joined.upload (of_lane k recording.done) was.1 (room + 1 + refused_by stop) told)
 
-      ahead : GaveFewMore (room + 2) lane.1
+      ahead : GaveFewMore (room + 1 + refused_by stop) lane.1
       ahead =
           let was = recording.lanes_are.each k here.first here.recorded here.first_at here.recorded_at in
-          subst (λ l. GaveFewMore (room + 2) l.1) (sym here.is_joined.lane_is)
-          (few_more here.first.1 here.recorded.1 here.is_joined.promise.upload.value here.is_joined.upload (of_lane k recording.done) was.1 (room + 2) told)
+          subst (λ l. GaveFewMore (room + 1 + refused_by stop) l.1) (sym here.is_joined.lane_is)
+          (few_more here.first.1 here.recorded.1 here.is_joined.promise.upload.value here.is_joined.upload (of_lane k recording.done) was.1 (room + 1 + refused_by stop) told)
 
       client : lane.0 ≡ here.first.0
       client = ap (λ l. l.0) here.is_joined.lane_is ∙ (recording.lanes_are.each k here.first here.recorded here.first_at here.recorded_at).0
 
-      count_here : length (of_lane k recording.done) ≡ items_of lane
+      count_here : length (of_lane k recording.done) ≡ items_in lane.1
       count_here =
           let was = recording.lanes_are.each k here.first here.recorded here.first_at here.recorded_at in
-          lane_count here.first.1 here.recorded.1 here.is_joined.promise.upload.value here.is_joined.upload (of_lane k recording.done) was.1 (room + 2) told
+          lane_count here.first.1 here.recorded.1 here.is_joined.promise.upload.value here.is_joined.upload (of_lane k recording.done) was.1 (room + 1 + refused_by stop) told
           ∙ sym (ap (λ l. l.1.taken + ends_in l.1.end) here.is_joined.lane_is)
 
       ended_here : has_last (of_lane k recording.done) ≡ true → is_some lane.1.end ≡ true
       ended_here last =
           let was = recording.lanes_are.each k here.first here.recorded here.first_at here.recorded_at in
-          ap is_some same_end ∙ lane_ended here.first.1 here.recorded.1 here.is_joined.promise.upload.value here.is_joined.upload (of_lane k recording.done) was.1 (room + 2) told last
+          ap is_some same_end ∙ lane_ended here.first.1 here.recorded.1 here.is_joined.promise.upload.value here.is_joined.upload (of_lane k recording.done) was.1 (room + 1 + refused_by stop) told last
 
     -- as many items as were taken
     refused_one : (s : Stop) (rest : List (Item Sent)) → IsUnrecorded s rest → length rest ≡ refused_by s
@@ -128,14 +129,14 @@ module _ {R : Type 0} where
     all_items =
         let within = all_front (λ item. item.lane < length firsts) recording.done recording.rest (subst (AllByRecursion (λ item. item.lane < length firsts)) recording.got_is recording.within) in
         let sums = lanes_total (length firsts) recording.done within in
-        let same : total (length joined_lanes) (λ k. length (of_lane k recording.done)) ≡ sum_by items_of joined_lanes =
-        total_list items_of joined_lanes (λ k. length (of_lane k recording.done)) (λ k lane lane_at. count_here k lane (at k lane lane_at)) in
+        let same : total (length joined_lanes) (λ k. length (of_lane k recording.done)) ≡ sum_by (λ lane. items_in lane.1) joined_lanes =
+        total_list (λ lane. items_in lane.1) joined_lanes (λ k. length (of_lane k recording.done)) (λ k lane lane_at. count_here k lane (at k lane lane_at)) in
         let sizes : total (length joined_lanes) (λ k. length (of_lane k recording.done)) ≡ total (length firsts) (λ k. length (of_lane k recording.done)) =
         ap (λ n. total n (λ k. length (of_lane k recording.done))) (joined.count ∙ recording.lanes_are.count) in
         let rest = refused_one stop recording.rest recording.refused in
         let whole : length got ≡ length recording.done + length recording.rest = ap length recording.got_is ∙ length-append recording.done recording.rest in
-        let done : sum_by items_of joined_lanes ≡ length recording.done = sym same ∙ sizes ∙ sums in
-        recording.count ∙ whole ∙ ap (λ n. n + length recording.rest) (sym done) ∙ ap (λ n. sum_by items_of joined_lanes + n) rest
+        let done : sum_by (λ lane. items_in lane.1) joined_lanes ≡ length recording.done = sym same ∙ sizes ∙ sums in
+        recording.count ∙ whole ∙ ap (λ n. n + length recording.rest) (sym done) ∙ ap (λ n. sum_by (λ lane. items_in lane.1) joined_lanes + n) rest
 
     -- the item that could not be recorded is a message of one of these lanes
     unrecorded : (item : Item Sent) → recording.rest ≡ item ∷ [] → is_last item.body ≡ false
@@ -149,7 +150,7 @@ module _ {R : Type 0} where
         let was = recording.lanes_are.each k here.first here.recorded here.first_at here.recorded_at in
         let upload = here.is_joined.upload in
         let got_so : of_lane k got ≡ of_lane k recording.done ++ item ∷ [] = ap (of_lane k) (recording.got_is ∙ ap (λ r. recording.done ++ r) rest) ∙ of_more k recording.done item refl in
-        let more = gave_more here.first.1 here.recorded.1 here.is_joined.promise.upload.value upload (of_lane k recording.done) was.1 (room + 2) (told k lane here) (room + 1) upload item one
+        let more = gave_more here.first.1 here.recorded.1 here.is_joined.promise.upload.value upload (of_lane k recording.done) was.1 (room + 1 + refused_by stop) (told k lane here) (room + 1) upload item one
         (subst (TellsUpload (room + 1) here.is_joined.promise.upload.value upload) got_so here.is_joined.told) in
         (k, lane, lane_at, record { upload = upload; upload_is = ap (λ l. l.1.upload) here.is_joined.lane_is; more = subst (λ l. l.1.taken < length upload.given) (sym here.is_joined.lane_is) more })
 
@@ -180,7 +181,7 @@ module _ {R : Type 0} where
 
     module _ (fresh : List (List ℕ × LaneResult R)) (firsts_are : firsts ≡ map without_upload fresh)
         (given : map (λ promise. Some promise.upload.value) promises ≡ map own_upload fresh) where
-      takes_lane : (k : ℕ) (whole lane : List ℕ × LaneResult R) → slice_get fresh k ≡ Some whole → slice_get joined_lanes k ≡ Some lane → TakesLane (room + 2) whole lane
+      takes_lane : (k : ℕ) (whole lane : List ℕ × LaneResult R) → slice_get fresh k ≡ Some whole → slice_get joined_lanes k ≡ Some lane → TakesLane (room + 1 + refused_by stop) whole lane
       takes_lane k whole lane whole_at lane_at =
           let here = at k lane lane_at in
           let both : Some here.first ≡ Some (without_upload whole) = sym here.first_at ∙ mapped_at without_upload fresh firsts k whole firsts_are whole_at in
@@ -196,7 +197,7 @@ module _ {R : Type 0} where
                 subst (λ f. IsTaken f.1.log begun lane.1) same (subst (λ b. IsTaken here.first.1.log b lane.1) of (taken k lane here));
           }
 
-      pub takes_by_one : IsHalted allows stop items → TakesByOne allows (room + 2) fresh joined_lanes stop
+      pub takes_by_one : IsHalted allows stop items → TakesByOne allows (room + 1) fresh joined_lanes stop
       takes_by_one halted =
           let size : length fresh ≡ length joined_lanes = sym (joined.count ∙ recording.lanes_are.count ∙ ap length firsts_are ∙ length-map fresh without_upload) in
-          record { each = zip_at (TakesLane (room + 2)) fresh joined_lanes size takes_lane; stops = stops_so halted }
+          record { each = zip_at (TakesLane (room + 1 + refused_by stop)) fresh joined_lanes size takes_lane; stops = stops_so halted }

@@ -20,9 +20,13 @@ use Rattle.upload_reader.specs.declared.next.Next.TheVariants.{Got, Over, GaveUp
 use Rattle.lanes_in_turn.proofs.LaneSteps.{read_on}
 use Rattle.lanes_in_turn.proofs.RoundLaws.{nothing_first}
 use Rattle.lanes_in_turn.specs.Lane.{NotOver}
-use Rattle.upload_lanes.specs.inside.Sent.{sent_items, bodies, is_last, IsMarked, IsReadOn, IsPutting, IsPut, Sends}
+use Rattle.upload_lanes.specs.inside.Sent.{bodies, is_last, IsMarked, IsReadOn, IsPutting, IsPut, Sends}
 use Rattle.upload_lanes.specs.declared.sent.Sent.{Sent}
 use Rattle.upload_lanes.specs.declared.sent.Sent.TheVariants.{One, Last}
+
+-- what is sent of an upload that gave these messages and ended so
+abbrev pub sent_items : List Costed → Option Ending → List Sent
+sent_items given ending = map One given ++ map Last (option_to_list ending)
 
 pub bodies_more : (items : List (Item Sent)) (item : Item Sent) → bodies (items ++ item ∷ []) ≡ bodies items ++ item.body ∷ []
 bodies_more items item = map-append (λ one. one.body) items (item ∷ [])

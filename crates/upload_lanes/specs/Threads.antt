@@ -4,7 +4,7 @@ use Rattle.std.specs.List.{AllZip}
 use Rattle.round_robin.specs.Dealt.{every}
 use Rattle.upload_reader.specs.Upload.{UploadState}
 use Rattle.lanes_in_turn.specs.Round.{IsGatheredBy, IsFirst}
-use Rattle.lanes_in_turn.specs.Taking.{begun_lane, Stops, TakesLane}
+use Rattle.lanes_in_turn.specs.Taking.{refused_by, begun_lane, Stops, TakesLane}
 use Rattle.lanes_in_turn.specs.declared.gathered.Gathered.{Gathered}
 use Rattle.lanes_in_turn.specs.declared.gathered.LaneResult.{LaneResult}
 use Rattle.lanes_in_turn.specs.declared.gathered.Stop.{Stop}
@@ -19,10 +19,10 @@ max_recorders = 4
 abbrev pub recorders_of : ℕ → ℕ
 recorders_of lanes = if nat_lt lanes max_recorders then lanes else max_recorders
 
--- how many messages an upload gives at the most beyond those that are recorded: as many as its queue has room for, one
--- that waits for room there, and one that wasn't recorded; a lane alone just that one
+-- how many messages an upload gives at the most beyond those that were taken of its lane: as many as its queue has room
+-- for, and one that waits for room there; a lane alone none
 abbrev pub read_ahead : ℕ → ℕ → ℕ
-read_ahead room lanes = if lanes == 1 then 1 else room + 2
+read_ahead room lanes = if lanes == 1 then 0 else room + 1
 
 -- why the taking stopped by these two: the first of memory, the question, the lanes' ends
 abbrev pub both_stops : Stop → Stop → Stop
@@ -38,10 +38,10 @@ module _ {R : Type 0} where
   -- ---- lanes
 
   -- What was taken of lanes of which nothing was taken, lane k by recorder k modulo their number. Each upload gave so
-  -- many messages more at the most.
+  -- many messages more at the most, and one where a message could not be recorded.
   pub record AreTaken (allows : ℕ → Bool → Type 0) (more : ℕ) (fresh lanes : List (List ℕ × LaneResult R))
       (stop : Stop) : Type 0 where
-    pub lanes_are : AllZip (TakesLane more) fresh lanes
+    pub lanes_are : AllZip (TakesLane (more + refused_by stop)) fresh lanes
     pub stops : List Stop
     pub count : length stops ≡ recorders_of (length fresh)
     pub each : (recorder : ℕ) (one : Stop) → slice_get stops recorder ≡ Some one

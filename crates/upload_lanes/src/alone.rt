@@ -20,7 +20,7 @@ pub(crate) fn take_only<H: Halt, R: Source + Drop, W: Wait>(
     requires fresh { AllByRecursion IsFreshLane lanes.items }
     requires one { length lanes.items ≡ 1 }
     requires halt { (n : ℕ) → n ≤ max_items → H.may halt.now n }
-    ensures { AreTaken (H.allows halt.now) 1 lanes.items result.0.items result.1 }
+    ensures { AreTaken (H.allows halt.now) 0 lanes.items result.0.items result.1 }
 {
     let mut lanes = lanes;
     let stop = take_alone(rt, &mut lanes[0], halt);

@@ -29,7 +29,7 @@ pub(crate) fn take_hands<H: Halt, R: Source + Drop + Send, T: Threads + Wait + S
     requires fresh { AllByRecursion IsFreshHand hands.items }
     requires halt { (n : ℕ) → n ≤ max_items → H.may halt.now n }
     ensures { IfOk result (λ all.
-        TakeEach (λ hand. TakesByOne (H.allows halt.now) (room + 2) hand.items) hands.items all.0.items all.1) }
+        TakeEach (λ hand. TakesByOne (H.allows halt.now) (room + 1) hand.items) hands.items all.0.items all.1) }
 {
     let gate = &Gate::new();
     thread::scope(
@@ -38,7 +38,7 @@ pub(crate) fn take_hands<H: Halt, R: Source + Drop + Send, T: Threads + Wait + S
         move |scope| -> Result<(Vec<Vec<(Client, LaneResult<R>)>>, Stop), AllocError>
             requires { AllByRecursion IsFreshHand hands.items × ((n : ℕ) → n ≤ max_items → H.may halt.now n) }
             ensures { IfOk result (λ all.
-                TakeEach (λ hand. TakesByOne (H.allows halt.entry.now) (room + 2) hand.items) hands.items all.0.items all.1) }
+                TakeEach (λ hand. TakesByOne (H.allows halt.entry.now) (room + 1) hand.items) hands.items all.0.items all.1) }
         { run_parties(scope, rt, alloc, hands, room, gate, halt) },
     )
 }
@@ -56,7 +56,7 @@ fn run_parties<'s, E, H: Halt + 's, R: Source + Drop + Send + 's, T: Threads + W
     requires fresh { AllByRecursion IsFreshHand hands.items }
     requires halt { (n : ℕ) → n ≤ max_items → H.may halt.now n }
     ensures { IfOk result (λ all.
-        TakeEach (λ hand. TakesByOne (H.allows halt.now) (room + 2) hand.items) hands.items all.0.items all.1) }
+        TakeEach (λ hand. TakesByOne (H.allows halt.now) (room + 1) hand.items) hands.items all.0.items all.1) }
 {
     let taken = Vec::with_capacity(alloc, hands.len())?;
     let mut parties = Vec::with_capacity(alloc, hands.len())?;

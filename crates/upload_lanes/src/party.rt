@@ -130,7 +130,7 @@ pub(crate) fn join_party<H: Halt, R: Source + Drop, T: Threads + Wait>(
     party: Party<H, R>,
 ) -> (Vec<(Client, LaneResult<R>)>, Stop)
     requires { IsRunning party }
-    ensures { TakesByOne (H.allows party.recorder.promise.halt.value) ((arc_value party.queue).room + 2)
+    ensures { TakesByOne (H.allows party.recorder.promise.halt.value) ((arc_value party.queue).room + 1)
         party.fresh.value.items result.0.items result.1 }
 {
     let Party {

@@ -14,7 +14,7 @@ use Rattle.site_line.specs.declared.site.Site.{Site}
 use Rattle.site_line.specs.declared.fault.SiteFault.{SiteFault}
 use Rattle.site_line.specs.declared.fault.SiteFault.TheVariants as site_fault
 use Rattle.warp_run.specs.Run.{site_line, max_site_bytes, HasBadSite, HasBadHello, HasFailedRead, Reads, ReadWhileUndecided, Meets, fresh_lines}
-use Rattle.warp_run.specs.Intake.{SaysNoSite, IsBehindSite, IsRefused, bad_site, no_hello}
+use Rattle.warp_run.specs.Intake.{SaysNoSite, IsBehindSite, bad_site, no_hello}
 use Rattle.warp_run.specs.declared.status.Status.{Status}
 use Rattle.warp_run.specs.declared.status.Status.TheVariants.{Done, BadSite, BadHello, OutOfMemory, InputOutput}
 use Rattle.warp_run.proofs.NeededLaws.{goes_nowhere, line_later}
@@ -40,6 +40,11 @@ line_cut old new line fresh advances same =
     let from_none : Advances {A = Unit {0}} max_site_bytes (fresh_lines old.first) new (Ok tt) = subst (λ l. Advances max_site_bytes l new (Ok tt)) fresh advances in
     rw same (from_none.tells refl)
 
+-- why there is nothing to report
+abbrev pub IsRefused : Status → List ℕ → Option LineFault → Type 0
+IsRefused BadHello input ending = HasBadHello input ending
+IsRefused status input ending = SaysNoSite status input ending
+
 pub is_refused : (status : Status) (bytes : List ℕ) (ending : Option LineFault) → SaysNoSite status bytes ending → IsRefused status bytes ending
 is_refused BadHello bytes ending holds = absurd holds
 is_refused other bytes ending holds = holds
@@ -48,7 +53,7 @@ is_refused other bytes ending holds = holds
 
 module _ {R : Type 0} (was_read : List Answer → Type 0) (lines : Reading R) (told : was_read lines.answers) (needed : ReadWhileUndecided lines.answers)
     (ends : StopsAtEnd lines.answers) where
-  pub given_back : (P : List ℕ → Option LineFault → Type 0) → P (input lines) (ending_of lines.answers) → Reads was_read P
+  pub given_back : (P : List ℕ → Option LineFault → Type 0) → P (input lines) (ending_of lines.answers) → Reads was_read ReadWhileUndecided P
   given_back P holds = record { more = lines.answers; told = told; needed = needed; ends = ends; holds = holds }
 
   pub refused_meets : (status : Status) → IsRefused status (input lines) (ending_of lines.answers) → (writes : CallWrites) → WritesNothing writes → Meets was_read writes status

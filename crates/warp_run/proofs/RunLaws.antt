@@ -42,7 +42,7 @@ use Rattle.warp_run.specs.declared.repaired.Repaired.{Repaired}
 use Rattle.warp_run.specs.Report.{report_text, WritesReport}
 use Rattle.warp_run.specs.declared.reporting.fault.ReportFault.{ReportFault}
 use Rattle.warp_run.specs.declared.reporting.fault.ReportFault.TheVariants as report_fault
-use Rattle.warp_run.specs.Run.{plain_repaired, repaired_by, Opening, LaneSays, IsReportOf, HasReport, HasShortReport, Reads, Writes, WritesPart, Meets}
+use Rattle.warp_run.specs.Run.{plain_repaired, repaired_by, Opening, LaneSays, IsReportOf, HasReport, HasShortReport, ReadWhileUndecided, Reads, Writes, WritesPart, Meets}
 use Rattle.warp_run.specs.Shortage.{status_by, status_of}
 use Rattle.warp_run.specs.Status.{written_status}
 use Rattle.warp_run.specs.Intake.{IsOpened}
@@ -178,7 +178,7 @@ module _ {R : Type 0} (site : Site) (upload : UploadState R) (opened : IsOpened 
   -- ---- what was written
 
   module _ (was_read : List Answer → Type 0) (told : was_read now.lines.answers) (ends : StopsAtEnd now.lines.answers) (writes : CallWrites) where
-    given : (P : List ℕ → Option LineFault → Type 0) → P read ending → Reads was_read P
+    given : (P : List ℕ → Option LineFault → Type 0) → P read ending → Reads was_read ReadWhileUndecided P
     given = given_back was_read now.lines told
         (lane_needed opened.at site opened.behind upload opened.begins now.lines opened.needed whole.is_taken.own.reads) ends
 

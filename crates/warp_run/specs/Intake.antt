@@ -1,5 +1,5 @@
 -- What reading the site line and the lane behind it gives.
-use Rattle.std.specs.Prelude.{◌≡◌, ℕ, ◌+◌, List, length, Option, Some, None, Ok, ◌⊎◌}
+use Rattle.std.specs.Prelude.{◌≡◌, ℕ, ◌+◌, List, length, Option, Some, None, Ok}
 use Rattle.byte_streams.specs.Cutting.{ending_of}
 use Rattle.byte_streams.specs.Reading.{Reading, input}
 use Rattle.byte_streams.specs.declared.fault.LineFault.{LineFault}
@@ -12,9 +12,9 @@ use Rattle.site_line.specs.Reading.{AnswersAs}
 use Rattle.site_line.specs.declared.site.Site.{Site}
 use Rattle.site_line.specs.declared.fault.SiteFault.{SiteFault}
 use Rattle.site_line.specs.declared.fault.SiteFault.TheVariants as site_fault
-use Rattle.warp_run.specs.Run.{site_line, HasBadSite, HasBadHello, HasFailedRead, ReadWhileUndecided}
+use Rattle.warp_run.specs.Run.{site_line, HasBadSite, HasFailedRead, ReadWhileUndecided}
 use Rattle.warp_run.specs.declared.status.Status.{Status}
-use Rattle.warp_run.specs.declared.status.Status.TheVariants.{Done, BadSite, BadHello, OutOfMemory, InputOutput}
+use Rattle.warp_run.specs.declared.status.Status.TheVariants.{BadSite, BadHello, OutOfMemory, InputOutput}
 
 module _ {R : Type 0} where
   -- the last line is the site line, and this is the site that it says
@@ -39,11 +39,6 @@ SaysNoSite BadSite input ending = HasBadSite input ending
 SaysNoSite InputOutput input ending = HasFailedRead input ending
 SaysNoSite OutOfMemory input ending = Unit {0}
 SaysNoSite other input ending = ⊥
-
--- why there is nothing to report
-abbrev pub IsRefused : Status → List ℕ → Option LineFault → Type 0
-IsRefused BadHello input ending = HasBadHello input ending
-IsRefused status input ending = SaysNoSite status input ending
 
 -- ---- what a fault of a line, of a site or of a hello means here
 

@@ -77,8 +77,7 @@ stop_line stop.Asked = report_line (codes "stop" ∷ codes "asked" ∷ [])
 stop_line stop.Memory = report_line (codes "stop" ∷ codes "memory" ∷ [])
 
 abbrev pub client_line : ClientSummary → List ℕ
-client_line c =
-    report_line (codes "client" ∷ c.client ∷ codes "taken" ∷ decimal c.taken ∷ codes "end" ∷ end_word c.end
+client_line c = report_line (codes "client" ∷ c.client ∷ codes "taken" ∷ decimal c.taken ∷ codes "end" ∷ end_word c.end
     ∷ codes "cost" ∷ decimal c.cost ∷ codes "lost" ∷ decimal c.lost ∷ [])
 
 abbrev pub visit_line : ℕ → Standing → Outcome → List ℕ

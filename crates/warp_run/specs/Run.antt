@@ -60,8 +60,7 @@ site_line input ending = cut max_site_bytes input ending
 
 -- status 3: there is no site line, though no read failed, or it says no site
 abbrev pub HasBadSite : List ℕ → Option LineFault → Type 0
-HasBadSite input ending =
-    ((fault : LineFault) × (fault ≢ ReadFailed) × (site_line input ending ≡ Some (Err fault)))
+HasBadSite input ending = ((fault : LineFault) × (fault ≢ ReadFailed) × (site_line input ending ≡ Some (Err fault)))
     ⊎ ((line : List ℕ) × (site_line input ending ≡ Some (Ok line)) × ((site : Site) → ¬ IsSiteLine line site))
 
 -- status 6: a read of the site line failed
@@ -131,10 +130,10 @@ abbrev pub ReadWhileUndecided : List Answer → Type 0
 ReadWhileUndecided reads = MadeWhile (λ earlier. IsUndecided (bytes_of earlier)) [] reads
 
 -- What the reads gave holds so, each was needed, and none was made after the input's end.
-pub record Reads (was_read : List Answer → Type 0) (P : List ℕ → Option LineFault → Type 0) : Type 0 where
+pub record Reads (was_read Needed : List Answer → Type 0) (P : List ℕ → Option LineFault → Type 0) : Type 0 where
   pub more : List Answer
   pub told : was_read more
-  pub needed : ReadWhileUndecided more
+  pub needed : Needed more
   pub ends : StopsAtEnd more
   pub holds : P (bytes_of more) (ending_of more)
 
@@ -149,8 +148,9 @@ WritesPart call input ending =
 
 module _ (was_read : List Answer → Type 0) (writes : CallWrites) where
   abbrev pub Meets : Status → Type 0
-  Meets Done = Reads was_read (Writes writes HasReport)
-  Meets BadSite = WritesNothing writes × Reads was_read HasBadSite
-  Meets BadHello = WritesNothing writes × Reads was_read HasBadHello
-  Meets OutOfMemory = WritesNothing writes ⊎ Reads was_read (Writes writes HasShortReport)
-  Meets InputOutput = (WritesNothing writes × Reads was_read HasFailedRead) ⊎ Reads was_read (WritesPart writes)
+  Meets Done = Reads was_read ReadWhileUndecided (Writes writes HasReport)
+  Meets BadSite = WritesNothing writes × Reads was_read ReadWhileUndecided HasBadSite
+  Meets BadHello = WritesNothing writes × Reads was_read ReadWhileUndecided HasBadHello
+  Meets OutOfMemory = WritesNothing writes ⊎ Reads was_read ReadWhileUndecided (Writes writes HasShortReport)
+  Meets InputOutput = (WritesNothing writes × Reads was_read ReadWhileUndecided HasFailedRead)
+      ⊎ Reads was_read ReadWhileUndecided (WritesPart writes)

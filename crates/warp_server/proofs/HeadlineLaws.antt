@@ -1,5 +1,5 @@
 -- What was gathered, repaired and settled is what the headline says.
-use Rattle.std.proofs.Common.{◌≡◌, ℕ, List, [], ◌∷◌, ◌++◌, length, map, Bool, true, false, bytes_eq, Option, Some, None, refl, sym, ap, subst, ◌∙◌, append-nil, append_assoc}
+use Rattle.std.proofs.Common.{◌≡◌, ℕ, List, [], ◌∷◌, ◌++◌, map, Bool, true, false, bytes_eq, Option, Some, None, refl, sym, ap, subst, ◌∙◌, append-nil, append_assoc}
 use Rattle.std.specs.Map.{keys_of, lookup}
 use Rattle.std.specs.List.{list_any, AllByRecursion, AllZip, IsDistinct}
 use Rattle.std.specs.Cmp.Lexicographic.{nat_list_eq_equiv}
@@ -8,7 +8,7 @@ use Rattle.indexmap.specs.IndexMap.{get, insert_all, insert_entry}
 use Rattle.indexmap.proofs.MapLemmas.{insert_entry-absent, absent_from_lookup, absent_before}
 use Rattle.upload_reader.specs.Upload.{UploadState}
 use Rattle.conflict_desk.specs.Book.{Book, with_decision}
-use Rattle.conflict_desk.specs.Desk.{Books, book_of, decided_on, decided_in, refusal, unless_refused, after_call, after_calls, new_books}
+use Rattle.conflict_desk.specs.Desk.{Books, book_of, decided_on, refusal, after_call, after_calls, new_books}
 use Rattle.conflict_desk.specs.declared.decision.Decision.{Decision}
 use Rattle.conflict_desk.specs.declared.docket.Docket.{Docket}
 use Rattle.conflict_desk.specs.declared.fault.DeskFault.{DeskFault}
@@ -16,13 +16,14 @@ use Rattle.site_line.specs.Reading.{site_decisions}
 use Rattle.site_line.specs.declared.site.Site.{Site}
 use Rattle.lanes_in_turn.specs.Lane.{IsTaken}
 use Rattle.lanes_in_turn.specs.Round.{log_before, resumed_upload, without_lane, clients_of, has_twice}
-use Rattle.upload_lanes.specs.Threads.{read_ahead, GathersFirst}
+use Rattle.upload_lanes.specs.Threads.{GathersFirst}
 use Rattle.upload_lanes.proofs.TakenLaws.{IsLaneOf, lanes_of}
 use Rattle.lanes_in_turn.specs.declared.gathered.Gathered.{Gathered}
 use Rattle.lanes_in_turn.specs.declared.gathered.LaneResult.{LaneResult}
 use Rattle.warp_run.specs.Conclusion.{repaired_site, site_settled}
 use Rattle.warp_server.specs.Headline.{docket_of, HasPrefix, AreReplayed}
 use Rattle.warp_run.specs.Repair.{docket_for}
+use Rattle.conflict_desk.proofs.Decisions.{decided_in, unless_refused}
 
 -- ---- the lanes of a round
 
@@ -61,7 +62,7 @@ module _ {R : Type 0} (quota : ℕ) (allows : ℕ → Bool → Type 0) (more : �
   -- the lanes of a first round are all
   pub first_entries : (first : GathersFirst allows more uploads quota gathered) → gathered.clients.entries ≡ first.2.lanes
   first_entries (earlier, empty, g) =
-      let keys = same_keys (get bytes_eq earlier.clients) quota uploads g.lanes (lanes_of (get bytes_eq earlier.clients) quota (read_ahead more (length uploads)) uploads g.lanes g.taken.lanes_are) in
+      let keys = same_keys (get bytes_eq earlier.clients) quota uploads g.lanes (lanes_of (get bytes_eq earlier.clients) quota _ uploads g.lanes g.taken.lanes_are) in
       g.clients_are ∙ ap (λ before. insert_all bytes_eq (map (λ entry. (entry.0, without_lane entry.1)) before) g.lanes) empty
       ∙ insert_behind [] g.lanes (subst (IsDistinct bytes_eq) (sym keys) (distinct (clients_of uploads) g.is_round.clients))
 
@@ -74,7 +75,7 @@ module _ {R : Type 0} (quota : ℕ) (allows : ℕ → Bool → Type 0) (more : �
         client = is.client;
         is_taken = subst (λ found. IsTaken (log_before quota upload found) (resumed_upload upload found) lane.1) (ap (lookup (bytes_eq upload.client)) first.1) is.is_taken;
       })
-      uploads first.2.lanes (lanes_of known quota (read_ahead more (length uploads)) uploads first.2.lanes first.2.taken.lanes_are))
+      uploads first.2.lanes (lanes_of known quota _ uploads first.2.lanes first.2.taken.lanes_are))
 
 -- ---- decisions leave the cases
 

@@ -1,5 +1,5 @@
 -- What listening reads of its file, and how it ends.
-use Rattle.std.proofs.Common.{◌≡◌, ℕ, List, [], Option, Result, Ok, Err, inr, ap, subst, ◌∙◌}
+use Rattle.std.proofs.Common.{◌≡◌, ℕ, List, Option, Result, Ok, Err, inr, ap, subst, ◌∙◌}
 use Rattle.std.specs.Prelude.{IfOk, IfErr, MatchResult, ◌⊎◌}
 use Rattle.byte_streams.specs.Answers.{Answer}
 use Rattle.byte_streams.specs.Cutting.{ending_of, StopsAtEnd}
@@ -19,9 +19,8 @@ module _ {F : Type 0} (was_read : F → F → List Answer → Type 0) (file back
 
   given : old ≡ fresh_lines file → ReadsWhile (NoLineYet max_site_bytes old.place) old new → was_read new.first back new.answers → StopsAtEnd new.answers → Given
   given fresh reads told ends P holds = record {
-    reads = new.answers;
-    now = back;
-    told = subst (λ f. was_read f back new.answers) (reads.first ∙ ap (λ lines. lines.first) fresh) told;
+    more = new.answers;
+    told = (back, subst (λ f. was_read f back new.answers) (reads.first ∙ ap (λ lines. lines.first) fresh) told);
     needed = subst (λ lines. MadeWhile (NoLineYet max_site_bytes lines.place) lines.answers new.answers) fresh reads.needed;
     ends = ends;
     holds = holds;
@@ -29,8 +28,7 @@ module _ {F : Type 0} (was_read : F → F → List Answer → Type 0) (file back
 
   by_result : (result : Result Site Status) → Given → IfOk result (IsBehindSite new) → IfErr result (λ status. SaysNoSite status (input new) (ending_of new.answers))
       → MatchResult result (λ site. ReadsFile was_read file (SaysSite site)) (λ status. (status ≡ OutOfMemory) ⊎ ReadsFile was_read file (SaysNoSite status))
-  by_result (Ok site) gives behind none =
-      gives (SaysSite site) (record { line = new.line; cut_is = behind.cut_is; plain = behind.plain; site_is = behind.site_is; stands = behind.stands })
+  by_result (Ok site) gives behind none = gives (SaysSite site) (new.line, behind.cut_is, (behind.plain, behind.site_is, behind.stands))
   by_result (Err status) gives behind none = inr (gives (SaysNoSite status) none)
 
   pub site_read : (result : Result Site Status) → old ≡ fresh_lines file → ReadsWhile (NoLineYet max_site_bytes old.place) old new → was_read new.first back new.answers → StopsAtEnd new.answers

@@ -1,6 +1,7 @@
 -- Rounds of uploads: as they come, and as they are let go and given back one by one.
-use Rattle.std.proofs.Common.{◌≡◌, ℕ, ◌<◌, zero, suc, List, [], ◌∷◌, ◌++◌, length, map, take, drop, slice_get, Some, refl, sym, ap, subst, ◌∙◌, arith}
-use Rattle.std.specs.List.{AllByRecursion}
+use Rattle.std.proofs.Common.{◌≡◌, ℕ, ◌<◌, zero, suc, List, [], ◌∷◌, ◌++◌, length, map, take, drop, slice_get, Some, refl, sym, ap, subst, ◌∙◌, arith, length-append}
+use Rattle.std.proofs.Math.Seq.{get_or-append_seam}
+use Rattle.std.specs.List.{AllByRecursion, Any, FoldsTo}
 use Rattle.std.specs.Option.{option_map}
 use Rattle.std.proofs.lemmas.Option.{slice_get-map}
 use Rattle.indexmap.specs.IndexMap.{set_value_at}
@@ -8,7 +9,7 @@ use Rattle.byte_streams.specs.Reading.{Reading}
 use Rattle.upload_reader.specs.Upload.{UploadState, Begins, IsUntouched}
 use Rattle.lanes_in_turn.specs.declared.gathered.LaneResult.{LaneResult}
 use Rattle.warp_server.specs.Rounds.{without_reader}
-use Rattle.warp_server.specs.program.Callers.{OneByOne, IsGreeted}
+use Rattle.warp_server.specs.program.Callers.{IsGreeted}
 use Rattle.warp_run.specs.Run.{fresh_lines}
 
 pub all_weaker : {X : Type 0} (P Q : X → Type 0) → ((x : X) → P x → Q x) → (xs : List X) → AllByRecursion P xs → AllByRecursion Q xs
@@ -29,10 +30,13 @@ module _ {R : Type 0} where
 
 -- ---- one after another
 
+pub any_among : {X : Type 0} (P : X → Type 0) (before : List X) (x : X) (after : List X) → P x → Any P (before ++ x ∷ after)
+any_among P before x after holds = (length before, x, omega (arith, length-append before (x ∷ after)), get_or-append_seam before x after x, holds)
+
 module _ {C X : Type 0} (step : C → X → C → Type 0) where
   -- behind those the others
-  pub all_more : (callers between now : C) (xs ys : List X) → OneByOne step callers xs between → OneByOne step between ys now → OneByOne step callers (xs ++ ys) now
-  all_more callers between now [] ys same rest = subst (λ c. OneByOne step c ys now) same rest
+  pub all_more : (callers between now : C) (xs ys : List X) → FoldsTo step callers xs between → FoldsTo step between ys now → FoldsTo step callers (xs ++ ys) now
+  all_more callers between now [] ys same rest = subst (λ c. FoldsTo step c ys now) (sym same) rest
   all_more callers between now (x ∷ xs) ys (next, one, first) rest = (next, one, all_more next between now xs ys first rest)
 
 -- ---- entries that are let go one by one, and their uploads

@@ -1,6 +1,6 @@
 -- What rounds leave of each client: the log after its own uploads, and an entry for each upload's client.
 use Rattle.std.specs.Prelude.{◌≡◌, ℕ, List, [], ◌∷◌, ◌++◌, map, take, filter, Bool, true, false, if◌then◌else◌, is_some, bytes_eq, slice_get, Option, Some, None, zero, suc}
-use Rattle.std.proofs.Common.{length, refl, sym, ap, subst, ◌∙◌, true≢false}
+use Rattle.std.proofs.Common.{refl, sym, ap, subst, ◌∙◌, true≢false}
 use Rattle.std.specs.Map.{keys_of, lookup}
 use Rattle.std.specs.List.{AllByRecursion, AllZip, IsDistinct, list_any}
 use Rattle.std.specs.Option.{IsSome}
@@ -20,11 +20,10 @@ use Rattle.client_log.specs.Client.{OfClient}
 use Rattle.client_log.specs.Log.{kept_log}
 use Rattle.lanes_in_turn.specs.Lane.{IsTaken}
 use Rattle.lanes_in_turn.specs.Round.{behind_log, new_log, log_before, resumed_upload, without_lane, clients_of}
-use Rattle.upload_lanes.specs.Threads.{read_ahead}
 use Rattle.upload_lanes.proofs.TakenLaws.{IsLaneOf, lanes_of}
 use Rattle.lanes_in_turn.specs.declared.gathered.Gathered.{Gathered}
 use Rattle.lanes_in_turn.specs.declared.gathered.LaneResult.{LaneResult}
-use Rattle.warp_server.specs.Rounds.{server_room, without_reader, GathersRound, GathersRounds, IsLogAfter, uploads_of, HasLog}
+use Rattle.warp_server.specs.Rounds.{without_reader, GathersRound, GathersRounds, IsLogAfter, uploads_of, HasLog}
 use Rattle.warp_server.proofs.HeadlineLaws.{distinct, same_keys}
 use Rattle.warp_server.proofs.RoundSteps.{all_weaker}
 
@@ -262,7 +261,7 @@ module _ {R : Type 0} where
         ap keys_of (after_round g) ∙ keys_kept without_reader (went g) ∙ keys_insert_all bytes_eq stayed g.gathers.lanes
         ∙ ap (λ keys. set_all bytes_eq keys (keys_of g.gathers.lanes)) (keys_kept without_lane earlier.clients.entries)
         ∙ ap (set_all bytes_eq (keys_of earlier.clients.entries)) (same_keys (get bytes_eq earlier.clients) quota uploads g.gathers.lanes
-        (lanes_of (get bytes_eq earlier.clients) quota (read_ahead server_room (length uploads)) uploads g.gathers.lanes g.gathers.taken.lanes_are))
+        (lanes_of (get bytes_eq earlier.clients) quota _ uploads g.gathers.lanes g.gathers.taken.lanes_are))
 
     round_knows : Knows before earlier → GathersRound quota earlier uploads gathered → Knows (uploads ∷ before) gathered
     round_knows knows g =
@@ -309,7 +308,7 @@ module _ {R : Type 0} where
           (subst (λ client. IsLogAfter quota client (uploads_of client (uploads ∷ before)) messages lane.1.log) (sym is.client) own)
 
       round_lanes : (g : GathersRound quota earlier uploads gathered) → AllZip (IsLaneOf (get bytes_eq earlier.clients) quota) uploads g.gathers.lanes
-      round_lanes g = lanes_of (get bytes_eq earlier.clients) quota (read_ahead server_room (length uploads)) uploads g.gathers.lanes g.gathers.taken.lanes_are
+      round_lanes g = lanes_of (get bytes_eq earlier.clients) quota _ uploads g.gathers.lanes g.gathers.taken.lanes_are
 
       -- a client with no upload in the round keeps its log
       stays_has : (g : GathersRound quota earlier uploads gathered) (entry : Entry (LaneResult R)) → HasLog quota before entry

@@ -12,10 +12,6 @@ use Rattle.conflict_desk.specs.declared.open_docket.OpenDocket.TheInside.{Inside
 abbrev pub book_in : Inside → Book
 book_in o = record { cases = o.cases; decisions = o.decisions.items }
 
--- whether the visit at that place is cancelled
-abbrev pub cancelled_at : Book → ℕ → Bool
-cancelled_at book k = option_map_or (is_cancelled book) (slice_get book.cases k) false
-
 -- The front is at that place, or it is the end. The flags before it tell which visits are cancelled, and nothing from
 -- it on is decided.
 pub record IsKept (book : Book) (links : List Link) (flags : List Bool) (next : ℕ) : Type 0 where
@@ -24,7 +20,7 @@ pub record IsKept (book : Book) (links : List Link) (flags : List Bool) (next : 
   pub links_count : length links ≡ length book.cases
   pub flags_count : length flags ≡ length book.cases
   pub within : next ≤ length book.cases
-  pub tell : Tell (cancelled_at book) next flags
+  pub tell : Tell (λ k. option_map_or (is_cancelled book) (slice_get book.cases k) false) next flags
   pub passed : (k : ℕ) (case : Case) → k < next → slice_get book.cases k ≡ Some case → waits book case ≡ false
   pub undecided : (k : ℕ) (case : Case) → next ≤ k → slice_get book.cases k ≡ Some case
       → is_decided book.decisions case.visit ≡ false

@@ -21,8 +21,7 @@ name_count names name = unwrap_or (get_by (λ k. slice_cmp nat_cmp name k.now) n
 
 -- that name was counted once more, and no other one
 abbrev pub CountsOneMore : List ℕ → BTreeMap (Bor (List ℕ)) ℕ → BTreeMap (Bor (List ℕ)) ℕ → Type 0
-CountsOneMore name old new =
-    (other : List ℕ)
+CountsOneMore name old new = (other : List ℕ)
     → name_count new other ≡ (if bytes_eq name other then suc (name_count old other) else name_count old other)
 
 -- the counts are those of the trees before, the nearest first

@@ -41,6 +41,5 @@ pub record Adds (d : Data) (parent : ℕ) (siblings passes : Siblings) (old new 
 
 -- those that some values stand for were added, the children of that parent
 abbrev pub AddsAll : Items → ℕ → List Line → List Line → Type 0
-AddsAll ds parent old new =
-    (ts : Trees) × AllStandFor ds ts × (new ≡ old ++ lines_from parent no_trees (length old) ts)
+AddsAll ds parent old new = (ts : Trees) × AllStandFor ds ts × (new ≡ old ++ lines_from parent no_trees (length old) ts)
     × (length new ≤ max_nodes)

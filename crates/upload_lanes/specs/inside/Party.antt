@@ -1,5 +1,5 @@
 -- A recorder with the uploaders of its lanes: what each is given, and what all of them make of the lanes.
-use Rattle.std.specs.Prelude.{◌≡◌, ℕ, ◌+◌, List, length, map, Bool, Option, Some, None, slice_get, Vec}
+use Rattle.std.specs.Prelude.{◌≡◌, ℕ, ◌+◌, List, length, map, Bool, Some, None, slice_get, Vec}
 use Rattle.std.specs.Arc.{arc_value}
 use Rattle.std.specs.List.{AllByRecursion, AllZip}
 use Rattle.crossbeam_queue.specs.Passes.{Pass, view}
@@ -9,7 +9,7 @@ use Rattle.lane_queue.specs.Queue.{Queue}
 use Rattle.lane_queue.specs.declared.item.Item.{Item}
 use Rattle.lane_queue.specs.declared.view.QueueView.{QueueView}
 use Rattle.upload_reader.specs.Upload.{UploadState}
-use Rattle.lanes_in_turn.specs.Taking.{Stops, TakesLane, IsFreshLane}
+use Rattle.lanes_in_turn.specs.Taking.{refused_by, Stops, TakesLane, IsFreshLane}
 use Rattle.upload_lanes.specs.Threads.{stop_of}
 use Rattle.upload_lanes.specs.inside.Sent.{IsReadOn, IsPut}
 use Rattle.lanes_in_turn.specs.declared.gathered.LaneResult.{LaneResult}
@@ -36,9 +36,6 @@ module _ {R : Type 0} where
   abbrev pub without_upload : List ℕ × LaneResult R → List ℕ × LaneResult R
   without_upload lane = (lane.0, record lane.1 { upload = None })
 
-  abbrev pub own_upload : List ℕ × LaneResult R → Option (UploadState R)
-  own_upload lane = lane.1.upload
-
   -- the uploaders of that queue's lanes, in lane order
   abbrev pub AreUploads : Queue → List (Uploads R) → Type 0
   AreUploads queue promises = (k : ℕ) (promise : Uploads R) → slice_get promises k ≡ Some promise
@@ -48,7 +45,7 @@ module _ {R : Type 0} where
   pub record AreSending (queue : Queue) (fresh : List (List ℕ × LaneResult R))
       (promises : List (Uploads R)) : Type 0 where
     pub uploads : AreUploads queue promises
-    pub same : map (λ promise. Some promise.upload.value) promises ≡ map own_upload fresh
+    pub same : map (λ promise. Some promise.upload.value) promises ≡ map (λ lane. lane.1.upload) fresh
 
   -- the recorder of these lanes and their uploaders have one queue
   pub record IsRunning {H : Type 0} (party : Party H R) : Type 0 where
@@ -90,7 +87,7 @@ module _ {R : Type 0} where
   -- One recorder took this of these lanes, and stopped so.
   pub record TakesByOne (allows : ℕ → Bool → Type 0) (more : ℕ) (fresh lanes : List (List ℕ × LaneResult R))
       (stop : Stop) : Type 0 where
-    pub each : AllZip (TakesLane more) fresh lanes
+    pub each : AllZip (TakesLane (more + refused_by stop)) fresh lanes
     pub stops : Stops allows lanes stop
 
   -- ---- the parties of all recorders
@@ -111,5 +108,5 @@ module _ {R : Type 0} where
   -- what a party takes of its lanes
   abbrev pub TakesParty : {H : Type 0} → (H → ℕ → Bool → Type 0) → Party H R → List (List ℕ × LaneResult R) → Stop
       → Type 0
-  TakesParty allows party = TakesByOne (allows party.recorder.promise.halt.value) ((arc_value party.queue).room + 2)
+  TakesParty allows party = TakesByOne (allows party.recorder.promise.halt.value) ((arc_value party.queue).room + 1)
       party.fresh.value.items

@@ -22,10 +22,6 @@ use Rattle.upload_lanes.specs.declared.sent.Sent.TheVariants.{One, Last}
 
 -- ---- the items of a lane
 
--- what is sent of an upload that gave these messages and ended so
-abbrev pub sent_items : List Costed → Option Ending → List Sent
-sent_items given ending = map One given ++ map Last (option_to_list ending)
-
 abbrev pub bodies : List (Item Sent) → List Sent
 bodies items = map (λ item. item.body) items
 
@@ -73,10 +69,11 @@ module _ {R : Type 0} where
     pub all : bodies put ≡ map One now.given
     pub marked : AllByRecursion IsMarked put
 
-  -- what was put is the front of what is sent of the upload, which is so many items more at the most
+  -- what was put is the front of what is sent of the upload, its messages and its ending, which is so many items more
+  -- at the most
   pub record IsPut (more : ℕ) (put : List (Item Sent)) (now : UploadState R) : Type 0 where
     pub rest : List Sent
-    pub front : sent_items now.given now.ending ≡ bodies put ++ rest
+    pub front : map One now.given ++ map Last (option_to_list now.ending) ≡ bodies put ++ rest
     pub few : length rest ≤ more
     pub marked : AllByRecursion IsMarked put
 

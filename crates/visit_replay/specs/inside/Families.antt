@@ -27,8 +27,7 @@ pub record Stands (visits : List Visit) (outcomes : List Outcome) (places : ℕ 
 
 -- whether the visit's parent leads elsewhere now
 abbrev pub TellsElsewhere : List Visit → List Outcome → (ℕ → Option ℕ) → Visit → Bool → Type 0
-TellsElsewhere visits outcomes places visit answer =
-    (before : List Replayed) → Stands visits outcomes places before
+TellsElsewhere visits outcomes places visit answer = (before : List Replayed) → Stands visits outcomes places before
     → answer ≡ is_elsewhere visit (parent_among before visit)
 
 -- the visit there has the outcome now that it has behind those before it

@@ -47,8 +47,7 @@ rounds_in words = None
 
 -- the words behind `listen`
 abbrev pub listening_of : List (List ℕ) → Option Listening
-listening_of (port ∷ lanes ∷ site_file ∷ rounds) =
-    option_and_then (λ port.
+listening_of (port ∷ lanes ∷ site_file ∷ rounds) = option_and_then (λ port.
     option_and_then (λ lanes.
     option_map (λ rounds. record { port = port; lanes = lanes; rounds = rounds; site_file = site_file })
     (rounds_in rounds)) (number_of_word 1 max_round_lanes lanes)) (number_of_word 1 max_port port)

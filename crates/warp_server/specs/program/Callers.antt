@@ -1,8 +1,7 @@
 -- What serving answers and writes, by who came and what was given back: this project's own rules.
-use Rattle.std.specs.Prelude.{◌≡◌, ◌≢◌, ℕ, ◌<◌, ◌≤◌, List, [], ◌∷◌, ◌++◌, length, map, true, None, ◌⊎◌, ⊤}
-use Rattle.std.specs.List.{AllByRecursion, filter_map}
+use Rattle.std.specs.Prelude.{◌≡◌, ◌≢◌, ℕ, ◌<◌, ◌≤◌, List, [], ◌∷◌, length, map, true, ◌⊎◌, ⊤}
+use Rattle.std.specs.List.{AllByRecursion, Any, FoldsTo, filter_map}
 use Rattle.byte_streams.specs.Answers.{Answer}
-use Rattle.byte_streams.specs.Cutting.{StopsAtEnd}
 use Rattle.byte_streams.specs.Reading.{Reading}
 use Rattle.byte_streams.specs.Writing.{CallWrites, Takes, TakesPart, WritesNothing}
 use Rattle.upload_reader.specs.Upload.{UploadState, Begins, Refuses}
@@ -42,31 +41,20 @@ sayings was_read brings nobody takes = record { was_read = was_read; brings = br
 abbrev pub silent : {R : Type 0} → (R → R → List Answer → Type 0) → Sayings (Unit {0}) R
 silent was_read = sayings was_read (λ _ _ _. ⊤) (λ _ _. ⊤) (λ _ _ _. ⊤)
 
--- from the one to the other by a step with each of these
-abbrev pub OneByOne : {C X : Type 0} → (C → X → C → Type 0) → C → List X → C → Type 0
-OneByOne step callers [] now = now ≡ callers
-OneByOne {C} step callers (x ∷ xs) now = (between : C) × step callers x between × OneByOne step between xs now
-
 -- ---- the sources of a round
 
 -- the upload behind the hello that its source begins with
 abbrev pub IsGreeted : {R : Type 0} → UploadState R → Type 0
 IsGreeted upload = Begins (fresh_lines upload.lines.first) upload
 
-module _ {R : Type 0} (told : R → R → List Answer → Type 0) where
-  -- the source doesn't begin with a hello
-  pub record BeginsBadly (first : R) : Type 0 where
-    pub read : Reading R
-    pub fault : HelloFault
-    pub refuses : Refuses (fresh_lines first) read fault
-    pub not_memory : fault ≢ NoMemory
-    pub now : R
-    pub is_read : IsReadOf told first now read.answers
-
-  -- one of these doesn't
-  abbrev pub OneBeginsBadly : List R → Type 0
-  OneBeginsBadly readers =
-      (before : List R) × (bad : R) × (behind : List R) × (readers ≡ before ++ bad ∷ behind) × BeginsBadly bad
+-- the source doesn't begin with a hello
+pub record BeginsBadly {R : Type 0} (told : R → R → List Answer → Type 0) (first : R) : Type 0 where
+  pub read : Reading R
+  pub fault : HelloFault
+  pub refuses : Refuses (fresh_lines first) read fault
+  pub not_memory : fault ≢ NoMemory
+  pub now : R
+  pub is_read : IsReadOf told first now read.answers
 
 -- the uploads that these lanes hold
 abbrev pub uploads_in : {R : Type 0} → List (List ℕ × LaneResult R) → List (UploadState R)
@@ -77,22 +65,17 @@ module _ {C R : Type 0} (says : Sayings C R) where
   pub record CameWith (lanes : ℕ) (callers : C) (uploads : List (UploadState R)) (now : C) : Type 0 where
     pub count : length uploads ≡ lanes
     pub greeted : AllByRecursion IsGreeted uploads
-    pub brought : OneByOne says.brings callers (map (λ upload. upload.lines.first) uploads) now
+    pub brought : FoldsTo says.brings callers (map (λ upload. upload.lines.first) uploads) now
 
   -- one of the sources doesn't begin with a hello; these sources aren't given back
-  pub record CameBadly (lanes : ℕ) (callers now : C) : Type 0 where
-    pub readers : List R
-    pub count : length readers ≡ lanes
-    pub bad : OneBeginsBadly says.was_read readers
-    pub brought : OneByOne says.brings callers readers now
+  abbrev pub CameBadly : ℕ → C → C → Type 0
+  CameBadly lanes callers now = (readers : List R) × (length readers ≡ lanes)
+      × Any (BeginsBadly says.was_read) readers × FoldsTo says.brings callers readers now
 
   -- too few came; these sources aren't given back
-  pub record TooFewCame (lanes : ℕ) (callers now : C) : Type 0 where
-    pub readers : List R
-    pub fewer : length readers < lanes
-    pub between : C
-    pub brought : OneByOne says.brings callers readers between
-    pub nobody : says.nobody between now
+  abbrev pub TooFewCame : ℕ → C → C → Type 0
+  TooFewCame lanes callers now = (readers : List R) × (between : C) × (length readers < lanes)
+      × FoldsTo says.brings callers readers between × says.nobody between now
 
   -- the upload's source was given back, read as the upload tells
   abbrev pub GivesBack : C → UploadState R → C → Type 0
@@ -100,12 +83,9 @@ module _ {C R : Type 0} (says : Sayings C R) where
       × says.takes callers reader now
 
   -- two uploads of a round are of one client, and all sources are given back
-  pub record ClientCameTwice (lanes : ℕ) (callers now : C) : Type 0 where
-    pub uploads : List (UploadState R)
-    pub twice : has_twice (clients_of uploads) ≡ true
-    pub begun : C
-    pub came : CameWith lanes callers uploads begun
-    pub back : OneByOne GivesBack begun uploads now
+  abbrev pub ClientCameTwice : ℕ → C → C → Type 0
+  ClientCameTwice lanes callers now = (uploads : List (UploadState R)) × (has_twice (clients_of uploads) ≡ true)
+      × ((begun : C) × CameWith lanes callers uploads begun × FoldsTo GivesBack begun uploads now)
 
   -- why a round isn't made; where memory is refused nothing is said of the callers
   abbrev pub RoundFails : ℕ → C → C → Status → Type 0
@@ -121,7 +101,7 @@ module _ {C R : Type 0} (says : Sayings C R) where
     pub begun : C
     pub came : CameWith lanes callers uploads begun
     pub gathers : GathersRound quota earlier uploads gathered
-    pub back : OneByOne GivesBack begun (uploads_in gathers.round.clients.entries) now
+    pub back : FoldsTo GivesBack begun (uploads_in gathers.round.clients.entries) now
 
 -- ---- serving on that site, by so many lanes a round and so many rounds
 

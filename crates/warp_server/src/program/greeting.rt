@@ -1,9 +1,9 @@
 //! The uploads of a round: so many callers come, and then the hello of each is read, in that order.
 ghost use Rattle.std.specs.Prelude.{◌≡◌, ◌≢◌, length, map, IfOk, IfErr};
-ghost use Rattle.std.specs.List.{AllByRecursion};
+ghost use Rattle.std.specs.List.{AllByRecursion, Any, FoldsTo};
 ghost use Rattle.byte_streams.specs.Reading.{WasRead};
 ghost use Rattle.upload_reader.specs.declared.hello_fault.HelloFault.TheVariants.{NoMemory};
-ghost use Rattle.warp_server.specs.program.Callers.{sayings, OneByOne, IsGreeted, BeginsBadly, OneBeginsBadly, CameWith, RoundFails};
+ghost use Rattle.warp_server.specs.program.Callers.{sayings, IsGreeted, BeginsBadly, CameWith, RoundFails};
 
 use crate::program::callers::Callers;
 use byte_streams::{Lines, Source};
@@ -37,7 +37,7 @@ fn accept_all<R: Source + Drop + Send, C: Callers<Reader = R>>(
     lanes: u32,
 ) -> Result<Vec<R>, Status>
     ensures count { IfOk result (λ readers. length readers.items ≡ lanes) }
-    ensures brought { IfOk result (λ readers. OneByOne C.brings callers.old readers.items callers.new) }
+    ensures brought { IfOk result (λ readers. FoldsTo C.brings callers.old readers.items callers.new) }
     ensures refused { IfErr result (RoundFails
         (sayings (WasRead R.answers R.remaining) C.brings C.brings_none C.takes_back)
         lanes callers.old callers.new) }
@@ -60,7 +60,7 @@ fn greet_all<R: Source + Drop>(alloc: Global, readers: Vec<R>) -> Result<Vec<Upl
     ensures greeted { IfOk result (λ uploads. AllByRecursion IsGreeted uploads.items) }
     ensures sources { IfOk result (λ uploads. map (λ upload. upload.lines.first) uploads.items ≡ readers.items) }
     ensures refused { IfErr result (λ fault. fault ≢ NoMemory
-        → OneBeginsBadly (WasRead R.answers R.remaining) readers.items) }
+        → Any (BeginsBadly (WasRead R.answers R.remaining)) readers.items) }
 {
     let Ok(mut uploads) = Vec::with_capacity(alloc, readers.len()) else {
         return Err(HelloFault::NoMemory);

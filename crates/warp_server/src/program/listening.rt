@@ -6,7 +6,7 @@ ghost use Rattle.byte_streams.specs.Reading.{WasRead};
 ghost use Rattle.byte_streams.specs.Writing.{writes_of};
 ghost use Rattle.lanes_in_turn.specs.Round.{AreRoundLanes};
 ghost use Rattle.warp_server.specs.program.Callers.{sayings, silent};
-ghost use Rattle.warp_server.specs.program.Listen.{openings, unopened_status, IsLocal, SaysSite, ReadsFile, Listens};
+ghost use Rattle.warp_server.specs.program.Listen.{unopened_status, IsLocal, SaysSite, ReadsFile, Listens};
 ghost use Rattle.warp_run.specs.Intake.{SaysNoSite};
 ghost use Rattle.warp_run.specs.declared.status.Status.TheVariants.{OutOfMemory};
 
@@ -37,7 +37,7 @@ pub fn listen<
         + Sync,
 >(rt: &T, listening: &Listening, writer: &mut W) -> Status
     requires lanes { AreRoundLanes listening.now.lanes }
-    ensures { Listens (openings {F = Fed File} {C = Unit {0}} (λ _ _. ⊤) (λ _ _. ⊤))
+    ensures { Listens {F = Fed File} {C = Unit {0}} (λ _ _. ⊤) (λ _ _. ⊤)
         (WasRead {R = Fed File} fed_answers (λ _. None)) (silent (WasRead {R = Fed TcpStream} fed_answers (λ _. None))) listening.now
         (writes_of W.puts W.contents writer.old writer.new) result }
 {
@@ -54,7 +54,7 @@ pub fn listen_by<
     T: AllocGlobal + Threads + Wait + Sync,
 >(rt: &T, opener: &O, listening: &Listening, writer: &mut W) -> Status
     requires lanes { AreRoundLanes listening.now.lanes }
-    ensures { Listens (openings O.opened O.bound) (WasRead F.answers F.remaining)
+    ensures { Listens O.opened O.bound (WasRead F.answers F.remaining)
         (sayings (WasRead R.answers R.remaining) C.brings C.brings_none C.takes_back) listening.now
         (writes_of W.puts W.contents writer.old writer.new) result }
 {

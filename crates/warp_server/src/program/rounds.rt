@@ -1,6 +1,6 @@
 //! Rounds of uploads, one after another.
 ghost use Rattle.std.specs.Prelude.{ℕ, List, [], ◌∷◌, false, ◌≡◌, ◌≢◌, length, map, slice_get, true, Some, IfOk, IfErr};
-ghost use Rattle.std.specs.List.{AllByRecursion};
+ghost use Rattle.std.specs.List.{AllByRecursion, FoldsTo};
 ghost use Rattle.indexmap.specs.IndexMap.{set_value_at};
 ghost use Rattle.lanes_in_turn.specs.Round.{AreRoundLanes};
 ghost use Rattle.upload_reader.specs.Upload.{UploadState, IsUntouched};
@@ -9,7 +9,7 @@ ghost use Rattle.site_line.specs.Reading.{site_quota};
 ghost use Rattle.upload_lanes.specs.Threads.{Gathers};
 ghost use Rattle.lanes_in_turn.specs.Taking.{never};
 ghost use Rattle.warp_server.specs.Rounds.{without_reader};
-ghost use Rattle.warp_server.specs.program.Callers.{sayings, OneByOne, uploads_in, GivesBack, RoundFails, MakesRound, NoFurtherRound, MakesAll};
+ghost use Rattle.warp_server.specs.program.Callers.{sayings, uploads_in, GivesBack, RoundFails, MakesRound, NoFurtherRound, MakesAll};
 ghost use Rattle.warp_run.specs.Shortage.{status_of};
 ghost use Rattle.warp_run.specs.declared.status.Status.TheVariants.{Done, OutOfMemory};
 
@@ -101,7 +101,7 @@ fn give_back<R: Source + Drop + Send, C: Callers<Reader = R>>(
     callers: &mut C,
     uploads: Vec<Upload<R>>,
 )
-    ensures { OneByOne
+    ensures { FoldsTo
         (GivesBack (sayings (WasRead R.answers R.remaining) C.brings C.brings_none C.takes_back))
         callers.old uploads.items callers.new }
 {
@@ -117,7 +117,7 @@ fn give_back_all<R: Source + Drop + Send, C: Callers<Reader = R>>(
 ) -> Gathered<R>
     ensures clients { result.clients.entries ≡ map (λ entry. (entry.0, without_reader entry.1)) round.clients.entries }
     ensures stop { result.stop ≡ round.stop }
-    ensures back { OneByOne
+    ensures back { FoldsTo
         (GivesBack (sayings (WasRead R.answers R.remaining) C.brings C.brings_none C.takes_back))
         callers.old (uploads_in round.clients.entries) callers.new }
 {
@@ -136,7 +136,7 @@ fn give_back_at<R: Source + Drop + Send, C: Callers<Reader = R>>(
 )
     ensures clients { (entry : List ℕ × LaneResult R) → slice_get clients.old.entries k ≡ Some entry
         → clients.new.entries ≡ set_value_at clients.old.entries k (without_reader entry.1) }
-    ensures back { (entry : List ℕ × LaneResult R) → slice_get clients.old.entries k ≡ Some entry → OneByOne
+    ensures back { (entry : List ℕ × LaneResult R) → slice_get clients.old.entries k ≡ Some entry → FoldsTo
         (GivesBack (sayings (WasRead R.answers R.remaining) C.brings C.brings_none C.takes_back))
         callers.old (uploads_in (entry ∷ [])) callers.new }
 {

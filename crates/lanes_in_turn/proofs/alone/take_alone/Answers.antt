@@ -11,7 +11,7 @@ loop-init g c = (tt, tt, sets_out (g.H.Halt.allows c.args.halt.now) c.args.lane.
 pub returns-then-is_some-clause-taken : goal.returns-then-is_some-clause-taken
 returns-then-is_some-clause-taken g c =
     let way = c.loop.invariant.2 in
-    takes_so (g.H.Halt.allows c.args.halt.now) c.args.lane.now c.loop.lane c.loop.items way c.loop.lane.1 0 (omega arith) way.in_turn
+    takes_so (g.H.Halt.allows c.args.halt.now) c.args.lane.now c.loop.lane c.loop.items way c.loop.lane.1 0 way.in_turn
 
 pub returns-then-is_some-clause-stops : goal.returns-then-is_some-clause-stops
 returns-then-is_some-clause-stops g c = stops_none (g.H.Halt.allows c.args.halt.now) c.args.lane.now c.loop.lane c.loop.items c.loop.invariant.2 (sym c.is_some.ensures ∙ c.if-is_some.true)
@@ -22,7 +22,7 @@ ask-requires g c = c.requires.halt c.loop.items (few_items (g.H.Halt.allows c.ar
 pub returns-then-ask-clause-taken : goal.returns-then-ask-clause-taken
 returns-then-ask-clause-taken g c =
     let way = c.loop.invariant.2 in
-    takes_so (g.H.Halt.allows c.args.halt.now) c.args.lane.now c.loop.lane c.loop.items way c.loop.lane.1 0 (omega arith) way.in_turn
+    takes_so (g.H.Halt.allows c.args.halt.now) c.args.lane.now c.loop.lane c.loop.items way c.loop.lane.1 0 way.in_turn
 
 pub returns-then-ask-clause-stops : goal.returns-then-ask-clause-stops
 returns-then-ask-clause-stops g c =
@@ -37,7 +37,7 @@ returns-then-is_err-clause-taken g c =
     let err : is_err c.take_next.result ≡ true = sym c.is_err.ensures.value ∙ c.if-is_err.true in
     let way = c.loop.invariant.2 in
     let turn = when_err c.take_next.result _ err (c.take_next.ensures.refused c.args.lane.now.1.log way.begun c.loop.items way.in_turn) in
-    takes_so (g.H.Halt.allows c.args.halt.now) c.args.lane.now c.loop.lane c.loop.items way c.take_next.new.self 1 (omega arith) turn
+    takes_so (g.H.Halt.allows c.args.halt.now) c.args.lane.now c.loop.lane c.loop.items way c.take_next.new.self 1 turn
 
 pub returns-then-is_err-clause-stops : goal.returns-then-is_err-clause-stops
 returns-then-is_err-clause-stops g c =

@@ -2,8 +2,7 @@ use Rattle.std.proofs.Common.{◌≡◌, ◌+◌, ◌<◌, subst, take, length, 
 use Rattle.std.proofs.lemmas.Option.{slice_get-get_or}
 use Rattle.std.specs.Prelude.{IsSomeAnd}
 use Rattle.lanes_in_turn.specs.Round.{entries_of}
-use Rattle.lanes_in_turn.specs.inside.{none}
-use Rattle.lanes_in_turn.proofs.RoundLaws.{lanes_begun, lanes_asked, entries_more, only_there}
+use Rattle.lanes_in_turn.proofs.RoundLaws.{none, lanes_begun, lanes_asked, entries_more, only_there}
 use Rattle.lanes_in_turn.proofs.LaneSteps.{when_ok, when_err}
 use Rattle.lanes_in_turn.proofs.in_turn.take_all.Goals as goal
 

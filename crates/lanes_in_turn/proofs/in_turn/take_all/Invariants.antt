@@ -3,8 +3,9 @@ use Rattle.std.specs.List.{AllByRecursion}
 use Rattle.upload_reader.specs.Upload.{UploadState, IsUntouched}
 use Rattle.lanes_in_turn.specs.Round.{AreTakenInTurn, entries_of}
 use Rattle.lanes_in_turn.specs.Taking.{begun_lane}
-use Rattle.lanes_in_turn.specs.inside.{none, HaveFewTaken}
+use Rattle.lanes_in_turn.specs.inside.{HaveFewTaken}
 use Rattle.lanes_in_turn.specs.declared.gathered.LaneResult.{LaneResult}
+use Rattle.lanes_in_turn.proofs.RoundLaws.{none}
 use Rattle.lanes_in_turn.proofs.in_turn.take_all.Given as goal
 
 abbrev pub invariant-loop-k : goal.invariant-loop-k

@@ -16,5 +16,5 @@ returns g c =
     let new = c.take_alone-stop.new.lane in
     let stop = c.take_alone-stop.result in
     let one = one_of c.args.lanes.items c.index_mut.result.now c.requires.one c.index_mut.ensures.value in
-    subst (λ lanes. AreTaken allows 1 lanes (slice_set lanes 0 new) stop) (sym one)
+    subst (λ lanes. AreTaken allows 0 lanes (slice_set lanes 0 new) stop) (sym one)
     (takes_alone allows c.index_mut.result.now new stop c.take_alone-stop.ensures.taken c.take_alone-stop.ensures.stops)

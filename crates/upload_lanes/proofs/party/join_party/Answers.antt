@@ -3,8 +3,9 @@ use Rattle.std.proofs.lemmas.List.{length-map}
 use Rattle.std.specs.Arc.{arc_value}
 use Rattle.crossbeam_queue.specs.Passes.{view}
 use Rattle.lanes_in_turn.proofs.RoundLaws.{written}
+use Rattle.upload_lanes.proofs.SendingLaws.{own_upload}
 use Rattle.upload_lanes.proofs.StopLaws.{takes_by_one}
-use Rattle.upload_lanes.specs.inside.Party.{AreJoined, AreUploads, TakesByOne, own_upload, without_upload}
+use Rattle.upload_lanes.specs.inside.Party.{AreJoined, AreUploads, TakesByOne, without_upload}
 use Rattle.upload_lanes.proofs.party.join_party.Goals as goal
 
 pub returns : goal.returns
@@ -20,7 +21,7 @@ returns g c =
     let joined = subst (λ queue. AreJoined queue.room promises got recorded.lanes.items new) c.deref.ensures
     (subst (λ old. AreJoined c.deref.result.now.room promises got old new) c.as_mut_slice.ensures.value c.join_uploads.ensures.joined) in
     let same = written recorded.lanes.items new recorded.lanes.len (omega (arith, joined.count, recorded.lanes.len)) in
-    subst (λ lanes. TakesByOne allows (room + 2) fresh lanes recorded.stop) (sym same)
+    subst (λ lanes. TakesByOne allows (room + 1) fresh lanes recorded.stop) (sym same)
     (takes_by_one allows room firsts recorded.lanes.items new promises got recorded.stop recorded.items c.join-taker.ensures.0.recording joined
     fresh c.requires.lanes_are c.requires.sending.same c.join-taker.ensures.1)
 

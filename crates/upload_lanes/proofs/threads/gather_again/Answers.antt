@@ -2,7 +2,7 @@ use Rattle.std.proofs.Common.{ℕ, ◌+◌, Bool, ap, arith, bytes_eq, length, m
 use Rattle.std.proofs.lemmas.List.{length-map}
 use Rattle.indexmap.specs.IndexMap.{get, insert_all}
 use Rattle.lanes_in_turn.specs.Round.{AreRoundLanes, IsNoRound, without_lanes}
-use Rattle.lanes_in_turn.specs.Taking.{begun_lane, TakesLane}
+use Rattle.lanes_in_turn.specs.Taking.{refused_by, begun_lane, TakesLane}
 use Rattle.upload_lanes.specs.Threads.{read_ahead, AreTaken}
 use Rattle.upload_lanes.proofs.Zips.{zip_length}
 use Rattle.upload_lanes.proofs.threads.gather_again.Goals as goal
@@ -18,7 +18,7 @@ take_lanes-requires-clause-lanes g c = λ κs within.
 pub end_round-requires-clause-room : goal.end_round-requires-clause-room
 end_round-requires-clause-room g c = λ κs within.
     let begun = c.in_ok-earlier.ensures.begun in
-    let size = zip_length (TakesLane (read_ahead c.args.room (length c.in_ok-earlier.field-0.lanes.items))) c.in_ok-earlier.field-0.lanes.items c.in-Ok.lanes.items c.in-Ok.ensures.lanes_are in
+    let size = zip_length (TakesLane (read_ahead c.args.room (length c.in_ok-earlier.field-0.lanes.items) + refused_by c.in-Ok.stop)) c.in_ok-earlier.field-0.lanes.items c.in-Ok.lanes.items c.in-Ok.ensures.lanes_are in
     omega (arith, size, begun.room)
 
 pub returns-in-Ok-clause-ok : goal.returns-in-Ok-clause-ok

@@ -22,14 +22,14 @@ collect-requires-clause-some g c =
     let count : c.len-count.result ≡ length lanes = omega (arith, c.len-count.ensures, c.args.lanes.len) in
     let recorders : c.recorders_of.result ≡ recorders_of (length lanes) = c.recorders_of.ensures ∙ ap recorders_of count in
     let range = recorders_range (length lanes) c.requires.lanes.some in
-    let taken = taken_count lanes c.in_ok-hands.hands.items c.recorders_of.result c.in_ok-hands.ensures.count c.in_ok-hands.ensures.each (g.H.Halt.allows c.args.halt.now) (c.args.room + 2) c.in_ok-taken.taken.items c.in_ok-taken.stop
+    let taken = taken_count lanes c.in_ok-hands.hands.items c.recorders_of.result c.in_ok-hands.ensures.count c.in_ok-hands.ensures.each (g.H.Halt.allows c.args.halt.now) (c.args.room + 1) c.in_ok-taken.taken.items c.in_ok-taken.stop
     c.in_ok-taken.ensures in
     omega (arith, recorders, range.0, taken)
 
 pub collect-requires-clause-shares : goal.collect-requires-clause-shares
 collect-requires-clause-shares g c =
     let count : c.len-count.result ≡ length c.args.lanes.items = omega (arith, c.len-count.ensures, c.args.lanes.len) in
-    shares c.args.lanes.items c.in_ok-hands.hands.items c.recorders_of.result c.in_ok-hands.ensures.count c.in_ok-hands.ensures.each (g.H.Halt.allows c.args.halt.now) (c.args.room + 2) c.in_ok-taken.taken.items c.in_ok-taken.stop
+    shares c.args.lanes.items c.in_ok-hands.hands.items c.recorders_of.result c.in_ok-hands.ensures.count c.in_ok-hands.ensures.each (g.H.Halt.allows c.args.halt.now) (c.args.room + 1) c.in_ok-taken.taken.items c.in_ok-taken.stop
     c.in_ok-taken.ensures c.len-count.result count
 
 pub returns : goal.returns
@@ -39,7 +39,7 @@ returns g c =
     let recorders : c.recorders_of.result ≡ recorders_of (length lanes) = c.recorders_of.ensures ∙ ap recorders_of count in
     let range = recorders_range (length lanes) c.requires.lanes.some in
     let many : (length lanes == 1) ≡ false = ne_eqb (length lanes) 1 (λ alone. omega (arith, alone, c.len.ensures, c.args.lanes.len, c.if-len-eq1.false)) in
-    let ahead : read_ahead c.args.room (length lanes) ≡ c.args.room + 2 = rw many refl in
+    let ahead : read_ahead c.args.room (length lanes) ≡ c.args.room + 1 = rw many refl in
     subst (λ more. AreTaken (g.H.Halt.allows c.args.halt.now) more lanes c.collect.result.items c.in_ok-taken.stop) (sym ahead)
-    (take_lanes lanes c.in_ok-hands.hands.items c.recorders_of.result c.in_ok-hands.ensures.count c.in_ok-hands.ensures.each (g.H.Halt.allows c.args.halt.now) (c.args.room + 2) c.in_ok-taken.taken.items c.in_ok-taken.stop
+    (take_lanes lanes c.in_ok-hands.hands.items c.recorders_of.result c.in_ok-hands.ensures.count c.in_ok-hands.ensures.each (g.H.Halt.allows c.args.halt.now) (c.args.room + 1) c.in_ok-taken.taken.items c.in_ok-taken.stop
     c.in_ok-taken.ensures c.collect.result.items (c.collect.ensures.count ∙ count) c.collect.ensures.each recorders (omega (arith, recorders, range.0)))

@@ -1,4 +1,4 @@
-use Rattle.std.proofs.Common.{◌≡◌, Ok, Err, inl, inr, ap, refl, subst, ◌∙◌}
+use Rattle.std.proofs.Common.{Ok, Err, inl, inr, ap, refl, subst, ◌∙◌}
 use Rattle.warp_server.specs.program.Listen.{unopened_status}
 use Rattle.warp_server.proofs.program.listening.listen_by.Goals as goal
 

@@ -1,10 +1,11 @@
 use Rattle.std.proofs.Common.{inr, subst}
+use Rattle.std.specs.List.{FoldsTo}
 use Rattle.lanes_in_turn.specs.Round.{IsNoRound}
 use Rattle.upload_lanes.specs.Threads.{Gathers}
 use Rattle.byte_streams.specs.Reading.{WasRead}
 use Rattle.lanes_in_turn.specs.Taking.{never}
 use Rattle.warp_server.specs.Rounds.{server_room}
-use Rattle.warp_server.specs.program.Callers.{sayings, OneByOne, GivesBack}
+use Rattle.warp_server.specs.program.Callers.{sayings, GivesBack}
 use Rattle.warp_server.proofs.RoundSteps.{all_untouched}
 use Rattle.warp_server.proofs.program.rounds.gather_round.Goals as goal
 
@@ -33,10 +34,12 @@ returns-in-DuplicateClient-clause-refused g c =
     let refused = c.in-Err.ensures.refused in
     let twice = c.in-DuplicateClient.is in
     let unread = refused.unread (λ no. cc) in
-    inr record {
-      uploads = c.in_ok-uploads.uploads.items;
-      twice = (subst (IsNoRound c.in_ok-uploads.uploads.items) c.in-DuplicateClient.is refused.why).1;
-      begun = c.accept_uploads.new.callers;
-      came = c.in_ok-uploads.ensures.ok;
-      back = subst (λ items. OneByOne (GivesBack (sayings (WasRead g.R.Source.answers g.R.Read.remaining) g.C.Callers.brings g.C.Callers.brings_none g.C.Callers.takes_back)) c.accept_uploads.new.callers items c.give_back.new.callers) unread c.give_back.ensures;
-    }
+    inr (
+      c.in_ok-uploads.uploads.items,
+      (subst (IsNoRound c.in_ok-uploads.uploads.items) c.in-DuplicateClient.is refused.why).1,
+      (
+        c.accept_uploads.new.callers,
+        c.in_ok-uploads.ensures.ok,
+        subst (λ items. FoldsTo (GivesBack (sayings (WasRead g.R.Source.answers g.R.Read.remaining) g.C.Callers.brings g.C.Callers.brings_none g.C.Callers.takes_back)) c.accept_uploads.new.callers items c.give_back.new.callers) unread c.give_back.ensures,
+      ),
+    )
