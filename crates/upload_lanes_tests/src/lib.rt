@@ -4,6 +4,8 @@
 #[cfg(test)]
 mod dealing_tests;
 #[cfg(test)]
+mod halt_tests;
+#[cfg(test)]
 mod stress_tests;
 #[cfg(test)]
 mod tests;
