@@ -5,7 +5,7 @@ use std::alloc::Global;
 use upload_lanes::Stop;
 use upload_reader::Client;
 use visit_replay::{ConflictKind, Outcome, Requests};
-use warp_server::{Listed, Repaired, settle};
+use warp_run::{Listed, Repaired, settle};
 
 /// Decisions behind one that was put before.
 pub(crate) fn settle_again<T: AllocGlobal + Eprint>(rt: &T) -> Option<&'static str> {
