@@ -1,12 +1,19 @@
 """Programs as `rt try` builds them: compiled with checks, and not proved."""
 
+import itertools
 import os
 import pathlib
+import random
 import shutil
+import socket
 import subprocess
 import time
 
 TOP = pathlib.Path(__file__).resolve().parent.parent
+
+# Ports below those that connections get. Each comes again only when all others have, so that runs side by side get none
+# that another is about to listen on.
+PORTS = itertools.cycle(random.sample(range(20_000, 32_000), 12_000))
 
 
 def build(crate, words, path, *flags):
@@ -42,3 +49,14 @@ def keep(gate, path):
         if gate in words and own:
             shutil.copy(own[0], path)
     os.close(end)
+
+
+def free_port():
+    """A port of 127.0.0.1 that nobody listens on."""
+    for port in PORTS:
+        with socket.socket() as trial:
+            try:
+                trial.bind(("127.0.0.1", port))
+                return port
+            except OSError:
+                pass
