@@ -5,8 +5,12 @@
 #   forms       500 submits of a form of 4,000 elements
 #   watched     4,000 watched paths over 1,500 siblings, and 10 visits
 #   stars       500 watched paths like /html/*/p over 4,000 siblings, and 100 visits
+#   paths       500 watched paths like /html/*/b0 that no page has, over 4,095 elements, and 1,100 visits
+#   names       26,000 watched paths like /html/body/b7, and 4,000 visits to small pages no two of which are equal
+#   indices     4,000 watched paths like /html/p[7], and 21 visits to 4,000 siblings, no two equal
 #   radios      1,000 submits of a form of 4,000 radio buttons
 #   texts       1,000 submits of a text of 64,999 bytes, each of which the report writes as three
+#   children    2,800 visits that one visit opened, by as many submits of eight such texts, which the repaired page drops
 #   awk -v input=pages -f make_costly.awk > upload.jsonl
 function times(n, text,   all) { all = ""; for (i = 1; i <= n; i++) all = all (i > 1 ? "," : "") text; return all }
 function site(page, watch) { print "{\"patched\":[\"/a\"],\"quota\":4294967295,\"watch\":[" watch "],\"pages\":{\"/a\":" page "}}"; print "{\"t\":\"hello\",\"client\":\"bench\"}" }
@@ -49,6 +53,28 @@ BEGIN {
     } else if (input == "stars") {
         site("{\"n\":\"html\",\"c\":[" times(4000, "{\"n\":\"p\"}") "]}", times(500, "\"/html/*/p\""))
         visits(100)
+    } else if (input == "paths") {
+        watch = ""
+        for (i = 0; i < 500; i++) watch = watch (i ? "," : "") "\"/html/*/b" i "\""
+        site("{\"n\":\"html\",\"c\":[" times(4095, "{\"n\":\"p\"}") "]}", watch)
+        visits(1100)
+    } else if (input == "names") {
+        watch = ""
+        for (i = 10000; i < 36000; i++) watch = watch (i > 10000 ? "," : "") "\"/html/body/b" i "\""
+        site("{\"n\":\"html\"}", watch)
+        for (visit = 1; visit <= 4000; visit++) {
+            load(visit, "{\"n\":\"html\",\"c\":[\"" visit "\"]}")
+            ends(visit)
+        }
+    } else if (input == "indices") {
+        watch = ""
+        for (i = 1; i <= 4000; i++) watch = watch (i > 1 ? "," : "") "\"/html/p[" i "]\""
+        page = times(4000, "{\"n\":\"p\"}")
+        site("{\"n\":\"html\",\"c\":[" page "]}", watch)
+        for (visit = 1; visit <= 21; visit++) {
+            load(visit, "{\"n\":\"html\",\"c\":[\"" visit "\"," page "]}")
+            ends(visit)
+        }
     } else if (input == "radios") {
         form(times(4000, "{\"n\":\"input\",\"a\":{\"name\":\"n\",\"type\":\"radio\"}}"), 1000)
     } else if (input == "texts") {
@@ -57,6 +83,16 @@ BEGIN {
         load(1, page)
         print "{\"t\":\"input\",\"visit\":1,\"at\":0,\"target\":\"/html/form/textarea\",\"value\":\"" times(32500, ";") "\"}"
         submits(1000)
+        ends(1)
+    } else if (input == "children") {
+        site("{\"n\":\"html\",\"c\":[{\"n\":\"form\",\"c\":[" times(8, "{\"n\":\"textarea\"}") "]}]}", "")
+        load(1, "{\"n\":\"html\",\"c\":[{\"n\":\"form\",\"c\":[" times(8, "{\"n\":\"textarea\",\"a\":{\"name\":\"t\"}}") "]}]}")
+        for (k = 1; k <= 8; k++) print "{\"t\":\"input\",\"visit\":1,\"at\":0,\"target\":\"/html/form/textarea[" k "]\",\"value\":\"" times(32450, ";") "\"}"
+        submits(2800)
+        for (k = 1; k <= 2800; k++) {
+            print "{\"t\":\"load\",\"visit\":" k + 1 ",\"at\":0,\"parent\":1,\"from\":" k ",\"path\":\"/a\",\"page\":{\"n\":\"html\"}}"
+            ends(k + 1)
+        }
         ends(1)
     } else { print "make_costly: no such input" > "/dev/stderr"; exit 1 }
     print "{\"t\":\"bye\"}"

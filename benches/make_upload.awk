@@ -1,6 +1,6 @@
 # Makes a site line and an upload of at least `size` bytes: visits of a form with typed texts, a checkbox and a submit, a third of them to a page that
 # was patched. The same size gives the same upload. With `siblings` so many other elements stand beside the form, and with `inputs` each visit has so
-# many typed texts. With `workers` the site has so many.
+# many typed texts. With `workers` the site has so many. With `changing` each visit's page has an attribute of its own, so that no two are equal.
 #   awk -v size=600000 -f make_upload.awk > upload.jsonl
 #   awk -v size=6000000 -v siblings=4000 -v inputs=1000 -f make_upload.awk > upload.jsonl
 function chance(n) { seed = (seed * 16807) % 2147483647; return seed % n }
@@ -16,7 +16,9 @@ BEGIN {
     say("{\"t\":\"hello\",\"client\":\"bench\"}")
     for (visit = 1; bytes < size; visit++) {
         at = visit * 1000
-        say("{\"t\":\"load\",\"visit\":" visit ",\"at\":" at ",\"path\":\"" address[visit % 3 + 1] "\",\"page\":" page "}")
+        shown = page
+        if (changing) sub(/"n":"html"/, "&,\"a\":{\"id\":\"" visit "\"}", shown)
+        say("{\"t\":\"load\",\"visit\":" visit ",\"at\":" at ",\"path\":\"" address[visit % 3 + 1] "\",\"page\":" shown "}")
         for (i = inputs ? inputs : chance(12) + 4; i > 0; i--) {
             target = chance(2) ? "/html/body/form/input[1]" : "/html/body/form/textarea"
             say("{\"t\":\"input\",\"visit\":" visit ",\"at\":" at + 20 - i ",\"target\":\"" target "\",\"value\":\"" word(chance(60)) "\"}")

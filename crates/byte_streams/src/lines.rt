@@ -1,5 +1,5 @@
 //! Lines that are cut from a source, each when it is asked for.
-ghost use Rattle.std.specs.Prelude.{◌≡◌, ◌+◌, ◌<◌, ◌≤◌, [], length, option_map, Err, Some, None, IfSome, IfOk, IfErr, OnOk, OnErr, MatchResult};
+ghost use Rattle.std.specs.Prelude.{◌≡◌, ◌+◌, ◌<◌, ◌≤◌, [], length, option_map, Ok, Err, Some, None, IsNone, IfSome, IfOk, IfErr, OnOk, OnErr, MatchResult};
 ghost use Rattle.std.specs.List.{position_or_len};
 ghost use Rattle.std.specs.Borrow.{sem};
 ghost use Rattle.std.specs.Io.BufRead.{Rests};
@@ -115,6 +115,23 @@ impl<R: Source> Lines<R> {
         let count = self.find_line(limit)?;
         self.window.cut(count);
         Ok(())
+    }
+
+    /// The next line, of at most `limit` bytes without its line end, where what was read holds it: `advance` cuts it without a read.
+    #[tactic(auto, using(crate::proofs::Searching::cut_line))]
+    pub fn held_line(&self, limit: usize) -> Option<&[u8]>
+        ensures line { IfSome result (λ line. (self.now.fault ≡ None)
+            × (cut limit (uncut_bytes self.now) None ≡ Some (Ok line.now))) }
+        ensures none { IsNone result → self.now.fault ≡ None → line_length limit (uncut_bytes self.now) ≡ None }
+    {
+        if self.fault.is_some() {
+            return None;
+        }
+        let bytes = self.uncut();
+        match line_feed_from(bytes, 0, limit) {
+            Some(count) => Some(&bytes[..count]),
+            None => None,
+        }
     }
 
     /// The next line, of at most `limit` bytes without its line end.

@@ -21,6 +21,10 @@ pub is_object : (d : Data) → IsSome (as_object d) → (ms : Members) × (d ≡
 is_object (object ms) there = (ms, refl)
 is_object d there = cc
 
+pub is_object_of : (d : Data) (ms : Members) → as_object d ≡ Some ms → d ≡ object ms
+is_object_of (object ns) ms is = cc
+is_object_of d ms is = cc
+
 -- a value's first node is the value's own
 pub cut : (levels : ℕ) (d : Data) → (rest : List (Option PageFault)) × (value_faults levels d ≡ own_fault levels d ∷ rest)
 unfolding value_faults

@@ -13,7 +13,7 @@ one_more : (done : List Attribute) (next : Attribute) (rest : Option (List Attri
 one_more done next None = refl
 one_more done next (Some r) = ap Some (append_assoc done (next ∷ []) r)
 
-texts_step : (done : List Attribute) (name text : List ℕ) (d : Data) (ms : Members) → as_str d ≡ Some text
+pub texts_step : (done : List Attribute) (name text : List ℕ) (d : Data) (ms : Members) → as_str d ≡ Some text
     → option_map (λ rest. (done ++ (name, text) ∷ []) ++ rest) (texts_of ms) ≡ option_map (λ rest. done ++ rest) (texts_of (member name d ms))
 texts_step done name text d ms is = rw is (one_more done (name, text) (texts_of ms))
 

@@ -14,10 +14,13 @@ pub mod Cutting
 pub mod RowLaws
 pub mod BuildingLaws
 pub mod ReadingLaws
+pub mod PartLaws
 pub mod LineBisection
 pub mod SameLines
 pub mod LookLaws
 pub mod NodesUnder
 pub mod LoopLaws
+pub mod SiblingLaws
 pub mod ControlLaws
 pub mod Apart
+pub mod SideBySide

@@ -12,6 +12,7 @@ use Rattle.page_tree.specs.Number.{place_numbered}
 use Rattle.page_tree.specs.inside.Table.{Line, lines, trees_behind}
 use Rattle.page_tree.specs.inside.Rows.{line_in}
 use Rattle.page_tree.specs.inside.Kept.{words_at}
+use Rattle.page_tree.specs.inside.TextWalk.{texts_in}
 use Rattle.page_tree.proofs.Numbers.{has_node, node_there, under_numbered, of_numbered, number_of_numbered, place_number, nth_behind, node_at_child}
 use Rattle.page_tree.proofs.LookLaws.{end_there}
 
@@ -28,10 +29,6 @@ place_step f found all a e less is =
     append_assoc found (f a ∷ []) (map f (range_with_len (a + 1) (e - (a + 1)))) ∙ ap (λ r. found ++ map f r) (sym (range_step a e less)) ∙ is
 
 -- ---- texts
-
--- the texts of the nodes with so many numbers
-abbrev pub texts_in : Tree → ℕ → ℕ → List ℕ
-texts_in t n many = flat_map (λ k. words_at (place_numbered k t) t) (range_with_len n many)
 
 mutual
   -- a text is that of the nodes at and under its node

@@ -1,11 +1,10 @@
 -- A value stands for one page at the most, so that a function finds it.
-use Rattle.std.proofs.Common.{◌≡◌, ◌≢◌, Option, Some, None, Result, Ok, Err, refl, ap}
+use Rattle.std.proofs.Common.{◌≡◌, ◌≢◌, Some, None, Result, Ok, Err, refl, ap}
 use Rattle.std.specs.Result.{result_ok}
 use Rattle.serde_json.specs.Data.{Data}
 use Rattle.page_tree.specs.Tree.{Tree}
 use Rattle.page_tree.specs.Limits.{max_depth}
 use Rattle.page_tree.specs.Value.{IsPageOf, tree_in}
-use Rattle.page_tree.specs.FirstFault.{ok_unless}
 use Rattle.page_tree.specs.Fault.{fault_of_value, page_or_fault, page_in, GivesPage}
 use Rattle.page_tree.specs.declared.fault.PageFault.{PageFault}
 use Rattle.page_tree.specs.declared.fault.PageFault.TheVariants.{NoMemory}

@@ -5,7 +5,7 @@ use Rattle.std.specs.Option.{option_map_or}
 use Rattle.std.specs.Str.{bytes_eq}
 use Rattle.page_tree.specs.Tree.{Tree, Trees, no_trees, tree}
 use Rattle.page_tree.specs.Limits.{is_element, nodes}
-use Rattle.page_tree.specs.Look.{children_of, nth_child, name_of, name_at, count, child_count_at}
+use Rattle.page_tree.specs.Look.{children_of, nth_child, name_of, name_at, count, child_count_at, text_at}
 use Rattle.page_tree.specs.Under.{places_of, places_under}
 
 -- the place of the node with that number; past the last one, a place where no node is
@@ -15,6 +15,10 @@ place_numbered n t = get_or (places_of [] t) n (count (children_of t) ∷ [])
 -- the same, where a node has that number
 abbrev pub place_of : ℕ → Tree → Option (List ℕ)
 place_of n t = if nat_lt n (nodes t) then Some (place_numbered n t) else None
+
+-- the texts at or under the node with that number, joined
+abbrev pub text_numbered : ℕ → Tree → List ℕ
+text_numbered n t = text_at (place_numbered n t) t
 
 -- the nodes under that one are those numbered from the one number to below the other
 abbrev pub AreNumbersUnder : Tree → ℕ → ℕ → ℕ → Type 0

@@ -4,4 +4,6 @@ pub mod Kept
 pub mod Reading
 pub mod Rows
 pub mod Table
+pub mod TextWalk
 pub mod TreeCode
+pub mod Walking

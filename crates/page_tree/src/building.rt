@@ -1,15 +1,14 @@
 //! The table of a tree.
 
 ghost use Rattle.std.specs.Prelude.{◌≡◌, ◌+◌, ◌≤◌, ◌++◌, IfOk, OnOk, length};
-ghost use Rattle.page_tree.specs.Tree.{no_trees};
 ghost use Rattle.page_tree.specs.Limits.{nodes, max_nodes};
 ghost use Rattle.page_tree.specs.inside.Building.{nodes_in};
 ghost use Rattle.page_tree.specs.Seen.{plain_tree, plain_trees};
 ghost use Rattle.page_tree.specs.inside.Table.{lines, lines_of, lines_from};
 
 use crate::memory::NoMemory;
-use crate::siblings::Siblings;
-use crate::table::{NodeTable, Spot};
+use crate::rows::Spot;
+use crate::table::NodeTable;
 use crate::tree::Tree;
 use std::alloc::Global;
 
@@ -22,8 +21,6 @@ pub(crate) fn table_of(alloc: Global, root: &Tree) -> Result<NodeTable, NoMemory
     let spot = Spot {
         parent: 0,
         position: 0,
-        elements_before: 0,
-        same_before: 0,
     };
     add_node(&mut table, root, spot)?;
     Ok(table)
@@ -49,7 +46,7 @@ fn add_node(table: &mut NodeTable, tree: &Tree, spot: Spot) -> Result<(), NoMemo
                 attributes.as_slice(),
                 children.as_slice().len() as u16,
             )?;
-            add_children(*children.allocator(), table, children.as_slice(), number)?;
+            add_children(table, children.as_slice(), number)?;
             table.end(number);
         }
     }
@@ -58,20 +55,14 @@ fn add_node(table: &mut NodeTable, tree: &Tree, spot: Spot) -> Result<(), NoMemo
 
 // Adds the children of the node of that number, and those under them.
 #[cycle(building)]
-fn add_children(
-    alloc: Global,
-    table: &mut NodeTable,
-    children: &[Tree],
-    parent: u16,
-) -> Result<(), NoMemory>
+fn add_children(table: &mut NodeTable, children: &[Tree], parent: u16) -> Result<(), NoMemory>
     requires few { length table.old + nodes_in children.now ≤ max_nodes }
-    ensures { OnOk result
-        (table.new ≡ table.old ++ lines_from parent no_trees (length table.old) (plain_trees children.now)) }
+    ensures { OnOk result (table.new ≡ table.old ++ lines_from parent 0 (length table.old) (plain_trees children.now)) }
 {
-    let mut siblings = Siblings::new(alloc);
+    let mut position = 0;
     for child in children {
-        let spot = siblings.pass(parent, child.name())?;
-        add_node(table, child, spot)?;
+        add_node(table, child, Spot { parent, position })?;
+        position += 1;
     }
     Ok(())
 }

@@ -1,8 +1,8 @@
 //! Pages as trees: what a browser saw, and what a repaired site would show.
 //!
-//! A page is read from a JSON value (`Page::from_value`) or made of a tree (`Page::new`), and is then only looked at: by the numbers of its nodes,
-//! each of which is found at once, or by places, which are turned into numbers first. An attribute is found by bisection. Each call's answer is proved to be its definition's, in
-//! `specs/`.
+//! A page is read from a JSON value (`Page::from_value`), or from a place in a JSON document, of which no tree of values is made (`Page::from_place`), or
+//! made of a tree (`Page::new`), and is then only looked at: by the numbers of its nodes, each of which is found at once, or by places, which are turned into
+//! numbers first. An attribute is found by bisection. Each call's answer is proved to be its definition's, in `specs/`.
 #![tactic(auto)]
 
 mod building;
@@ -13,14 +13,18 @@ mod limits;
 mod memory;
 mod numbered;
 mod page;
+mod parts;
 mod place;
 mod reading;
+mod rows;
 mod siblings;
 mod starting;
 mod table;
 mod text;
+mod text_walk;
 mod texts;
 mod tree;
+mod walking;
 
 pub use control::Control;
 pub use fault::PageFault;

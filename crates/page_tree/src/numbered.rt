@@ -2,7 +2,7 @@
 ghost use Rattle.std.specs.Prelude.{◌⊎◌, ◌≡◌, ◌<◌, ◌≤◌, suc, IfOk, MatchOption, option_map, None};
 ghost use Rattle.page_tree.specs.Limits.{nodes, max_nodes};
 ghost use Rattle.page_tree.specs.Look.{node_at, name_at, child_count_at, attribute_at, text_at};
-ghost use Rattle.page_tree.specs.Number.{place_numbered, place_of, AreNumbersUnder, IsNumberOf, IsChild, IsParent, IsNext, elements_before_at, same_before_at};
+ghost use Rattle.page_tree.specs.Number.{place_numbered, place_of, AreNumbersUnder, IsNumberOf, IsChild, IsParent, IsNext};
 
 use crate::memory::NoMemory;
 use crate::page::Page;
@@ -154,27 +154,5 @@ impl Page {
             return None;
         }
         Some(self.table().parent(self.index(number)?))
-    }
-
-    /// How many elements stand before the element with that number, among its siblings; 0 for a text.
-    #[tactic(auto, using(crate::proofs::LookLaws::line_is, crate::proofs::Numbers::has_none))]
-    pub fn elements_before(&self, number: u32) -> u32
-        ensures { result ≡ elements_before_at (place_numbered number self.now) self.now }
-    {
-        match self.index(number) {
-            None => 0,
-            Some(index) => self.table().elements_before(index),
-        }
-    }
-
-    /// How many elements of its name stand before the element with that number, among its siblings; 0 for a text.
-    #[tactic(auto, using(crate::proofs::LookLaws::line_is, crate::proofs::Numbers::has_none))]
-    pub fn same_before(&self, number: u32) -> u32
-        ensures { result ≡ same_before_at (place_numbered number self.now) self.now }
-    {
-        match self.index(number) {
-            None => 0,
-            Some(index) => self.table().same_before(index),
-        }
     }
 }

@@ -4,6 +4,7 @@ ghost use Rattle.std.specs.List.Sorted.{IsStrictlySortedBy};
 ghost use Rattle.std.specs.Ordering.{nat_cmp};
 ghost use Rattle.std.specs.Cmp.Lexicographic.{slice_cmp};
 ghost use Rattle.serde_json.specs.View.{view};
+ghost use Rattle.json_document.specs.Standing.{data_of};
 ghost use Rattle.page_tree.specs.Tree.{Tree as PlainTree};
 ghost use Rattle.page_tree.specs.Limits.{IsPage, nodes};
 ghost use Rattle.page_tree.specs.Value.{IsPageOf};
@@ -23,6 +24,8 @@ use crate::reading::read_root;
 use crate::table::NodeTable;
 use crate::text::Text;
 use crate::tree::Tree;
+use crate::walking::walk_root;
+use json_document::JsonPlace;
 use serde_json::Value;
 use std::alloc::{AllocError, Global};
 use std::marker::Model;
@@ -92,6 +95,21 @@ impl Page {
         ensures found { FindsPage (view value.now) result }
     {
         let table = read_root(alloc, value)?;
+        Ok(Page::holding(alloc, &table)?)
+    }
+
+    /// The page that the value at a place of a JSON document stands for: the same as of the value (`from_value`), of which no tree is made first.
+    pub fn from_place(alloc: Global, place: &JsonPlace<'_, '_>) -> Result<Page, PageFault>
+        ensures ok { IfOk result (λ page. IsPageOf (data_of place.now) page × (fault_of_value (data_of place.now) ≡ None)) }
+        ensures only { IfOk result (λ page. (other : PlainTree) → IsPageOf (data_of place.now) other → other ≡ page) }
+        ensures refused { IfErr result (λ e. e ≢ NoMemory → (page : PlainTree) → ¬ IsPageOf (data_of place.now) page) }
+        ensures fault { IfErr result (λ e. e ≢ NoMemory → fault_of_value (data_of place.now) ≡ Some e) }
+
+        // The same as functions.
+        ensures exact { GivesPage result (page_or_fault (data_of place.now)) }
+        ensures found { FindsPage (data_of place.now) result }
+    {
+        let table = walk_root(alloc, place)?;
         Ok(Page::holding(alloc, &table)?)
     }
 

@@ -7,12 +7,12 @@ ghost use Rattle.page_tree.specs.Limits.{max_nodes, have_ascending_names};
 ghost use Rattle.page_tree.specs.Value.{IsPageOf, name_in, attributes_in, children_in};
 ghost use Rattle.page_tree.specs.Fault.{all_faults, value_faults, fault_of_value};
 ghost use Rattle.page_tree.specs.inside.Table.{lines};
-ghost use Rattle.page_tree.specs.inside.Reading.{Judges, ReadsPart, HasPassed, Adds, AddsAll};
+ghost use Rattle.page_tree.specs.inside.Reading.{Judges, ReadsPart, Adds, AddsAll};
 ghost use Rattle.page_tree.specs.declared.fault.PageFault.TheVariants.{BadName, BadAttribute, BadChildren, NoMemory};
 
 use crate::fault::PageFault;
 use crate::limits::{MAX_DEPTH, MAX_NODES};
-use crate::siblings::Siblings;
+use crate::rows::Spot;
 use crate::table::NodeTable;
 use crate::text::{Text, is_name};
 use crate::tree::Attributes;
@@ -29,55 +29,53 @@ pub(crate) fn read_root(alloc: Global, value: &Value) -> Result<NodeTable, PageF
         return Err(PageFault::NotAnElement);
     }
     let mut table = NodeTable::new(alloc);
-    let mut siblings = Siblings::new(alloc);
-    read_node(alloc, value, MAX_DEPTH, 0, &mut siblings, &mut table)?;
+    let spot = Spot {
+        parent: 0,
+        position: 0,
+    };
+    read_node(alloc, value, MAX_DEPTH, spot, &mut table)?;
     Ok(table)
 }
 
-// Adds the node that a value stands for, and those under it, behind the siblings that were passed. So many levels of elements are left for it.
+// Adds the node that a value stands for, which stands there, and those under it. So many levels of elements are left for it.
 // P6 where it is a node too many, P4 where it is neither an object nor a string.
 #[cycle(reading)]
-fn read_node<'a>(
+fn read_node(
     alloc: Global,
-    value: &'a Value,
+    value: &Value,
     levels: u32,
-    parent: u16,
-    siblings: &mut Siblings<'a>,
+    spot: Spot,
     table: &mut NodeTable,
 ) -> Result<(), PageFault>
-    requires { HasPassed siblings.old (length table.old) }
     ensures judged { Judges (λ _. length table.new) result (length table.old) (value_faults levels (view value.now)) }
-    ensures added { OnOk result (Adds (view value.now) parent siblings.old siblings.new table.old table.new) }
+    ensures added { OnOk result (Adds (view value.now) spot table.old table.new) }
 {
     if table.len() >= MAX_NODES as usize {
         return Err(PageFault::TooMany);
     }
     if let Some(text) = value.as_str() {
-        let spot = siblings.pass(parent, None)?;
         table.push_words(spot, text)?;
         return Ok(());
     }
     match value.as_object() {
-        Some(_) => read_object(alloc, value, levels, parent, siblings, table),
+        Some(_) => read_object(alloc, value, levels, spot, table),
         None => Err(PageFault::BadChildren),
     }
 }
 
 // P5 below the last level.
 #[cycle(reading)]
-fn read_object<'a>(
+fn read_object(
     alloc: Global,
-    value: &'a Value,
+    value: &Value,
     levels: u32,
-    parent: u16,
-    siblings: &mut Siblings<'a>,
+    spot: Spot,
     table: &mut NodeTable,
 ) -> Result<(), PageFault>
     requires object { IsSome (as_object (view value.now)) }
     requires few { length table.old < max_nodes }
-    requires passed { HasPassed siblings.old (length table.old) }
     ensures judged { Judges (λ _. length table.new) result (length table.old) (value_faults levels (view value.now)) }
-    ensures added { OnOk result (Adds (view value.now) parent siblings.old siblings.new table.old table.new) }
+    ensures added { OnOk result (Adds (view value.now) spot table.old table.new) }
 {
     if levels == 0 {
         return Err(PageFault::TooDeep);
@@ -85,7 +83,6 @@ fn read_object<'a>(
     let name = read_name(value)?;
     let attributes = read_attributes(alloc, value)?;
     let children = read_children(value)?;
-    let spot = siblings.pass(parent, Some(name))?;
     let number = table.len() as u16;
     // More children than a page can have are a fault, which comes with one of them.
     let count = children.len().min(MAX_NODES as usize) as u16;
@@ -162,9 +159,10 @@ fn read_items(
         (all_faults (value_faults levels) (items_view items.now)) }
     ensures added { OnOk result (AddsAll (items_view items.now) parent table.old table.new) }
 {
-    let mut siblings = Siblings::new(alloc);
+    let mut position = 0;
     for item in items {
-        read_node(alloc, item, levels, parent, &mut siblings, table)?;
+        read_node(alloc, item, levels, Spot { parent, position }, table)?;
+        position += 1;
     }
     Ok(())
 }

@@ -1,70 +1,65 @@
-//! Where each child of a node stands among the others.
+//! Where an element stands among its siblings: counted when asked.
+ghost use Rattle.std.specs.Prelude.{◌≡◌, ◌<◌, option_map, true, false};
+ghost use Rattle.std.specs.Option.{option_map_or};
+ghost use Rattle.std.specs.Str.{bytes_eq};
+ghost use Rattle.page_tree.specs.Limits.{nodes};
+ghost use Rattle.page_tree.specs.Number.{place_numbered, count_of, siblings_before, elements_before_at, same_before_at};
+ghost use Rattle.page_tree.specs.inside.Kept.{is_element_of};
 
-ghost use Rattle.std.specs.Prelude.{◌≡◌, ◌<◌, IfOk, OnOk, option_map, suc};
-ghost use Rattle.page_tree.specs.Tree.{Trees, no_trees};
-ghost use Rattle.page_tree.specs.Limits.{max_nodes};
-ghost use Rattle.page_tree.specs.Look.{count};
-ghost use Rattle.page_tree.specs.inside.Building.{Passed, PassesOne, name_count, CountsOneMore};
+use crate::page::Page;
 
-use crate::memory::NoMemory;
-use crate::table::Spot;
-use std::alloc::Global;
-use std::collections::BTreeMap;
-
-/// How many children were passed, how many of them are elements, and how many have each name.
-#[derive(Drop)]
-pub(crate) struct Siblings<'a> {
-    count: u16,
-    elements: u16,
-    names: BTreeMap<&'a str, u16>,
-}
-
-impl<'a> Siblings<'a> {
-    /// Before the first child. It takes no memory; nor does a text that is passed.
-    pub(crate) fn new(alloc: Global) -> Siblings<'a>
-        ensures { Passed no_trees result }
+impl Page {
+    /// How many elements stand before the element with that number, among its siblings; 0 for a text. The time grows with how many siblings stand
+    /// before it.
+    #[tactic(auto, using(crate::proofs::SiblingLaws::named_there))]
+    pub fn elements_before(&self, number: u32) -> u32
+        ensures { result ≡ elements_before_at (place_numbered number self.now) self.now }
     {
-        Siblings {
-            count: 0,
-            elements: 0,
-            names: BTreeMap::new(alloc),
+        match self.name_of(number) {
+            None => 0,
+            Some(_name) => self.count_before(number, None),
         }
     }
 
-    /// Passes one more child of that parent, an element of that name or a text, and tells where it stands.
-    pub(crate) fn pass(&mut self, parent: u16, name: Option<&'a str>) -> Result<Spot, NoMemory>
-        requires { (before : Trees) × Passed before self.old × (count before < max_nodes) }
-        ensures { IfOk result (λ spot. PassesOne parent self.old (option_map (λ name. name.now) name.entry) spot self.new) }
+    /// How many elements of its name stand before the element with that number, among its siblings; 0 for a text. The time grows with how many
+    /// siblings stand before it.
+    #[tactic(auto, using(crate::proofs::SiblingLaws::named_there))]
+    pub fn same_before(&self, number: u32) -> u32
+        ensures { result ≡ same_before_at (place_numbered number self.now) self.now }
     {
-        let position = self.count;
-        self.count += 1;
-        let Some(name) = name else {
-            return Ok(Spot {
-                parent,
-                position,
-                elements_before: 0,
-                same_before: 0,
-            });
-        };
-        let elements_before = self.elements;
-        self.elements += 1;
-        let same_before = count_name(&mut self.names, name)?;
-        Ok(Spot {
-            parent,
-            position,
-            elements_before,
-            same_before,
-        })
+        match self.name_of(number) {
+            None => 0,
+            Some(name) => self.count_before(number, Some(name)),
+        }
+    }
+
+    // How many elements stand before that node, among its siblings; with a name, those of that name.
+    fn count_before(&self, number: u32, name: Option<&str>) -> u32
+        requires { number < nodes self.now }
+        ensures { result ≡ count_of (is_element_of (option_map (λ name. name.now) name.entry))
+            (siblings_before (place_numbered number self.now) self.now) }
+    {
+        let parent = self.table().parent(number as usize);
+        let mut count = 0;
+        let mut sibling = self.nodes_under(parent).start;
+        for _i in 0..self.table().position(number as usize) {
+            if is_one(self.name_of(sibling), name) {
+                count += 1;
+            }
+            sibling = self.nodes_under(sibling).end;
+        }
+        count
     }
 }
 
-// How often that name was counted before; it is counted once more.
-fn count_name<'a>(names: &mut BTreeMap<&'a str, u16>, name: &'a str) -> Result<u16, NoMemory>
-    requires { name_count names.old name.now < max_nodes }
-    ensures before { IfOk result (λ before. before ≡ name_count names.old name.now) }
-    ensures more { OnOk result (CountsOneMore name.now names.old names.new) }
+// Whether there is a name, or that name.
+fn is_one(own: Option<&str>, name: Option<&str>) -> bool
+    ensures { result ≡ option_map_or (λ own. option_map_or (bytes_eq own) (option_map (λ n. n.now) name.entry) true)
+        (option_map (λ n. n.now) own.entry) false }
 {
-    let before = names.get(name).copied().unwrap_or(0);
-    names.insert(name, before + 1)?;
-    Ok(before)
+    match (own, name) {
+        (None, _) => false,
+        (Some(_own), None) => true,
+        (Some(own), Some(name)) => own == name,
+    }
 }

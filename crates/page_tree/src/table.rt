@@ -1,59 +1,44 @@
 //! The table that a page is kept as.
-ghost use Rattle.std.specs.Prelude.{◌≡◌, ◌↔◌, IsTrue, IfOk, ◌<◌, ◌≤◌, ◌+◌, ◌*◌, ◌^◌, suc, [], ◌∷◌, ◌++◌, OnOk, get_or, length, true, option_map};
+ghost use Rattle.std.specs.Prelude.{◌≡◌, ◌↔◌, IsTrue, IfOk, ◌<◌, ◌≤◌, ◌+◌, ◌*◌, suc, [], ◌∷◌, ◌++◌, OnOk, get_or, length, true, option_map};
 ghost use Rattle.page_tree.specs.Tree.{element, words, no_trees};
 ghost use Rattle.page_tree.specs.Look.{value_of};
 ghost use Rattle.page_tree.specs.Limits.{max_nodes, have_ascending_names};
-ghost use Rattle.page_tree.specs.inside.Table.{line_on};
-ghost use Rattle.page_tree.specs.inside.Rows.{line_in, with_line_end, texts_of_attributes, attributes_from, line_of_row, IsWithin};
+ghost use Rattle.page_tree.specs.inside.Table.{line_on, nth_spot};
+ghost use Rattle.page_tree.specs.inside.Walking.{attributes_seen};
+ghost use Rattle.page_tree.specs.inside.Rows.{line_in, with_line_end, with_line_children, texts_of_attributes, attributes_from, line_of_element};
 
 use crate::memory::NoMemory;
+use crate::rows::{
+    ElementRow, Row, Spot, own_number, own_row, push_row, same_but_place, same_own_rows, same_rows,
+    same_spot,
+};
 use crate::text::Text;
 use crate::texts::Texts;
 use std::alloc::{AllocError, Global};
 use std::cmp::Ordering;
 use std::marker::Model;
 
-/// What is kept of a node. Its numbers below `MAX_NODES` have 16 bits.
-#[derive(Debug, Clone, Copy)]
-pub(crate) struct Row {
-    is_element: bool,
-    spot: Spot,
-    end: u16,
-    children: u16,
-    // the number of its name, or of its text; those of its attributes' names and values stand behind it
-    text: u32,
-    attributes: u32,
-}
-
-/// Where a node stands among its siblings.
-#[derive(Debug, Clone, Copy, PartialEq, Eq)]
-pub(crate) struct Spot {
-    /// The number of its parent; 0 for the root.
-    pub(crate) parent: u16,
-    /// How many siblings stand before it, how many of them are elements, and how many of these have its name; the last two are 0 for a text.
-    pub(crate) position: u16,
-    pub(crate) elements_before: u16,
-    pub(crate) same_before: u16,
-}
-
 /// The nodes of a page in document order, each with what it is without its children. Contracts see their lines.
 #[derive(Debug, Drop)]
 pub(crate) struct NodeTable {
+    // of each node its name, or what it says
     texts: Texts,
     rows: Vec<Row>,
+    elements: Vec<ElementRow>,
+    // the names and values of attributes, behind one another
+    attributes: Texts,
 }
 
 impl Model for NodeTable {
-    ghost use Rattle.std.specs.Prelude.{List, length, map};
-    ghost use Rattle.std.specs.List.{AllByRecursion};
+    ghost use Rattle.std.specs.Prelude.{List};
     ghost use Rattle.page_tree.specs.inside.Table.{Line};
-    ghost use Rattle.page_tree.specs.inside.Rows.{line_of_row, IsWithin};
+    ghost use Rattle.page_tree.specs.inside.Rows.{lines_kept, AreTableRows};
 
     ghost Value = { List Line };
 
-    ghost view = { λ t. map (line_of_row t.texts) t.rows.items };
+    ghost view = { λ t. lines_kept t.texts t.attributes t.rows.items t.elements.items };
 
-    ghost invariant = { λ t. AllByRecursion (IsWithin (length t.texts)) t.rows.items };
+    ghost invariant = { λ t. AreTableRows t.texts t.attributes t.rows.items t.elements.items };
 }
 
 impl NodeTable {
@@ -64,9 +49,12 @@ impl NodeTable {
         NodeTable {
             texts: Texts::new(alloc),
             rows: Vec::new(alloc),
+            elements: Vec::new(alloc),
+            attributes: Texts::new(alloc),
         }
     }
 
+    #[tactic(auto, using(crate::proofs::RowLaws::lines_count))]
     pub(crate) fn len(&self) -> usize
         ensures { result ≡ length self.now }
     {
@@ -79,6 +67,7 @@ impl NodeTable {
 
     // ---- looks
 
+    #[tactic(auto, using(crate::proofs::RowLaws::lines_count, crate::proofs::RowLaws::spot_there))]
     pub(crate) fn parent(&self, number: usize) -> u32
         requires { number < length self.now }
         ensures { result ≡ (line_in number self.now).spot.parent }
@@ -87,13 +76,19 @@ impl NodeTable {
     }
 
     /// The number behind those of the nodes under it.
+    #[tactic(auto, using(crate::proofs::RowLaws::lines_count))]
     pub(crate) fn end_of(&self, number: usize) -> u32
-        requires { number < length self.now }
+        requires there { number < length self.now }
+        requires few { length self.now ≤ max_nodes }
         ensures { result ≡ (line_in number self.now).end }
     {
-        self.rows[number].end as u32
+        match own_row(self.rows.as_slice(), self.elements.as_slice(), number) {
+            None => number as u32 + 1,
+            Some(own) => own.end as u32,
+        }
     }
 
+    #[tactic(auto, using(crate::proofs::RowLaws::lines_count, crate::proofs::RowLaws::spot_there))]
     pub(crate) fn position(&self, number: usize) -> u32
         requires { number < length self.now }
         ensures { result ≡ (line_in number self.now).spot.position }
@@ -101,76 +96,70 @@ impl NodeTable {
         self.rows[number].spot.position as u32
     }
 
-    pub(crate) fn elements_before(&self, number: usize) -> u32
-        requires { number < length self.now }
-        ensures { result ≡ (line_in number self.now).spot.elements_before }
-    {
-        self.rows[number].spot.elements_before as u32
-    }
-
-    pub(crate) fn same_before(&self, number: usize) -> u32
-        requires { number < length self.now }
-        ensures { result ≡ (line_in number self.now).spot.same_before }
-    {
-        self.rows[number].spot.same_before as u32
-    }
-
     /// How many children it has.
+    #[tactic(auto, using(crate::proofs::RowLaws::lines_count))]
     pub(crate) fn children(&self, number: usize) -> u32
         requires { number < length self.now }
         ensures { result ≡ (line_in number self.now).children }
     {
-        self.rows[number].children as u32
+        match own_row(self.rows.as_slice(), self.elements.as_slice(), number) {
+            None => 0,
+            Some(own) => own.children as u32,
+        }
     }
 
+    #[tactic(auto, using(crate::proofs::RowLaws::lines_count))]
     pub(crate) fn name(&self, number: usize) -> Option<&str>
         requires { number < length self.now }
         ensures { option_map (λ name. name.now) result ≡ (line_in number self.now).name }
     {
-        let row = self.rows[number];
-        if row.is_element {
-            Some(self.texts.get(row.text as usize))
-        } else {
-            None
+        match own_number(self.rows.as_slice(), number) {
+            None => None,
+            Some(_own) => Some(self.texts.get(number)),
         }
     }
 
     /// What a text says; empty for an element.
+    #[tactic(auto, using(crate::proofs::RowLaws::lines_count))]
     pub(crate) fn words(&self, number: usize) -> &str
         requires { number < length self.now }
         ensures { result.now ≡ (line_in number self.now).text }
     {
-        let row = self.rows[number];
-        if row.is_element {
-            ""
-        } else {
-            self.texts.get(row.text as usize)
+        match own_number(self.rows.as_slice(), number) {
+            None => self.texts.get(number),
+            Some(_own) => "",
         }
     }
 
     /// The value of the attribute of that name, where the names ascend. The time is logarithmic in the number of attributes.
+    #[tactic(auto, using(crate::proofs::RowLaws::lines_count))]
     pub(crate) fn attribute(&self, number: usize, name: &str) -> Option<&str>
         requires there { number < length self.now }
         requires ascending { have_ascending_names (line_in number self.now).attributes ≡ true }
         ensures { option_map (λ value. value.now) result ≡ value_of name.now (line_in number self.now).attributes }
     {
-        let row = self.rows[number];
-        value_among(
-            &self.texts,
-            row.text as usize + 1,
-            row.attributes as usize,
-            name,
-        )
+        match own_row(self.rows.as_slice(), self.elements.as_slice(), number) {
+            None => None,
+            Some(own) => value_among(
+                &self.attributes,
+                own.attributes as usize,
+                own.attribute_count as usize,
+                name,
+            ),
+        }
     }
 
     // ---- comparing
 
-    /// Whether the two tables have the same lines. It takes no memory.
+    /// Whether the two tables have the same lines. It takes no memory, and little time where one is a copy of the other.
     pub(crate) fn same(&self, other: &NodeTable) -> bool
         ensures { IsTrue result ↔ (self.now ≡ other.now) }
     {
         if self.len() != other.len() {
             return false;
+        }
+        if self.is_copy_of(other) {
+            return true;
         }
         for number in 0..self.len() {
             if !self.same_line(other, number) {
@@ -180,37 +169,55 @@ impl NodeTable {
         true
     }
 
+    // Whether they are the same also in where their texts stand.
+    fn is_copy_of(&self, other: &NodeTable) -> bool
+        ensures { IsTrue result → self.now ≡ other.now }
+    {
+        if !same_rows(self.rows.as_slice(), other.rows.as_slice()) {
+            return false;
+        }
+        if !same_own_rows(self.elements.as_slice(), other.elements.as_slice()) {
+            return false;
+        }
+        self.texts.same(&other.texts) && self.attributes.same(&other.attributes)
+    }
+
+    #[tactic(auto, using(crate::proofs::RowLaws::lines_count))]
     fn same_line(&self, other: &NodeTable, number: usize) -> bool
         requires there { number < length self.now }
         requires other_there { number < length other.now }
         ensures { IsTrue result ↔ (line_in number self.now ≡ line_in number other.now) }
     {
-        same_row(
-            &self.texts,
-            self.rows[number],
-            &other.texts,
-            other.rows[number],
-        )
+        if !same_spot(self.rows.as_slice(), other.rows.as_slice(), number) {
+            return false;
+        }
+        if !same_text(&self.texts, number, &other.texts, number) {
+            return false;
+        }
+        let own = own_row(self.rows.as_slice(), self.elements.as_slice(), number);
+        let other_own = own_row(other.rows.as_slice(), other.elements.as_slice(), number);
+        match (own, other_own) {
+            (None, None) => true,
+            (None, Some(_)) => false,
+            (Some(_), None) => false,
+            (Some(own), Some(other_own)) => same_element(
+                &self.attributes,
+                own,
+                &other.attributes,
+                other_own,
+            ),
+        }
     }
 
     // ---- building
 
     /// Adds a text.
     pub(crate) fn push_words(&mut self, spot: Spot, text: &str) -> Result<(), NoMemory>
-        requires { length self.old < max_nodes }
         ensures { OnOk result (self.new ≡ self.old ++ line_on (words text.now) spot (suc (length self.old)) 0 ∷ []) }
     {
-        let text_number = few(self.texts.len())?;
-        let number = self.rows.as_slice().len();
+        self.rows.reserve(1)?;
         self.texts.push(text)?;
-        self.rows.push(Row {
-            is_element: false,
-            spot,
-            end: number as u16 + 1,
-            children: 0,
-            text: text_number,
-            attributes: 0,
-        })?;
+        self.rows.push(Row::of_text(spot)).unwrap();
         Ok(())
     }
 
@@ -224,18 +231,49 @@ impl NodeTable {
     ) -> Result<(), NoMemory>
         ensures { OnOk result (self.new ≡ self.old ++ line_on (element name.now attributes.now no_trees) spot 0 children ∷ []) }
     {
-        let number = few(self.texts.len())?;
-        let attribute_count = few(attributes.len())?;
-        self.texts.push(name)?;
-        push_attributes(&mut self.texts, attributes)?;
-        self.rows.push(Row {
-            is_element: true,
-            spot,
+        let own = ElementRow {
+            attributes: few(self.attributes.len())?,
+            attribute_count: few(attributes.len())?,
             end: 0,
             children,
-            text: number,
-            attributes: attribute_count,
-        })?;
+        };
+        push_attributes(&mut self.attributes, attributes)?;
+        push_row(
+            &mut self.texts,
+            &mut self.rows,
+            &mut self.elements,
+            spot,
+            name,
+            own,
+        )?;
+        Ok(())
+    }
+
+    /// The same of an element whose attributes are borrowed, and whose children are counted later, by `set_children`.
+    pub(crate) fn push_borrowed(
+        &mut self,
+        spot: Spot,
+        name: &str,
+        attributes: &[(&str, &str)],
+    ) -> Result<(), NoMemory>
+        ensures { OnOk result (self.new ≡ self.old
+            ++ line_on (element name.now (attributes_seen attributes.now) no_trees) spot 0 0 ∷ []) }
+    {
+        let own = ElementRow {
+            attributes: few(self.attributes.len())?,
+            attribute_count: few(attributes.len())?,
+            end: 0,
+            children: 0,
+        };
+        push_pairs(&mut self.attributes, attributes)?;
+        push_row(
+            &mut self.texts,
+            &mut self.rows,
+            &mut self.elements,
+            spot,
+            name,
+            own,
+        )?;
         Ok(())
     }
 
@@ -246,17 +284,33 @@ impl NodeTable {
         Ok(NodeTable {
             texts: self.texts.fitted()?,
             rows: self.rows.clone()?,
+            elements: self.elements.clone()?,
+            attributes: self.attributes.fitted()?,
         })
     }
 
-    /// Tells that all nodes under that one were added.
+    /// Tells that all nodes under that element were added.
+    #[tactic(auto, using(crate::proofs::RowLaws::lines_count))]
     pub(crate) fn end(&mut self, number: u16)
         requires there { number < length self.old }
         requires few { length self.old ≤ max_nodes }
         ensures { self.new ≡ with_line_end number (length self.old) self.old }
     {
         let end = self.len() as u16;
-        self.rows[number as usize].end = end;
+        if let Some(own) = own_number(self.rows.as_slice(), number as usize) {
+            self.elements[own].end = end;
+        }
+    }
+
+    /// Tells how many children that element has.
+    #[tactic(auto, using(crate::proofs::RowLaws::lines_count))]
+    pub(crate) fn set_children(&mut self, number: u16, count: u16)
+        requires { number < length self.old }
+        ensures { self.new ≡ with_line_children number count self.old }
+    {
+        if let Some(own) = own_number(self.rows.as_slice(), number as usize) {
+            self.elements[own].children = count;
+        }
     }
 }
 
@@ -295,34 +349,22 @@ fn value_among<'a>(texts: &'a Texts, at: usize, count: usize, name: &str) -> Opt
     None
 }
 
-// whether they differ in the places of their texts alone
-fn same_but_text(row: Row, other: Row) -> bool
-    ensures { IsTrue result ↔ (record row { text = 0 } ≡ record other { text = 0 }) }
+// whether they have the same attributes, ends and counts of children
+fn same_element(texts: &Texts, own: ElementRow, others: &Texts, other: ElementRow) -> bool
+    requires within { own.attributes + 2 * own.attribute_count ≤ length texts.now }
+    requires other_within { other.attributes + 2 * other.attribute_count ≤ length others.now }
+    ensures { IsTrue result
+        ↔ (line_of_element texts.now [] (nth_spot 0 0) own ≡ line_of_element others.now [] (nth_spot 0 0) other) }
 {
-    row.is_element == other.is_element
-        && row.spot == other.spot
-        && row.end == other.end
-        && row.children == other.children
-        && row.attributes == other.attributes
-}
-
-fn same_row(texts: &Texts, row: Row, others: &Texts, other: Row) -> bool
-    requires within { IsWithin (length texts.now) row }
-    requires other_within { IsWithin (length others.now) other }
-    ensures { IsTrue result ↔ (line_of_row texts.now row ≡ line_of_row others.now other) }
-{
-    if !same_but_text(row, other) {
-        return false;
-    }
-    if !same_text(texts, row.text as usize, others, other.text as usize) {
+    if !same_but_place(own, other) {
         return false;
     }
     same_attributes(
         texts,
-        row.text as usize + 1,
+        own.attributes as usize,
         others,
-        other.text as usize + 1,
-        row.attributes as usize,
+        other.attributes as usize,
+        own.attribute_count as usize,
     )
 }
 
@@ -367,6 +409,17 @@ fn push_attributes(texts: &mut Texts, attributes: &[(Text, Text)]) -> Result<(),
     for (name, value) in attributes {
         texts.push(name.as_str())?;
         texts.push(value.as_str())?;
+    }
+    Ok(())
+}
+
+fn push_pairs(texts: &mut Texts, attributes: &[(&str, &str)]) -> Result<(), NoMemory>
+    ensures ok { OnOk result (texts.new ≡ texts.old ++ texts_of_attributes (attributes_seen attributes.now)) }
+    ensures kept { length texts.old ≤ length texts.new }
+{
+    for (name, value) in attributes {
+        texts.push(name)?;
+        texts.push(value)?;
     }
     Ok(())
 }

@@ -1,4 +1,4 @@
-ghost use Rattle.std.specs.Prelude.{◌≡◌, ◌<◌, ◌≤◌, [], ◌∷◌, ◌++◌, IfOk, OnOk, OnErr, get_or, length};
+ghost use Rattle.std.specs.Prelude.{◌≡◌, ◌<◌, ◌≤◌, [], ◌∷◌, ◌++◌, IfOk, OnOk, OnErr, IsTrue, get_or, length};
 ghost use Rattle.page_tree.specs.inside.Cuts.{start_in};
 
 use crate::memory::NoMemory;
@@ -50,6 +50,14 @@ impl Texts {
         let start = start_in(self.ends.as_slice(), number);
         let end = self.ends[number];
         &self.joined[start as usize..end as usize]
+    }
+
+    /// Whether the two are the same texts, cut at the same places.
+    pub(crate) fn same(&self, other: &Texts) -> bool
+        ensures { IsTrue result → self.now ≡ other.now }
+    {
+        self.joined.as_str() == other.joined.as_str()
+            && self.ends.as_slice() == other.ends.as_slice()
     }
 
     /// Equal texts that have no unused room.

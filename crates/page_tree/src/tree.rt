@@ -1,6 +1,6 @@
 //! Trees of elements with their attributes, and of texts.
 ghost use Rattle.std.specs.Prelude.{◌≡◌, ◌<◌, ◌+◌, OnOk, option_map};
-ghost use Rattle.page_tree.specs.Look.{name_of, value_of};
+ghost use Rattle.page_tree.specs.Look.{value_of};
 ghost use Rattle.page_tree.specs.inside.Building.{nodes_in};
 ghost use Rattle.page_tree.specs.Seen.{plain_tree};
 ghost use Rattle.page_tree.specs.Limits.{have_ascending_names, nodes};
@@ -22,16 +22,6 @@ pub enum Tree {
 }
 
 impl Tree {
-    /// The name of an element.
-    pub(crate) fn name(&self) -> Option<&str>
-        ensures { option_map (λ name. name.now) result ≡ name_of (plain_tree self.now) }
-    {
-        match self {
-            Tree::Element { name, .. } => Some(name.as_str()),
-            Tree::Words(_) => None,
-        }
-    }
-
     /// Drops a tree node by node, however deep it is: a drop of the whole takes stack for each level. Where memory is wanting, what is left is
     /// dropped so.
     pub(crate) fn take_apart(self, alloc: Global) {

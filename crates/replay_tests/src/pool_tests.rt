@@ -11,23 +11,29 @@ use std::sync::atomic::{AtomicBool, AtomicU64, Ordering};
 use std::test::Fail;
 use std::thread;
 use std::thread::Threads;
-use visit_replay::Patch;
+use visit_replay::{Outcome, Patch};
 
-// What so many workers give of these visits, 1,000 at the most, told; or the fault's code.
+// What so many workers give of these clients' visits, each client's told and then a line's end; or the fault's code.
 fn told_by<H: SiteHooks, R: AllocGlobal + Threads + Sync>(
     rt: &R,
     workers: u32,
     hooks: &H,
     patch: &Patch,
-    visits: &[Visit],
+    clients: &[&[Visit]],
 ) -> Result<String, Fail> {
-    if visits.len() > 1_000 {
-        return Err(Fail::from("too many visits"));
-    }
-    match replay_all(rt, workers, hooks, patch, visits) {
-        Ok(all) => told_all(rt.alloc(), all.as_slice()),
+    match replay_all(rt, workers, hooks, patch, clients) {
+        Ok(all) => told_clients(rt.alloc(), all.as_slice()),
         Err(fault) => Ok(format!(in rt.alloc(); "{fault}")?),
     }
+}
+
+fn told_clients(alloc: Global, all: &[Vec<Outcome>]) -> Result<String, Fail> {
+    let mut text = String::new(alloc);
+    for own in all {
+        text.push_str(told_all(alloc, own.as_slice())?.as_str())?;
+        text.push('\n')?;
+    }
+    Ok(text)
 }
 
 const FIVE: [Was; 5] = [
@@ -39,7 +45,7 @@ const FIVE: [Was; 5] = [
 ];
 
 // What the five give, told.
-const OF_FIVE: &str = "untouched; done, 0 /a, 1 /c; K2 at 1, 0 /a; K1 at 0; K8 at 1, 0 /a; ";
+const OF_FIVE: &str = "untouched; done, 0 /a, 1 /c; K2 at 1, 0 /a; K1 at 0; K8 at 1, 0 /a; \n";
 
 // How often a site is asked for a page for these: not for the one that is untouched.
 const ASKED: u64 = 4;
@@ -65,7 +71,7 @@ fn given<R: AllocGlobal + Threads + Sync>(
 ) -> Result<String, Fail> {
     let (hooks, patch) = site_of_five(rt.alloc())?;
     let visits = many(rt.alloc(), count)?;
-    told_by(rt, workers, &hooks, &patch, visits.as_slice())
+    told_by(rt, workers, &hooks, &patch, &[visits.as_slice()])
 }
 
 // F1.
@@ -76,7 +82,7 @@ fn workers_are_one_to_32(rt: HostRuntime) -> Result<(), Fail> {
         assert!(rt; given(&rt, workers, 7)?.as_str() == "F1");
     }
     for workers in [1, 4] {
-        assert!(rt; given(&rt, workers, 0)?.is_empty());
+        assert!(rt; given(&rt, workers, 0)?.as_str() == "\n");
     }
     Ok(())
 }
@@ -86,6 +92,20 @@ fn eight_workers_give_what_one_gives(rt: HostRuntime) -> Result<(), Fail> {
     let want = given(&rt, 1, 1_000)?;
     assert!(rt; want.len() > 1_000);
     assert!(rt; given(&rt, 8, 1_000)?.as_str() == want.as_str());
+    Ok(())
+}
+
+// Of three clients, of which one has no visits.
+#[test]
+fn each_client_gets_its_own(rt: HostRuntime) -> Result<(), Fail> {
+    let (hooks, patch) = site_of_five(rt.alloc())?;
+    let five = many(rt.alloc(), 5)?;
+    let two = many(rt.alloc(), 2)?;
+    let clients = [two.as_slice(), &[], five.as_slice()];
+    let want = format!(in rt.alloc(); "untouched; done, 0 /a, 1 /c; \n\n{OF_FIVE}")?;
+    for workers in [1, 4] {
+        assert!(rt; told_by(&rt, workers, &hooks, &patch, &clients)?.as_str() == want.as_str());
+    }
     Ok(())
 }
 
@@ -107,7 +127,7 @@ fn two_shares<H: SiteHooks>(
     alloc: Global,
     hooks: &H,
     patch: &Patch,
-    visits: &[Visit],
+    visits: &[&Visit],
 ) -> Result<(String, String, u64), Fail>
     requires { length visits.now ≡ 2 }
 {
@@ -128,10 +148,10 @@ fn two_shares<H: SiteHooks>(
 fn the_first_at_work_leaves_none(rt: HostRuntime) -> Result<(), Fail> {
     let (hooks, patch) = site_of_five(rt.alloc())?;
     let visits = many(rt.alloc(), 2)?;
-    if visits.len() != 2 {
+    let [one, other] = visits.as_slice() else {
         return Err(Fail::from("not two visits"));
-    }
-    let (first, second, drawn) = two_shares(rt.alloc(), &hooks, &patch, visits.as_slice())?;
+    };
+    let (first, second, drawn) = two_shares(rt.alloc(), &hooks, &patch, &[one, other])?;
     assert_eq!(rt; first.as_str(), "0 untouched; 1 done, 0 /a, 1 /c; ");
     assert_eq!(rt; second.as_str(), "");
     assert_eq!(rt; drawn, 4);
@@ -197,8 +217,8 @@ fn workers_meet(rt: HostRuntime) -> Result<(), Fail> {
     let patch = patch(rt.alloc(), &["/a", "/b"])?;
     let list: [Was; 2] = [((1, 0, 0), "/a", false, &[]), ((2, 1, 1), "/b", false, &[])];
     let visits = visits(rt.alloc(), &list)?;
-    let found = told_by(&rt, 2, &hooks, &patch, visits.as_slice())?;
-    assert_eq!(rt; found.as_str(), "done, 0 /a; done, 0 /b; ");
+    let found = told_by(&rt, 2, &hooks, &patch, &[visits.as_slice()])?;
+    assert_eq!(rt; found.as_str(), "done, 0 /a; done, 0 /b; \n");
     Ok(())
 }
 
@@ -247,7 +267,7 @@ fn told_of_wanting<R: AllocGlobal + Threads + Sync>(
         asked: AtomicU64::new(0),
         refused,
     };
-    told_by(rt, workers, &hooks, &patch, visits.as_slice())
+    told_by(rt, workers, &hooks, &patch, &[visits.as_slice()])
 }
 
 // F2, at each question in turn, and then none.

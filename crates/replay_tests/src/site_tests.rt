@@ -47,6 +47,94 @@ fn table_has_pages_and_watches_paths(rt: HostRuntime) -> Result<(), Fail> {
     Ok(())
 }
 
+const TWO_X: &str = r#"{"n":"html","c":["t",{"n":"p","c":["x"]},{"n":"q"},{"n":"p","c":["x"]}]}"#;
+
+const X_THEN_Y: &str =
+    r#"{"n":"html","c":["t",{"n":"p","c":["x"]},{"n":"q"},{"n":"p","c":["y"]}]}"#;
+
+// A path, an old page, the new one, and whether the path has another text there.
+const WATCHED: [(&str, &str, &str, bool); 14] = [
+    ("/html", WITH_X, WITH_Y, true),
+    ("/*", WITH_X, WITH_Y, true),
+    ("/html/p", WITH_X, WITH_Y, true),
+    ("/*[1]/*[1]", WITH_X, WITH_Y, true),
+    ("/html/p[2]", WITH_X, WITH_Y, false),
+    ("/html/p/a", WITH_X, WITH_Y, false),
+    ("/html/p[2]", WITH_X, TWO_X, true),
+    ("/html/p[2]", TWO_X, WITH_X, true),
+    ("/html/p[2]", TWO_X, X_THEN_Y, true),
+    ("/html/*[3]", TWO_X, X_THEN_Y, true),
+    ("/html/*[2]", TWO_X, X_THEN_Y, false),
+    ("/html/p[1]", TWO_X, X_THEN_Y, false),
+    ("/html/p", TWO_X, X_THEN_Y, false),
+    ("/html/*", WITH_X, TWO_X, true),
+];
+
+// It watches that path behind so many that no page has, and has that page at `/kept`.
+fn watching_behind(alloc: Global, others: u32, path: &str, of: &str) -> Result<Table, Fail> {
+    let mut table = Table::new(alloc);
+    for i in 0..others {
+        let other = format!(in alloc; "/html/b{i}")?;
+        table.watch(Path::read(alloc, other.as_str())?)?;
+    }
+    table.watch(Path::read(alloc, path)?)?;
+    table.add_page(text(alloc, "/kept")?, page(alloc, of)?)?;
+    Ok(table)
+}
+
+#[test]
+fn few_or_many_paths_are_watched_alike(rt: HostRuntime) -> Result<(), Fail> {
+    let alloc = rt.alloc();
+    for others in [0, 40] {
+        for (path, before, after, changed) in WATCHED {
+            let table = watching_behind(alloc, others, path, after)?;
+            let (old, new) = (page(alloc, before)?, page(alloc, after)?);
+            for address in ["/kept", "/other"] {
+                assert!(rt; table.signals(address, &old, &new)? == changed);
+            }
+        }
+    }
+    Ok(())
+}
+
+const DEEP: &str =
+    r#"{"n":"a","c":[{"n":"a","c":[{"n":"a","c":[{"n":"a","c":[{"n":"a","c":[{"n":"a","c":["x"]}]}]}]}]}]}"#;
+
+const DEEP_WITH_ID: &str =
+    r#"{"n":"a","a":{"id":"1"},"c":[{"n":"a","c":[{"n":"a","c":[{"n":"a","c":[{"n":"a","c":[{"n":"a","c":["x"]}]}]}]}]}]}"#;
+
+const DEEP_WITH_Y: &str =
+    r#"{"n":"a","c":[{"n":"a","c":[{"n":"a","c":[{"n":"a","c":[{"n":"a","c":[{"n":"a","c":["y"]}]}]}]}]}]}"#;
+
+// A path of six steps, each of them `a` or `*`.
+fn path_by(alloc: Global, ways: u32) -> Result<Path, Fail> {
+    let mut text = String::new(alloc);
+    let mut left = ways;
+    for _level in 0..6 {
+        text.push_str(if left % 2 == 0 { "/a" } else { "/*" })?;
+        left /= 2;
+    }
+    Ok(Path::read(alloc, text.as_str())?)
+}
+
+// So many paths lead to one node that they are looked for one by one.
+#[test]
+fn many_paths_lead_to_one_node(rt: HostRuntime) -> Result<(), Fail> {
+    let alloc = rt.alloc();
+    let mut table = Table::new(alloc);
+    for ways in 0..64 {
+        table.watch(path_by(alloc, ways)?)?;
+    }
+    let old = page(alloc, DEEP)?;
+    table.add_page(text(alloc, "/id")?, page(alloc, DEEP_WITH_ID)?)?;
+    table.add_page(text(alloc, "/y")?, page(alloc, DEEP_WITH_Y)?)?;
+    for address in ["/id", "/y", "/other"] {
+        assert!(rt; !table.signals(address, &old, &page(alloc, DEEP_WITH_ID)?)?);
+        assert!(rt; table.signals(address, &old, &page(alloc, DEEP_WITH_Y)?)?);
+    }
+    Ok(())
+}
+
 // Two sites with pages at all these addresses: that of the prefix has three nodes, and watches a path.
 fn forked(alloc: Global) -> Result<Fork<Table, Table>, Fail> {
     let addresses = ["/a", "/ab", "/b", "", "/"];

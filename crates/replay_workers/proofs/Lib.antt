@@ -4,3 +4,4 @@ pub mod Gathering
 pub mod Divided
 pub mod Working
 pub mod Placing
+pub mod ByClient

@@ -101,7 +101,7 @@ module _ (v : SeatView) (one : v.rows ≡ own_list v ∷ []) where
       let some_ = get_or-le-sum_by (λ z. cond {A = ℕ} (z == y) 1 0) (own_list v) k d less in
       within_once end y (omega (arith, once_at y y refl, some_, draws_one y, all y))
 
-pub draws : (terms : Terms) (slots pass : ℕ) (me : Me (Unit {0}) SeatView) → terms.count < 2 ^ 32 → terms.workers ≤ 32
+pub draws : (terms : Terms) (slots pass : ℕ) (me : Me (Unit {0}) SeatView) → terms.count < 2 ^ 63 → terms.workers ≤ 32
     → me.0.rows ≡ own_list me.0 ∷ [] → has_end terms.count (own_list me.0) ≡ false
     → Allows (IsInTurn terms) slots pass me 0 (λ n. (n + 1) % 2 ^ 64) (λ n next. DrewNumber me.0 n next.0 × (next.1 ≡ me.1))
 draws terms slots pass me small few one unspent s kept len at fits = (

@@ -1,3 +1,4 @@
 pub mod Rule
 pub mod Seats
 pub mod Shares
+pub mod Clients

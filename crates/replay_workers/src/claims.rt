@@ -1,5 +1,5 @@
 //! The word that the seats draw from.
-ghost use Rattle.std.specs.Prelude.{◌≡◌, ◌≢◌, ◌<◌, ◌≤◌, ◌+◌, false, [], ◌∷◌, All, IfOk, IfErr, replicate, vec_len};
+ghost use Rattle.std.specs.Prelude.{◌≡◌, ◌≢◌, ◌<◌, ◌≤◌, ◌+◌, ◌^◌, false, [], ◌∷◌, All, IfOk, IfErr, replicate, vec_len};
 ghost use Rattle.std.specs.Vec.{vec_capacity};
 ghost use Rattle.visit_replay.specs.Limits.{AreWorkers};
 ghost use Rattle.replay_workers.specs.Draws.{IsSeatOf, is_spent, EndsOnce, with_draw, AreClaimed, fresh_seat, AreOpenedClaims};
@@ -12,7 +12,7 @@ use crate::rule::{Draw, GathersSeats, InTurn, OpensSeat};
 use crate::seat::Seat;
 use crate::view::{SeatView, Terms};
 use atomic_table::{Seat as Pass, Table};
-use std::alloc::Global;
+use std::alloc::{AllocError, Global};
 use std::marker::Model;
 use visit_replay::MAX_WORKERS;
 
@@ -34,7 +34,6 @@ impl Model for Claims {
 }
 
 impl Claims {
-    #[tactic(auto, using(crate::proofs::Steps::begins))]
     /// The claims to the numbers below the count, with a seat for each of so many workers, 1 to `MAX_WORKERS`; F1 for
     /// another number of workers, F2 where memory is refused.
     pub fn open(alloc: Global, count: u32, workers: u32) -> Result<(Claims, Vec<Seat>), PoolFault>
@@ -45,8 +44,18 @@ impl Claims {
         if workers == 0 || workers > MAX_WORKERS {
             return Err(PoolFault::BadWorkers);
         }
-        let seats = Vec::with_capacity(alloc, workers as usize)?;
-        let terms = Terms { count, workers };
+        let count = u64::from(count);
+        Ok(Claims::under(alloc, Terms { count, workers })?)
+    }
+
+    #[tactic(auto, using(crate::proofs::Steps::begins))]
+    /// The claims under these terms, with a seat for each worker.
+    pub(crate) fn under(alloc: Global, terms: Terms) -> Result<(Claims, Vec<Seat>), AllocError>
+        requires count { terms.count < 2 ^ 63 }
+        requires workers { AreWorkers terms.workers }
+        ensures { IfOk result (λ made. AreOpenedClaims terms.count terms.workers made.0 made.1.items) }
+    {
+        let seats = Vec::with_capacity(alloc, terms.workers as usize)?;
         let (table, first) = Table::of_words(alloc, &[0], &terms)?;
         let claims = Claims { table };
         let seats = claims.split(first, &terms, seats);
@@ -80,7 +89,7 @@ impl Claims {
         ensures above { All (λ x. x < result) seat.old.drawn }
     {
         let number = self.table.shared.fetch_add::<Draw>(&mut seat.pass, 0, 1);
-        seat.spent = number >= u64::from(seat.count);
+        seat.spent = number >= seat.count;
         number
     }
 

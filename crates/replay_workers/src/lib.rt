@@ -1,9 +1,10 @@
-//! Visits replayed by several worker threads, which divide their list among themselves: each draws numbers, and the visit at a number that it drew is its own to
-//! replay. Then each visit follows its parent, on the thread that calls.
+//! The visits of several clients replayed by several worker threads, which divide the list of them all among themselves: each draws numbers, and the visit at a
+//! number that it drew is its own to replay. Then each visit follows its parent among its client's, on the thread that calls.
 //!
 //! What a contract says of the numbers that threads draw is said by seats. A seat is one worker's, and knows which numbers it drew (in proofs alone).
 #![tactic(auto)]
 
+mod by_client;
 mod claims;
 mod fault;
 mod pool;

@@ -11,51 +11,79 @@ ghost use Rattle.replay_workers.specs.Work.{own_outcomes, IsShare};
 ghost use Rattle.replay_workers.specs.inside.Shares.{PlacesAll, PlacesThese};
 ghost use Rattle.replay_workers.specs.declared.fault.PoolFault.TheVariants.{BadWorkers, NoMemory};
 
+use crate::by_client::{follow_each, in_one_list};
 use crate::claims::Claims;
 use crate::fault::PoolFault;
 use crate::seat::Seat;
 use crate::share::{Done, Share, work};
+use crate::view::Terms;
 use client_log::Visit;
 use site_hooks::SiteHooks;
 use std::alloc::{AllocError, Global};
 use std::thread;
 use std::thread::Threads;
-use visit_replay::{Outcome, Patch, follow_parents};
+use visit_replay::{MAX_WORKERS, Outcome, Patch};
 
-/// The outcomes of visits in their order, fewer than 2^32, each behind its parent's, by so many workers, 1 to `MAX_WORKERS`: the thread
-/// that calls is one, and the others have threads of their own. F1 for another number of workers, F2 where memory is refused. Where one of these can't be started, the thread that calls does its part too.
+/// The outcomes of each client's visits in their order, each behind its parent's among these, by one pool of so many workers for
+/// all clients, 1 to `MAX_WORKERS`: the thread that calls is one, and the others have threads of their own, unless there are no
+/// visits. F1 for another number of workers, F2 where memory is refused. Where one of these can't be started, the thread that calls does its part too.
 pub fn replay_all<H: SiteHooks, R: AllocGlobal + Threads + Sync>(
     rt: &R,
     workers: u32,
     hooks: &H,
     patch: &Patch,
-    visits: &[Visit],
-) -> Result<Vec<Outcome>, PoolFault>
-    requires { length visits.now < 2 ^ 32 }
+    clients: &[&[Visit]],
+) -> Result<Vec<Vec<Outcome>>, PoolFault>
     ensures workers { IfOk result (λ _. AreWorkers workers) }
-    ensures ok { IfOk result (λ all. all.items ≡ outcomes (site_by H.page_of H.signals hooks.now patch.now) visits.now) }
+    ensures ok { IfOk result (λ all. map (λ own. own.items) all.items ≡
+        map (λ visits. outcomes (site_by H.page_of H.signals hooks.now patch.now) visits.now) clients.now) }
     ensures refused { IfErr result (λ fault. fault ≢ NoMemory → (fault ≡ BadWorkers) × ¬ AreWorkers workers) }
     ensures memory { IfErr result (λ fault. fault ≡ NoMemory → AreWorkers workers) }
 {
-    let (claims, seats) = Claims::open(rt.alloc(), visits.len() as u32, workers)?;
-    let own = replay_each(rt, rt.alloc(), hooks, patch, visits, claims, seats)?;
-    Ok(follow_parents(rt.alloc(), visits, own)?)
+    if workers == 0 || workers > MAX_WORKERS {
+        return Err(PoolFault::BadWorkers);
+    }
+    let visits = in_one_list(rt.alloc(), clients)?;
+    let own = replay_listed(rt, rt.alloc(), workers, hooks, patch, visits.as_slice())?;
+    Ok(follow_each(rt.alloc(), clients, own)?)
 }
 
-// What each visit gives by itself.
+// What each visit gives by itself. No thread is started where there are none.
+fn replay_listed<H: SiteHooks, R: Threads + Sync>(
+    rt: &R,
+    alloc: Global,
+    workers: u32,
+    hooks: &H,
+    patch: &Patch,
+    visits: &[&Visit],
+) -> Result<Vec<Outcome>, AllocError>
+    requires { AreWorkers workers }
+    ensures { IfOk result (λ own. own.items ≡
+        own_outcomes (site_by H.page_of H.signals hooks.now patch.now) (map (λ visit. visit.now) visits.now)) }
+{
+    if visits.is_empty() {
+        return Ok(Vec::new(alloc));
+    }
+    let count = visits.len() as u64;
+    let (claims, seats) = Claims::under(alloc, Terms { count, workers })?;
+    replay_each(rt, alloc, hooks, patch, visits, claims, seats)
+}
+
+// The same by the workers with these seats.
 fn replay_each<H: SiteHooks, R: Threads + Sync>(
     rt: &R,
     alloc: Global,
     hooks: &H,
     patch: &Patch,
-    visits: &[Visit],
+    visits: &[&Visit],
     claims: Claims,
     seats: Vec<Seat>,
 ) -> Result<Vec<Outcome>, AllocError>
     requires fresh { seats.items ≡ replicate claims.workers (fresh_seat claims) }
     requires some { 1 ≤ claims.workers }
     requires count { claims.count ≡ length visits.now }
-    ensures { IfOk result (λ own. own.items ≡ own_outcomes (site_by H.page_of H.signals hooks.now patch.now) visits.now) }
+    ensures { IfOk result (λ own. own.items ≡
+        own_outcomes (site_by H.page_of H.signals hooks.now patch.now) (map (λ visit. visit.now) visits.now)) }
 {
     let mut own = untouched(alloc, visits.len())?;
     let room = Vec::with_capacity(alloc, seats.len())?;
@@ -66,7 +94,8 @@ fn replay_each<H: SiteHooks, R: Threads + Sync>(
         &|seat| -> Share
             requires { (seat ≡ fresh_seat lent.now) × (lent.now.count ≡ length visits.now) }
             ensures { IsShare
-                (own_outcomes (site_by H.page_of H.signals hooks.entry.now patch.entry.now) visits.entry.now)
+                (own_outcomes (site_by H.page_of H.signals hooks.entry.now patch.entry.now)
+                (map (λ visit. visit.now) visits.entry.now))
                 lent.entry.now (fresh_seat lent.entry.now) result }
         { work(alloc, hooks, patch, visits, lent, seat) },
     )?;

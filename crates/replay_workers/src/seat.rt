@@ -11,7 +11,7 @@ use std::marker::Model;
 #[derive(Drop)]
 pub struct Seat {
     pub(crate) pass: Pass<(), SeatView>,
-    pub(crate) count: u32,
+    pub(crate) count: u64,
     pub(crate) spent: bool,
 }
 
@@ -29,7 +29,7 @@ impl Model for Seat {
 
 impl Seat {
     /// A seat that has drawn nothing.
-    pub(crate) fn of_pass(pass: Pass<(), SeatView>, count: u32) -> Seat
+    pub(crate) fn of_pass(pass: Pass<(), SeatView>, count: u64) -> Seat
         requires whole { pass.me.1 ≡ [] }
         requires fresh { pass.me.0.rows ≡ [] ∷ [] }
         ensures { result ≡ record { table_id = pass.table_id; count = count; drawn = [] } }

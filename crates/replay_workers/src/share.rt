@@ -1,5 +1,5 @@
 //! What one worker does: it draws numbers, and replays the visits that they are of.
-ghost use Rattle.std.specs.Prelude.{◌≡◌, ◌<◌, false, length, IfOk, IsOkAnd};
+ghost use Rattle.std.specs.Prelude.{◌≡◌, ◌<◌, false, length, map, IfOk, IsOkAnd};
 ghost use Rattle.replay_workers.specs.Draws.{IsSeatOf, is_spent};
 ghost use Rattle.replay_workers.specs.Work.{own_outcomes, IsShare};
 ghost use Rattle.replay_workers.specs.inside.Shares.{HasNext};
@@ -34,14 +34,16 @@ pub fn work<H: SiteHooks>(
     alloc: Global,
     hooks: &H,
     patch: &Patch,
-    visits: &[Visit],
+    visits: &[&Visit],
     claims: &Claims,
     seat: Seat,
 ) -> Share
     requires of { IsSeatOf claims.now seat }
     requires unspent { is_spent seat ≡ false }
     requires count { claims.now.count ≡ length visits.now }
-    ensures { IsShare (own_outcomes (site_by H.page_of H.signals hooks.now patch.now) visits.now) claims.now seat result }
+    ensures { IsShare
+        (own_outcomes (site_by H.page_of H.signals hooks.now patch.now) (map (λ visit. visit.now) visits.now))
+        claims.now seat result }
 {
     let mut seat = seat;
     let mut done = Ok(Vec::new(alloc));
@@ -59,16 +61,17 @@ fn with_one<H: SiteHooks>(
     alloc: Global,
     hooks: &H,
     patch: &Patch,
-    visits: &[Visit],
+    visits: &[&Visit],
     number: u64,
     done: Result<Vec<Done>, NoMemory>,
 ) -> Result<Vec<Done>, NoMemory>
     requires { number < length visits.now }
     ensures { IfOk result (λ more. IsOkAnd done (λ some.
-        HasNext (own_outcomes (site_by H.page_of H.signals hooks.now patch.now) visits.now) number some.items more.items)) }
+        HasNext (own_outcomes (site_by H.page_of H.signals hooks.now patch.now) (map (λ visit. visit.now) visits.now))
+        number some.items more.items)) }
 {
     let mut done = done?;
-    let outcome = replay(alloc, hooks, patch, &visits[number as usize])?;
+    let outcome = replay(alloc, hooks, patch, visits[number as usize])?;
     done.push(Done { number, outcome })?;
     Ok(done)
 }

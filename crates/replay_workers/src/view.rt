@@ -4,7 +4,7 @@ use std::collections::LinkedList;
 /// How many numbers there are to claim, and how many seats.
 #[derive(Drop)]
 pub struct Terms {
-    pub count: u32,
+    pub count: u64,
     pub workers: u32,
 }
 

@@ -12,7 +12,7 @@ use Rattle.site_hooks.specs.declared.table.Table.{Table}
 
 -- the page that stands at the whole address
 abbrev pub table_page : Table → List ℕ → Option Tree
-table_page table address = get_by_text table.pages address
+table_page table address = option_map (λ site_page. site_page.page) (get_by_text table.pages address)
 
 -- that page was added at the address, and all others stand as before
 abbrev pub AddsPage : Table → List ℕ → Tree → Table → Type 0

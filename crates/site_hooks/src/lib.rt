@@ -6,10 +6,18 @@
 #![tactic(auto)]
 
 mod closures;
+mod findings;
 mod fork;
+mod fronts;
 mod hooks;
 mod law;
+mod setting_up;
+mod siblings;
+mod site_page;
 mod table;
+mod table_hooks;
+mod walk;
+mod watch_list;
 
 pub use closures::{Closures, ConflictTeller, PageMaker};
 pub use fork::Fork;

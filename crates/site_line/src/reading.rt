@@ -1,5 +1,5 @@
 //! The members of a site line.
-ghost use Rattle.std.specs.Prelude.{◌≡◌, [], List, ℕ, Some, IfOk, IfErr, IsErrOf, option_map, codes};
+ghost use Rattle.std.specs.Prelude.{◌≡◌, List, ℕ, None, Some, IfOk, IfErr, IsErrOf, option_map, codes};
 ghost use Rattle.serde_json.specs.Data.{Data};
 ghost use Rattle.serde_json.specs.View.{view, items_view, members_view};
 ghost use Rattle.serde_json.specs.Find.{as_str, as_array, as_object};
@@ -106,22 +106,22 @@ pub(crate) fn read_patched(alloc: Global, value: &Value) -> Result<Vec<Text>, Si
     Ok(texts)
 }
 
-/// A table of the site's pages, which watches nothing.
-pub(crate) fn read_pages(alloc: Global, value: &Value) -> Result<Table, SiteFault>
-    ensures pages { IfOk result (λ table. (address : List ℕ)
-        → option_map (λ pages. page_among pages address) (pages_in (view value.now)) ≡ Some (table_page table address)) }
-    ensures watched { IfOk result (λ table. watched_in table ≡ []) }
+/// Adds the site's pages to a table that has none.
+pub(crate) fn read_pages(alloc: Global, value: &Value, table: &mut Table) -> Result<(), SiteFault>
+    requires { (address : List ℕ) → table_page table.old address ≡ None }
+    ensures pages { IfOk result (λ _. (address : List ℕ)
+        → option_map (λ pages. page_among pages address) (pages_in (view value.now)) ≡ Some (table_page table.new address)) }
+    ensures watched { watched_in table.new ≡ watched_in table.old }
     ensures fails { IfErr result (FailsWhere (pages_in (view value.now) ≡ None)) }
 {
-    let mut table = Table::new(alloc);
     let Some(given) = value.get("pages") else {
-        return Ok(table);
+        return Ok(());
     };
     for (address, page) in read_members(given)?.iter() {
         let page = read_page(alloc, page)?;
         table.add_page(Text::from_str(alloc, address.as_str())?, page)?;
     }
-    Ok(table)
+    Ok(())
 }
 
 fn read_page(alloc: Global, value: &Value) -> Result<Page, SiteFault>
@@ -130,16 +130,16 @@ fn read_page(alloc: Global, value: &Value) -> Result<Page, SiteFault>
     Ok(Page::from_value(alloc, value)?)
 }
 
-/// Adds the paths that are watched, of a table that watches nothing.
-pub(crate) fn read_watched(alloc: Global, value: &Value, table: &mut Table) -> Result<(), SiteFault>
-    requires { watched_in table.old ≡ [] }
-    ensures watched { GivesSite (λ _. watched_in table.new) result (list_by path_by_text (codes "watch") (view value.now)) }
-    ensures pages { (address : List ℕ) → table_page table.new address ≡ table_page table.old address }
+/// A table without pages that watches the site's paths.
+pub(crate) fn read_watched(alloc: Global, value: &Value) -> Result<Table, SiteFault>
+    ensures watched { GivesSite watched_in result (list_by path_by_text (codes "watch") (view value.now)) }
+    ensures pages { IfOk result (λ table. (address : List ℕ) → table_page table address ≡ None) }
 {
+    let mut table = Table::new(alloc);
     for item in items_at(value, "watch")? {
         table.watch(read_path(alloc, item)?)?;
     }
-    Ok(())
+    Ok(table)
 }
 
 fn read_path(alloc: Global, value: &Value) -> Result<Path, SiteFault>

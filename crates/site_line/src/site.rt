@@ -54,8 +54,8 @@ impl Site {
     {
         read_members(value)?;
         let patch = Patch::new(read_patched(alloc, value)?);
-        let mut table = read_pages(alloc, value)?;
-        read_watched(alloc, value, &mut table)?;
+        let mut table = read_watched(alloc, value)?;
+        read_pages(alloc, value, &mut table)?;
         let quota = read_quota(value)?;
         let workers = read_workers(value)?;
         let decisions = read_decisions(alloc, value)?;

@@ -5,7 +5,6 @@ use Rattle.std.proofs.lemmas.List.{length-append, length-map, map-append}
 use Rattle.std.proofs.lemmas.List.Sums.{fold-append}
 use Rattle.std.proofs.lemmas.Option.{slice_get_within}
 use Rattle.std.specs.Prelude.{fold}
-use Rattle.std.specs.Arc.{arc_value}
 use Rattle.std.specs.List.{AllByRecursion, AllZip}
 use Rattle.lane_queue.specs.Limits.{max_lanes}
 use Rattle.round_robin.proofs.Dealing.{every_length, every_zip}
@@ -227,7 +226,7 @@ module _ {R H : Type 0} (halt : H) (kept : ℕ) where
   by_hands allows (party ∷ parties) [] runs all = absurd all
   by_hands allows (party ∷ parties) (one ∷ made) runs all = (
     subst (λ n. TakesByOne (allows halt) (n + 1) party.fresh.value.items one.0.items one.1) runs.0.room_is
-        (subst (λ h. TakesByOne (allows h) ((arc_value party.queue).room + 1) party.fresh.value.items one.0.items one.1) runs.0.halt_is all.0),
+        (subst (λ h. TakesByOne (allows h) (party.room + 1) party.fresh.value.items one.0.items one.1) runs.0.halt_is all.0),
     by_hands allows parties made runs.1 all.1,
   )
 

@@ -6,9 +6,9 @@ use Rattle.lane_queue.specs.Items.{of_lane}
 use Rattle.lane_queue.specs.declared.item.Item.{Item}
 use Rattle.upload_reader.specs.Upload.{UploadState}
 use Rattle.lanes_in_turn.proofs.RoundLaws.{in_set}
-use Rattle.upload_lanes.specs.inside.Party.{TellsUpload, IsJoined, AreJoined, with_upload}
+use Rattle.upload_lanes.specs.inside.Party.{TellsParcels, IsJoined, AreJoined, with_upload}
 use Rattle.lanes_in_turn.specs.declared.gathered.LaneResult.{LaneResult}
-use Rattle.upload_lanes.specs.declared.sent.Sent.{Sent}
+use Rattle.upload_lanes.specs.declared.sent.Parcel.{Parcel}
 use Rattle.upload_lanes.specs.declared.uploader.Uploads.{Uploads}
 
 pub some_at : {X : Type 0} (xs : List X) (k : ℕ) → k < length xs → (x : X) × (slice_get xs k ≡ Some x)
@@ -29,7 +29,7 @@ seam_at (y ∷ xs) ys x = seam_at xs ys x
 
 module _ {R : Type 0} (room : ℕ) where
   -- The uploaders that are left are the first; the lanes behind them have their uploads.
-  pub record IsJoining (promises left : List (Uploads R)) (got : List (Item Sent)) (old lanes : List (List ℕ × LaneResult R)) : Type 0 where
+  pub record IsJoining (promises left : List (Uploads R)) (got : List (Item Parcel)) (old lanes : List (List ℕ × LaneResult R)) : Type 0 where
     pub joined : List (Uploads R)
     pub split : promises ≡ left ++ joined
     pub count : length lanes ≡ length old
@@ -37,7 +37,7 @@ module _ {R : Type 0} (room : ℕ) where
     pub front : (k : ℕ) → k < length left → slice_get lanes k ≡ slice_get old k
     pub back : (k : ℕ) (lane lane' : List ℕ × LaneResult R) → length left ≤ k → slice_get old k ≡ Some lane → slice_get lanes k ≡ Some lane' → IsJoined room promises got k lane lane'
 
-  pub joins_none : (promises : List (Uploads R)) (got : List (Item Sent)) (old : List (List ℕ × LaneResult R)) → length promises ≡ length old → IsJoining promises promises got old old
+  pub joins_none : (promises : List (Uploads R)) (got : List (Item Parcel)) (old : List (List ℕ × LaneResult R)) → length promises ≡ length old → IsJoining promises promises got old old
   joins_none promises got old count = record {
     joined = [];
     split = sym (append-nil promises);
@@ -47,10 +47,10 @@ module _ {R : Type 0} (room : ℕ) where
     back = λ k lane lane' past at at'. let within = slice_get_within old k lane at in absurd (omega (arith, past, within, count));
   }
 
-  pub joins_all : (promises left : List (Uploads R)) (got : List (Item Sent)) (old lanes : List (List ℕ × LaneResult R)) → length left ≡ 0 → IsJoining promises left got old lanes → AreJoined room promises got old lanes
+  pub joins_all : (promises left : List (Uploads R)) (got : List (Item Parcel)) (old lanes : List (List ℕ × LaneResult R)) → length left ≡ 0 → IsJoining promises left got old lanes → AreJoined room promises got old lanes
   joins_all promises left got old lanes none joining = record { count = joining.count; each = λ k lane lane' at at'. joining.back k lane lane' (omega (arith, none)) at at' }
 
-  module _ (promises left left' : List (Uploads R)) (promise : Uploads R) (got : List (Item Sent)) (old lanes : List (List ℕ × LaneResult R)) (last : left ≡ left' ++ promise ∷ [])
+  module _ (promises left left' : List (Uploads R)) (promise : Uploads R) (got : List (Item Parcel)) (old lanes : List (List ℕ × LaneResult R)) (last : left ≡ left' ++ promise ∷ [])
       (joining : IsJoining promises left got old lanes) where
     abbrev pub n : ℕ
     n = length left'
@@ -67,7 +67,7 @@ module _ {R : Type 0} (room : ℕ) where
     pub last_within : n < length lanes
     last_within = omega (arith, size, joining.few)
 
-    pub joins_one : (upload : UploadState R) (lanes' : List (List ℕ × LaneResult R)) → TellsUpload (room + 1) promise.upload.value upload (of_lane n got)
+    pub joins_one : (upload : UploadState R) (lanes' : List (List ℕ × LaneResult R)) → TellsParcels room promise upload (of_lane n got)
         → ((lane : List ℕ × LaneResult R) → slice_get lanes n ≡ Some lane → lanes' ≡ set lanes n (with_upload lane upload)) → IsJoining promises left' got old lanes'
     joins_one upload lanes' told put =
         let (was, at) = some_at lanes n last_within in

@@ -1,3 +1,4 @@
+pub mod SpreadLaws
 pub mod UploaderLaws
 pub mod Crossing
 pub mod RecorderLaws

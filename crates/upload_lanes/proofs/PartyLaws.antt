@@ -16,7 +16,7 @@ use Rattle.upload_lanes.specs.inside.Party.{AreEnds, without_upload}
 use Rattle.upload_lanes.specs.inside.Recording.{AreBegun, IsDuty}
 use Rattle.lanes_in_turn.specs.declared.gathered.LaneResult.{LaneResult}
 use Rattle.upload_lanes.specs.declared.recorder.Duty.{Duty}
-use Rattle.upload_lanes.specs.declared.sent.Sent.{Sent}
+use Rattle.upload_lanes.specs.declared.sent.Parcel.{Parcel}
 
 range_at : (first n k : ℕ) → k < n → slice_get (range_with_len first n) k ≡ Some (first + k)
 range_at first zero k within = absurd (omega (arith, within))
@@ -27,17 +27,17 @@ range_length : (first n : ℕ) → length (range_with_len first n) ≡ n
 range_length first zero = refl
 range_length first (suc n) = ap suc (range_length (first + 1) n)
 
-module _ (queue : Queue) (lanes : ℕ) (putters : List (Pass (Item Sent) (QueueView Sent))) (are : ArePutters queue lanes putters) where
+module _ (queue : Queue) (lanes : ℕ) (putters : List (Pass (Item Parcel) (QueueView Parcel))) (are : ArePutters queue lanes putters) where
   pub putters_count : length putters ≡ lanes
-  putters_count = sym (length-map putters (λ putter. view putter)) ∙ ap length are.views ∙ length-map (range_with_len 0 lanes) (λ k. fresh_putter {T = Sent} k) ∙ range_length 0 lanes
+  putters_count = sym (length-map putters (λ putter. view putter)) ∙ ap length are.views ∙ length-map (range_with_len 0 lanes) (λ k. fresh_putter {T = Parcel} k) ∙ range_length 0 lanes
 
   pub ends_are : AreEnds queue putters
   ends_are k putter at =
       let within = slice_get_within putters k putter at in
-      let seen : Some (view putter) ≡ option_map (λ n. fresh_putter {T = Sent} n) (slice_get (range_with_len 0 lanes) k) =
-      sym (slice_get-map (λ p. view p) putters k ∙ ap (option_map (λ p. view p)) at) ∙ ap (λ views. slice_get views k) are.views ∙ slice_get-map (λ n. fresh_putter {T = Sent} n) (range_with_len 0 lanes) k in
-      let both : Some (view putter) ≡ Some (fresh_putter {T = Sent} (0 + k)) = seen ∙ ap (option_map (λ n. fresh_putter {T = Sent} n)) (range_at 0 lanes k (omega (arith, within, putters_count))) in
-      let same : view putter ≡ fresh_putter {T = Sent} (0 + k) = cc in
+      let seen : Some (view putter) ≡ option_map (λ n. fresh_putter {T = Parcel} n) (slice_get (range_with_len 0 lanes) k) =
+      sym (slice_get-map (λ p. view p) putters k ∙ ap (option_map (λ p. view p)) at) ∙ ap (λ views. slice_get views k) are.views ∙ slice_get-map (λ n. fresh_putter {T = Parcel} n) (range_with_len 0 lanes) k in
+      let both : Some (view putter) ≡ Some (fresh_putter {T = Parcel} (0 + k)) = seen ∙ ap (option_map (λ n. fresh_putter {T = Parcel} n)) (range_at 0 lanes k (omega (arith, within, putters_count))) in
+      let same : view putter ≡ fresh_putter {T = Parcel} (0 + k) = cc in
       (subst (IsNewPutterOf queue) (get_or_from_slice_get putters k putter putter at) (are.fresh k putter within), ap (λ v. v.lane) same ∙ omega arith)
 
 module _ {R : Type 0} (hand : List (List ℕ × LaneResult R)) (all : AllByRecursion IsFreshLane hand) where
@@ -47,13 +47,13 @@ module _ {R : Type 0} (hand : List (List ℕ × LaneResult R)) (all : AllByRecur
       let fresh = all_at IsFreshLane hand k whole all whole_at in
       subst (λ l. IsBegun l.1) is (record { taken = fresh.begun.taken; end = fresh.begun.end })
 
-  pub duty_is : (queue : Queue) (room : ℕ) (duty : Duty R) (putters : List (Pass (Item Sent) (QueueView Sent))) → AreLanes (length hand)
+  pub duty_is : (queue : Queue) (room : ℕ) (duty : Duty R) (putters : List (Pass (Item Parcel) (QueueView Parcel))) → AreLanes (length hand)
       → IsOpenedQueue (length hand) room queue duty.taker putters → duty.lanes.items ≡ map without_upload hand → IsDuty queue duty
   duty_is queue room duty putters few opened lanes =
       let size : length duty.lanes.items ≡ length hand = ap length lanes ∙ length-map hand without_upload in
       record {
         of = opened.taker_of;
-        fresh = opened.taker_is ∙ ap (λ n. fresh_taker {T = Sent} n) (sym size);
+        fresh = opened.taker_is ∙ ap (λ n. fresh_taker {T = Parcel} n) (sym size);
         few = omega (arith, size, few.few);
         begun = subst AreBegun (sym lanes) begun_parted;
       }

@@ -1,37 +1,33 @@
 -- What a recorder made of its lanes, once their uploaders have ended.
-use Rattle.std.proofs.Common.{◌≡◌, ℕ, suc, ◌+◌, ◌≤◌, ◌<◌, List, [], ◌∷◌, ◌++◌, length, map, Bool, true, false, ◌&&◌, is_some, slice_get, Some, inl, inr, refl, sym, ap, subst, ◌∙◌, arith, append-nil}
-use Rattle.std.proofs.lemmas.List.{length-append, length-map}
+use Rattle.std.proofs.Common.{◌≡◌, ℕ, suc, ◌+◌, ◌*◌, ◌<◌, List, [], ◌∷◌, ◌++◌, length, map, Bool, true, false, ◌&&◌, is_some, slice_get, Some, inl, inr, refl, sym, ap, subst, ◌∙◌, arith, append_assoc}
+use Rattle.std.proofs.lemmas.List.{length-map}
 use Rattle.std.proofs.lemmas.List.Sums.{sum_by-cons}
 use Rattle.std.proofs.lemmas.Option.{slice_get_within}
+use Rattle.std.proofs.Math.Nat.{suc-mul}
 use Rattle.std.specs.List.{AllByRecursion, sum_by}
-use Rattle.lane_queue.proofs.Lists.{of_append, of_few, of_more}
+use Rattle.lane_queue.proofs.Lists.{of_append, of_more}
 use Rattle.lane_queue.specs.Items.{of_lane, has_last}
 use Rattle.lane_queue.specs.declared.item.Item.{Item}
+use Rattle.lanes_in_turn.proofs.RoundLaws.{all_at}
 use Rattle.upload_lanes.proofs.GroupLaws.{ends_in, few_more, gave_more, lane_count, lane_ended, lane_taken, put_first}
 use Rattle.upload_lanes.proofs.JoinLaws.{some_at}
 use Rattle.upload_lanes.proofs.RecorderLaws.{total, lanes_total}
 use Rattle.upload_lanes.proofs.SendingLaws.{own_upload}
+use Rattle.upload_lanes.proofs.SpreadLaws.{all_front, last_of, of_spread}
 use Rattle.upload_lanes.proofs.Zips.{mapped_at, zip_at}
 use Rattle.lanes_in_turn.specs.Lane.{IsTaken}
 use Rattle.lanes_in_turn.specs.Round.{have_ended}
 use Rattle.lanes_in_turn.specs.Taking.{is_ended, items_in, GaveFewMore, items_taken, refused_by, GaveMore, Stops, TakesLane}
-use Rattle.upload_lanes.specs.inside.Party.{TellsUpload, IsJoined, AreJoined, TakesByOne, without_upload}
-use Rattle.upload_lanes.specs.inside.Sent.{is_last}
+use Rattle.upload_lanes.specs.inside.Party.{Fits, TellsUpload, IsJoined, AreJoined, TakesByOne, without_upload}
+use Rattle.upload_lanes.specs.inside.Sent.{is_last, spread, IsPut}
 use Rattle.upload_lanes.specs.inside.Recording as Recorder
 use Rattle.upload_lanes.specs.inside.Recording.{IsHalted, IsRecording, IsUnrecorded}
 use Rattle.lanes_in_turn.specs.declared.gathered.LaneResult.{LaneResult}
 use Rattle.lanes_in_turn.specs.declared.gathered.Stop.{Stop}
 use Rattle.lanes_in_turn.specs.declared.gathered.Stop.TheVariants as stops
+use Rattle.upload_lanes.specs.declared.sent.Parcel.{Parcel}
 use Rattle.upload_lanes.specs.declared.sent.Sent.{Sent}
 use Rattle.upload_lanes.specs.declared.uploader.Uploads.{Uploads}
-
-all_front : {X : Type 0} (P : X → Type 0) (xs ys : List X) → AllByRecursion P (xs ++ ys) → AllByRecursion P xs
-all_front P [] ys all = tt
-all_front P (x ∷ xs) ys all = (all.0, all_front P xs ys all.1)
-
-last_of : {X : Type 0} (P : X → Type 0) (xs : List X) (x : X) → AllByRecursion P (xs ++ x ∷ []) → P x
-last_of P [] x all = all.0
-last_of P (y ∷ xs) x all = last_of P xs x all.1
 
 total_list : {X : Type 0} (f : X → ℕ) (xs : List X) (h : ℕ → ℕ) → ((k : ℕ) (x : X) → slice_get xs k ≡ Some x → h k ≡ f x) → total (length xs) h ≡ sum_by f xs
 total_list f [] h same = refl
@@ -41,10 +37,10 @@ total_list f (x ∷ xs) h same =
     let all = sum_by-cons f x xs in
     omega (arith, first, rest, all)
 
-one_refused : (s : Stop) (rest : List (Item Sent)) → IsUnrecorded s rest → length rest ≤ refused_by s
-one_refused stops.Memory rest (item, is, one) = let size = ap length is in omega (arith, size)
-one_refused stops.None rest is = let size = ap length is in omega (arith, size)
-one_refused stops.Asked rest is = let size = ap length is in omega (arith, size)
+-- each uploader keeps to the room, where all have that size
+pub fits_at : {R : Type 0} (room places size : ℕ) (promises : List (Uploads R)) → Fits room places size → AllByRecursion (λ promise. promise.size.value ≡ size) promises
+    → (k : ℕ) (promise : Uploads R) → slice_get promises k ≡ Some promise → Fits room places promise.size.value
+fits_at room places size promises fits sizes k promise at = subst (Fits room places) (sym (all_at (λ one. one.size.value ≡ size) promises k promise sizes at)) fits
 
 module _ {R : Type 0} where
   -- ---- have all ended
@@ -64,10 +60,14 @@ module _ {R : Type 0} where
 
   -- ---- a recorder's lanes
 
-  module _ (allows : ℕ → Bool → Type 0) (room : ℕ) (firsts lanes joined_lanes : List (List ℕ × LaneResult R)) (promises : List (Uploads R)) (got : List (Item Sent)) (stop : Stop) (items : ℕ)
-      (recording : IsRecording firsts lanes got stop items) (joined : AreJoined room promises got lanes joined_lanes) where
-    split : (k : ℕ) → of_lane k got ≡ of_lane k recording.done ++ of_lane k recording.rest
-    split k = ap (of_lane k) recording.got_is ∙ of_append k recording.done recording.rest
+  module _ (allows : ℕ → Bool → Type 0) (room places : ℕ) (firsts lanes joined_lanes : List (List ℕ × LaneResult R)) (promises : List (Uploads R)) (got : List (Item Parcel)) (stop : Stop) (items : ℕ)
+      (fits : (k : ℕ) (promise : Uploads R) → slice_get promises k ≡ Some promise → Fits room places promise.size.value)
+      (recording : IsRecording firsts lanes got stop items) (joined : AreJoined places promises got lanes joined_lanes) where
+    abbrev pub behind : List (Item Sent)
+    behind = recording.rest ++ recording.left
+
+    split : (k : ℕ) → spread (of_lane k got) ≡ of_lane k recording.done ++ of_lane k behind
+    split k = sym (of_spread k got) ∙ ap (of_lane k) recording.got_is ∙ of_append k recording.done behind
 
     -- the first lane, the recorded one and the joined one at one place
     pub record At (k : ℕ) (lane : List ℕ × LaneResult R) : Type 0 where
@@ -75,7 +75,7 @@ module _ {R : Type 0} where
       pub first_at : slice_get firsts k ≡ Some first
       pub recorded : List ℕ × LaneResult R
       pub recorded_at : slice_get lanes k ≡ Some recorded
-      pub is_joined : IsJoined room promises got k recorded lane
+      pub is_joined : IsJoined places promises got k recorded lane
 
     at : (k : ℕ) (lane : List ℕ × LaneResult R) → slice_get joined_lanes k ≡ Some lane → At k lane
     at k lane lane_at =
@@ -87,8 +87,15 @@ module _ {R : Type 0} where
     module _ (k : ℕ) (lane : List ℕ × LaneResult R) (here : At k lane) where
       told : TellsUpload (room + 1 + refused_by stop) here.is_joined.promise.upload.value here.is_joined.upload (of_lane k recording.done)
       told =
-          let few = of_few k recording.rest in let one = one_refused stop recording.rest recording.refused in
-          (here.is_joined.told.0, put_first (room + 1) (room + 1 + refused_by stop) here.is_joined.upload (of_lane k got) (of_lane k recording.done) (of_lane k recording.rest) (split k) (omega (arith, few, one)) here.is_joined.told.1)
+          let joined_so = here.is_joined.told in
+          let size = here.is_joined.promise.size.value in
+          let fit = fits k here.is_joined.promise here.is_joined.promise_at in
+          let few = recording.part k size fit.some joined_so.small in
+          let step : (places + 2) * size ≡ (places + 1) * size + size = ap (λ n. n * size) (omega arith) ∙ suc-mul (places + 1) size in (
+            joined_so.told.0,
+            put_first ((places + 1) * size) (room + 1 + refused_by stop) here.is_joined.upload (spread (of_lane k got)) (of_lane k recording.done) (of_lane k behind) (split k)
+                (omega (arith, few, step, fit.most)) joined_so.told.1,
+          )
 
       same_end : lane.1.end ≡ here.recorded.1.end
       same_end = ap (λ l. l.1.end) here.is_joined.lane_is
@@ -127,47 +134,50 @@ module _ {R : Type 0} where
 
     all_items : items ≡ items_taken joined_lanes stop
     all_items =
-        let within = all_front (λ item. item.lane < length firsts) recording.done recording.rest (subst (AllByRecursion (λ item. item.lane < length firsts)) recording.got_is recording.within) in
+        let within = all_front (λ item. item.lane < length firsts) recording.done behind (subst (AllByRecursion (λ item. item.lane < length firsts)) recording.got_is recording.within) in
         let sums = lanes_total (length firsts) recording.done within in
         let same : total (length joined_lanes) (λ k. length (of_lane k recording.done)) ≡ sum_by (λ lane. items_in lane.1) joined_lanes =
         total_list (λ lane. items_in lane.1) joined_lanes (λ k. length (of_lane k recording.done)) (λ k lane lane_at. count_here k lane (at k lane lane_at)) in
         let sizes : total (length joined_lanes) (λ k. length (of_lane k recording.done)) ≡ total (length firsts) (λ k. length (of_lane k recording.done)) =
         ap (λ n. total n (λ k. length (of_lane k recording.done))) (joined.count ∙ recording.lanes_are.count) in
         let rest = refused_one stop recording.rest recording.refused in
-        let whole : length got ≡ length recording.done + length recording.rest = ap length recording.got_is ∙ length-append recording.done recording.rest in
         let done : sum_by (λ lane. items_in lane.1) joined_lanes ≡ length recording.done = sym same ∙ sizes ∙ sums in
-        recording.count ∙ whole ∙ ap (λ n. n + length recording.rest) (sym done) ∙ ap (λ n. sum_by (λ lane. items_in lane.1) joined_lanes + n) rest
+        recording.count ∙ ap (λ n. n + length recording.rest) (sym done) ∙ ap (λ n. sum_by (λ lane. items_in lane.1) joined_lanes + n) rest
 
     -- the item that could not be recorded is a message of one of these lanes
     unrecorded : (item : Item Sent) → recording.rest ≡ item ∷ [] → is_last item.body ≡ false
         → (k : ℕ) × (lane : List ℕ × LaneResult R) × (slice_get joined_lanes k ≡ Some lane) × GaveMore lane.1
     unrecorded item rest one =
         let k = item.lane in
-        let all = subst (AllByRecursion (λ each. each.lane < length firsts)) (recording.got_is ∙ ap (λ r. recording.done ++ r) rest) recording.within in
+        let cut : spread got ≡ (recording.done ++ item ∷ []) ++ recording.left =
+        recording.got_is ∙ ap (λ r. recording.done ++ (r ++ recording.left)) rest ∙ sym (append_assoc recording.done (item ∷ []) recording.left) in
+        let all = all_front (λ each. each.lane < length firsts) (recording.done ++ item ∷ []) recording.left (subst (AllByRecursion (λ each. each.lane < length firsts)) cut recording.within) in
         let within = last_of (λ each. each.lane < length firsts) recording.done item all in
         let (lane, lane_at) = some_at joined_lanes k (omega (arith, within, joined.count, recording.lanes_are.count)) in
         let here = at k lane lane_at in
         let was = recording.lanes_are.each k here.first here.recorded here.first_at here.recorded_at in
         let upload = here.is_joined.upload in
-        let got_so : of_lane k got ≡ of_lane k recording.done ++ item ∷ [] = ap (of_lane k) (recording.got_is ∙ ap (λ r. recording.done ++ r) rest) ∙ of_more k recording.done item refl in
-        let more = gave_more here.first.1 here.recorded.1 here.is_joined.promise.upload.value upload (of_lane k recording.done) was.1 (room + 1 + refused_by stop) (told k lane here) (room + 1) upload item one
-        (subst (TellsUpload (room + 1) here.is_joined.promise.upload.value upload) got_so here.is_joined.told) in
+        let given = here.is_joined.told.told in
+        let most = (places + 1) * here.is_joined.promise.size.value in
+        let mine : spread (of_lane k got) ≡ (of_lane k recording.done ++ item ∷ []) ++ of_lane k recording.left =
+        sym (of_spread k got) ∙ ap (of_lane k) cut ∙ of_append k (recording.done ++ item ∷ []) recording.left ∙ ap (λ front. front ++ of_lane k recording.left) (of_more k recording.done item refl) in
+        let first : IsPut (length (of_lane k recording.left) + most) (of_lane k recording.done ++ item ∷ []) upload =
+        put_first most (length (of_lane k recording.left) + most) upload (spread (of_lane k got)) (of_lane k recording.done ++ item ∷ []) (of_lane k recording.left) mine (omega arith) given.1 in
+        let more = gave_more here.first.1 here.recorded.1 here.is_joined.promise.upload.value upload (of_lane k recording.done) was.1 (room + 1 + refused_by stop) (told k lane here) (length (of_lane k recording.left) + most) upload item one
+        (given.0, first) in
         (k, lane, lane_at, record { upload = upload; upload_is = ap (λ l. l.1.upload) here.is_joined.lane_is; more = subst (λ l. l.1.taken < length upload.given) (sym here.is_joined.lane_is) more })
 
     same_ends : have_ended joined_lanes ≡ have_ended lanes
     same_ends = ended_same lanes joined_lanes joined.count (λ k x y x_at y_at. ap (λ l. l.1.end) (joined.each k x y x_at y_at).lane_is)
 
-    all_ended : stop ≡ stops.None → ((k : ℕ) → k < length lanes → has_last (of_lane k got) ≡ true) → have_ended joined_lanes ≡ true
-    all_ended is lasts =
-        let none : recording.rest ≡ [] = subst (λ s. IsUnrecorded s recording.rest) is recording.refused in
-        let whole : recording.done ≡ got = sym (append-nil recording.done) ∙ ap (λ rest. recording.done ++ rest) (sym none) ∙ sym recording.got_is in
-        ended_each joined_lanes (λ k lane lane_at.
+    all_ended : ((k : ℕ) → k < length lanes → has_last (of_lane k recording.done) ≡ true) → have_ended joined_lanes ≡ true
+    all_ended lasts = ended_each joined_lanes (λ k lane lane_at.
         let within = slice_get_within joined_lanes k lane lane_at in
-        ended_here k lane (at k lane lane_at) (ap (λ all. has_last (of_lane k all)) whole ∙ lasts k (omega (arith, within, joined.count))))
+        ended_here k lane (at k lane lane_at) (lasts k (omega (arith, within, joined.count))))
 
-    ended_so : (s : Stop) → stop ≡ s → Recorder.StopsBy lanes got s → have_ended joined_lanes ≡ is_ended s
+    ended_so : (s : Stop) → stop ≡ s → Recorder.StopsBy lanes recording.done s → have_ended joined_lanes ≡ is_ended s
     ended_so stops.None is (inl ended) = same_ends ∙ ended
-    ended_so stops.None is (inr lasts) = all_ended is lasts
+    ended_so stops.None is (inr lasts) = all_ended lasts
     ended_so stops.Asked is open_ = same_ends ∙ open_
     ended_so stops.Memory is open_ = same_ends ∙ open_
 

@@ -19,8 +19,8 @@ max_recorders = 4
 abbrev pub recorders_of : ℕ → ℕ
 recorders_of lanes = if nat_lt lanes max_recorders then lanes else max_recorders
 
--- how many messages an upload gives at the most beyond those that were taken of its lane: as many as its queue has room
--- for, and one that waits for room there; a lane alone none
+-- how many messages an upload gives at the most beyond those that were taken of its lane: as many as the room says that
+-- it was given, and one more; a lane alone none
 abbrev pub read_ahead : ℕ → ℕ → ℕ
 read_ahead room lanes = if lanes == 1 then 0 else room + 1
 

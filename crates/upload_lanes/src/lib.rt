@@ -6,6 +6,7 @@
 mod alone;
 mod gate;
 mod heap;
+mod packing;
 mod parties;
 mod party;
 mod recorder;

@@ -8,12 +8,13 @@ ghost use Rattle.lane_queue.specs.Limits.{AreLanes, max_items};
 ghost use Rattle.lane_queue.specs.Queue.{IsPassOf};
 ghost use Rattle.lanes_in_turn.specs.Taking.{IsFreshLane};
 ghost use Rattle.upload_lanes.specs.inside.Party.{IsFreshHand};
-ghost use Rattle.upload_lanes.specs.inside.Party.{TellsUpload, AreEnds, AreUploads, AreSending, AreJoined, IsRunning, RunsBy, TakesByOne, with_upload, without_upload};
+ghost use Rattle.upload_lanes.specs.inside.Party.{TellsParcels, AreEnds, AreUploads, AreSending, AreJoined, IsRunning, RunsBy, TakesByOne, with_upload, without_upload};
 ghost use Rattle.lanes_in_turn.specs.declared.gathered.LaneResult.{LaneResult};
 
 use crate::gate::Gate;
+use crate::packing::Packing;
 use crate::recorder::{Duty, HandedBack, Records, start_record};
-use crate::sent::Sent;
+use crate::sent::{Parcel, Sent};
 use crate::uploader::{Uploaded, Uploads, start_upload};
 use byte_streams::Source;
 use lane_queue::{LaneQueue, Putter, Room, Taker, reckon};
@@ -28,7 +29,9 @@ use upload_reader::{Client, Ending, Upload};
 #[derive(Drop)]
 pub(crate) struct Party<H: Halt, R: Source> {
     fresh: Snapshot<Vec<(Client, LaneResult<R>)>>,
-    queue: Arc<LaneQueue<Sent>>,
+    queue: Arc<LaneQueue<Parcel>>,
+    room: Room,
+    size: usize,
     recorder: PromisedHandle<HandedBack<R>, Records<H, R>>,
     uploads: Vec<PromisedHandle<Uploaded<R>, Uploads<R>>>,
 }
@@ -56,17 +59,20 @@ pub(crate) fn start_party<'s, E, H: Halt + 's, R: Source + Drop + Send + 's, W: 
     ensures runs { IfOk result (RunsBy halt.now room) }
 {
     let fresh = Snapshot::of(&lanes);
-    match LaneQueue::open(alloc, lanes.len() as u32, room) {
+    let Packing { size, places } = Packing::of(room);
+    match LaneQueue::open(alloc, lanes.len() as u32, places) {
         Err(_) => Err(AllocError),
         Ok((queue, taker, putters)) => {
             let queue = Arc::new(alloc, queue)?;
             let Sending { lanes, uploads } = start_uploads(
-                scope, rt, alloc, &queue, gate, putters, lanes,
+                scope, rt, alloc, &queue, gate, putters, lanes, size,
             )?;
             let recorder = start_record(scope, rt, queue.clone()?, Duty { taker, lanes }, halt)?;
             Ok(Party {
                 fresh,
                 queue,
+                room,
+                size,
                 recorder,
                 uploads,
             })
@@ -79,17 +85,19 @@ fn start_uploads<'s, E, R: Source + Drop + Send + 's, W: Wait + Sync>(
     scope: &Scope<'s, E>,
     rt: &'s W,
     alloc: Global,
-    queue: &Arc<LaneQueue<Sent>>,
+    queue: &Arc<LaneQueue<Parcel>>,
     gate: &'s Gate,
-    putters: Vec<Putter<Sent>>,
+    putters: Vec<Putter<Parcel>>,
     lanes: Vec<(Client, LaneResult<R>)>,
+    size: usize,
 ) -> Result<Sending<R>, AllocError>
     requires ends { AreEnds (arc_value queue.now) putters.items }
     requires count { length putters.items ≡ length lanes.items }
     requires fresh { AllByRecursion IsFreshLane lanes.items }
+    requires size { 1 ≤ size }
     ensures lanes { IfOk result (λ sending. sending.lanes.items ≡ map without_upload lanes.items) }
     ensures sending { IfOk result (λ sending.
-        AreSending (arc_value queue.now) lanes.items (map (λ handle. handle.promise) sending.uploads.items)) }
+        AreSending (arc_value queue.now) size lanes.items (map (λ handle. handle.promise) sending.uploads.items)) }
 {
     let mut uploads = Vec::with_capacity(alloc, lanes.len())?;
     let mut rest = Vec::with_capacity(alloc, lanes.len())?;
@@ -109,6 +117,7 @@ fn start_uploads<'s, E, R: Source + Drop + Send + 's, W: Wait + Sync>(
             gate,
             putter,
             upload.unwrap(),
+            size,
         )?);
         let lane = LaneResult {
             log,
@@ -130,12 +139,14 @@ pub(crate) fn join_party<H: Halt, R: Source + Drop, T: Threads + Wait>(
     party: Party<H, R>,
 ) -> (Vec<(Client, LaneResult<R>)>, Stop)
     requires { IsRunning party }
-    ensures { TakesByOne (H.allows party.recorder.promise.halt.value) ((arc_value party.queue).room + 1)
+    ensures { TakesByOne (H.allows party.recorder.promise.halt.value) (party.room + 1)
         party.fresh.value.items result.0.items result.1 }
 {
     let Party {
         fresh: _,
         queue,
+        room: _,
+        size: _,
         recorder,
         uploads,
     } = party;
@@ -156,23 +167,23 @@ pub(crate) fn end_party<H: Halt, R: Source + Drop, T: Threads + Wait>(rt: &T, pa
     let Party {
         fresh: _,
         queue,
+        room: _,
+        size: _,
         recorder: _recorder,
         uploads,
     } = party;
     for handle in uploads {
-        let Uploaded {
-            upload: _upload,
-            mut putter,
-        } = handle.join(rt);
-        let _ended = putter.finish(rt, &queue, Sent::Last(Ending::GaveUp));
+        let Uploaded { upload, mut putter } = handle.join(rt);
+        let end = Parcel::of(upload.allocator(), Sent::Last(Ending::GaveUp));
+        let _ended = putter.finish(rt, &queue, end);
     }
 }
 
 // Joins the uploaders of these lanes, and gives each lane its upload.
 fn join_uploads<R: Source + Drop, T: Threads + Wait>(
     rt: &T,
-    queue: &LaneQueue<Sent>,
-    taker: &mut Taker<Sent>,
+    queue: &LaneQueue<Parcel>,
+    taker: &mut Taker<Parcel>,
     lanes: &mut [(Client, LaneResult<R>)],
     handles: Vec<PromisedHandle<Uploaded<R>, Uploads<R>>>,
 )
@@ -191,15 +202,15 @@ fn join_uploads<R: Source + Drop, T: Threads + Wait>(
 
 fn join_upload<R: Source + Drop, T: Threads + Wait>(
     rt: &T,
-    queue: &LaneQueue<Sent>,
-    taker: &mut Taker<Sent>,
+    queue: &LaneQueue<Parcel>,
+    taker: &mut Taker<Parcel>,
     handle: PromisedHandle<Uploaded<R>, Uploads<R>>,
 ) -> Upload<R>
     requires of { IsPassOf queue.now taker.old }
     requires same { handle.promise.queue.value ≡ queue.now }
     ensures of { IsPassOf queue.now taker.new }
     ensures got { (view taker.new).got ≡ (view taker.old).got }
-    ensures told { TellsUpload (queue.now.room + 1) handle.promise.upload.value result
+    ensures told { TellsParcels queue.now.room handle.promise result
         (of_lane (view handle.promise.putter.value).lane (view taker.old).got) }
 {
     let Uploaded { upload, putter } = handle.join(rt);

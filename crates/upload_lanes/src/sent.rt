@@ -2,6 +2,7 @@
 ghost use Rattle.std.specs.Prelude.{◌≡◌};
 ghost use Rattle.client_log.specs.Log.{IsPriced};
 
+use std::alloc::Global;
 use std::marker::Model;
 use upload_reader::{Ending, Message};
 
@@ -49,4 +50,25 @@ pub(crate) enum Sent {
     One(Priced),
     /// How the upload ended: the lane's last item.
     Last(Ending),
+}
+
+/// What goes through the queue at once: items of one lane, in the order of its upload. One by itself takes no memory.
+#[derive(Drop)]
+pub(crate) struct Parcel {
+    pub(crate) first: Sent,
+    pub(crate) more: Vec<Sent>,
+}
+
+impl Parcel {
+    ghost use Rattle.std.specs.Prelude.{[]};
+
+    pub(crate) fn of(alloc: Global, first: Sent) -> Parcel
+        ensures first { result.first ≡ first }
+        ensures alone { result.more.items ≡ [] }
+    {
+        Parcel {
+            first,
+            more: Vec::new(alloc),
+        }
+    }
 }

@@ -26,10 +26,10 @@ use upload_reader::{Client, Upload};
 const MAX_RECORDERS: usize = 4;
 
 /// Takes messages of 1 to `MAX_ROUND_LANES` lanes, each of a client of its own: an uploader for each lane reads it on a thread of its own, and up to four
-/// recorders record what the uploaders put, each in a queue that holds as much as the room says. Lane k is one of recorder k modulo their number.
+/// recorders record what the uploaders put, each from a queue. Lane k is one of recorder k modulo their number. A message is put without a wait for another.
 ///
-/// Of an upload no more messages are given than were recorded, the queue has room for, and one that waits for room; and one that couldn't be recorded for want of
-/// memory. A lane alone is taken on the thread that calls, without a queue, as `take_alone` does: of it none but such a one.
+/// Of an upload no more messages are given than were recorded, the room says, and one; and one that couldn't be recorded for want of memory. A lane alone is
+/// taken on the thread that calls, without a queue, as `take_alone` does: of it none but such a one.
 ///
 /// A recorder asks, before it takes an item, whether to stop, with the number of items that it has taken: the messages and the ends of its lanes. It stops
 /// where that is answered by true, where each of its lanes has ended, and where a message can't be recorded for want of memory. The others go on.

@@ -6,6 +6,8 @@ mod dealing_tests;
 #[cfg(test)]
 mod halt_tests;
 #[cfg(test)]
+mod silent_tests;
+#[cfg(test)]
 mod stress_tests;
 #[cfg(test)]
 mod tests;

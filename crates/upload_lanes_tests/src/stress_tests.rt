@@ -164,7 +164,7 @@ fn long_lanes_go<T: AllocGlobal + Threads + Wait + Abort + Sync>(
 // 16 lanes of 20,000 messages.
 #[test]
 fn many_messages_come_as_in_turn(rt: HostRuntime) -> Result<(), Fail> {
-    for room in [1, 64] {
+    for room in [1, 64, 1_024] {
         let gathered = long_lanes_go(&rt, 200, room, u64::MAX)?;
         are_whole(&rt, &gathered, 16, 20_000);
     }
@@ -180,6 +180,16 @@ fn many_messages_stop_as_in_turn(rt: HostRuntime) -> Result<(), Fail> {
         items_by_recorder(&gathered),
         [20_001, 20_001, 20_001, 20_001]
     );
+    Ok(())
+}
+
+// With the most room messages that were read go through the queue several at once: 40 stops on the way through them.
+#[test]
+fn messages_handed_over_at_once_stop_as_in_turn(rt: HostRuntime) -> Result<(), Fail> {
+    for items in 0..40 {
+        let gathered = long_lanes_go(&rt, 1, 1_024, items)?;
+        assert_eq!(rt; items_by_recorder(&gathered), [items, items, items, items]);
+    }
     Ok(())
 }
 

@@ -1,8 +1,8 @@
 -- What the next line that isn't blank does to a lane.
-use Rattle.std.proofs.Common.{◌≡◌, ℕ, ◌+◌, ◌≤◌, List, [], ◌∷◌, ◌++◌, length, drop, true, false, Option, Some, None, Result, Ok, Err, IsSome, IfSome, OnOk, IfErr, refl, sym, subst, ap, ◌∙◌, arith, append-nil, length-append}
+use Rattle.std.proofs.Common.{◌≡◌, ℕ, ◌+◌, ◌≤◌, List, [], ◌∷◌, ◌++◌, length, drop, Bool, true, false, not, is_some, Option, Some, None, Result, Ok, Err, IsSome, IfSome, OnOk, IfErr, refl, sym, subst, ap, ◌∙◌, arith, append-nil, length-append}
 use Rattle.std.proofs.lemmas.Grind.{flat_map-append}
 use Rattle.byte_streams.specs.Cutting.{cut, ending_of}
-use Rattle.byte_streams.specs.Reading.{Reading, ReadsWhile, input, failures_told}
+use Rattle.byte_streams.specs.Reading.{Reading, ReadsWhile, input, uncut_bytes, failures_told}
 use Rattle.byte_streams.specs.declared.fault.LineFault.{LineFault}
 use Rattle.byte_streams.specs.declared.fault.LineFault.TheVariants as line
 use Rattle.byte_streams.proofs.CutLaws.{cut_is_short}
@@ -10,7 +10,7 @@ use Rattle.byte_streams.proofs.ReadingLaws.{reads_none, reads_where}
 use Rattle.upload_reader.specs.Limits.{max_line_bytes}
 use Rattle.upload_reader.specs.Message.{is_blank, line_said}
 use Rattle.upload_reader.specs.Next.{given_by, ending_by, next_of, failed_reads, IfGot, IfOver, IsReal}
-use Rattle.upload_reader.specs.Stream.{Costed, Stream, StreamStart, IsSaid, UnlessHad, IsStreamOf, BeginsWith, messages_in, message_in, said_end, next_number, line_end, stop_end, kind_of}
+use Rattle.upload_reader.specs.Stream.{Costed, Stream, StreamStart, IsSaid, UnlessHad, IsStreamOf, BeginsWith, messages_in, message_in, message_said, said_end, next_number, line_end, stop_end, kind_of}
 use Rattle.upload_reader.specs.Upload.{UploadState, lane_bytes, IsUntouched, GivesFirst, EndsBy, NothingMore}
 use Rattle.upload_reader.specs.inside.Passed.{NextText}
 use Rattle.upload_reader.specs.inside.Taken.{lane_of, upload_of, LaneTaken, fault_next, AnswersSaid}
@@ -19,11 +19,13 @@ use Rattle.upload_reader.specs.declared.ending.Ending.TheVariants as ending
 use Rattle.upload_reader.specs.declared.lane_fault.LaneEnd.{LaneEnd}
 use Rattle.upload_reader.specs.declared.lane_fault.LaneEnd.TheVariants.{Fault}
 use Rattle.upload_reader.specs.declared.lane_fault.LaneFault.{LaneFault}
+use Rattle.upload_reader.specs.declared.line.Line.{Line}
+use Rattle.upload_reader.specs.declared.line.Line.TheVariants as content
 use Rattle.upload_reader.specs.declared.message.Message.{Message}
 use Rattle.upload_reader.specs.declared.next.Next.{Next}
 use Rattle.upload_reader.specs.declared.next.Next.TheVariants.{Got, Over, GaveUp}
 use Rattle.upload_reader.specs.declared.progress.Progress.{Progress}
-use Rattle.upload_reader.proofs.FrontLaws.{said_first}
+use Rattle.upload_reader.proofs.FrontLaws.{TakesFront, said_first, taken_unique}
 use Rattle.upload_reader.proofs.FrontSteps.{takes_first, passed_more, ends_by_line, ends_by_fault, passed_none, lines_long}
 use Rattle.upload_reader.proofs.Reach.{cut_one, no_line, cut_going, NotEnded, Reached, reach, again, unread}
 
@@ -233,3 +235,69 @@ over_of P GaveUp over = tt
 pub few_taken : {R : Type 0} (upload : UploadState R) (count : ℕ) → LaneTaken upload count → upload.ending ≡ None → count ≤ upload.lines.place
 few_taken upload count stands going =
     let (at, number, _) = stands.here (rw going refl) in omega (arith, at, number, lines_long stands.front, stands.behind.bytes, stands.numbered)
+
+-- ---- a line that was read
+
+-- what doesn't end the lane is a message
+one_said : (lane : StreamStart) (given : List Costed) (number cost : ℕ) (said : Result Line LaneFault) → said_end lane given number said ≡ None → length (message_said cost said) ≡ 1
+one_said lane given number cost (Ok (content.Says message)) goes = refl
+one_said lane given number cost (Ok content.Bye) goes = cc
+one_said lane given number cost (Err kind) goes = cc
+
+pub none_left : {A : Type 0} (o : Option A) → is_some o ≡ false → o ≡ None
+none_left None is = refl
+none_left (Some x) is = cc
+
+pub not_blank : (found blank : Bool) → found ≡ blank → not found ≡ true → blank ≡ false
+not_blank true blank same is = cc
+not_blank false blank same is = sym same
+
+-- Where a line was read that isn't blank, that tells of a further message or of an end.
+module _ {R : Type 0} (upload : UploadState R) (count : ℕ) (stands : LaneTaken upload count) (going : upload.ending ≡ None) (calm : upload.lines.fault ≡ None)
+    (line : List ℕ) (is : cut max_line_bytes (uncut_bytes upload.lines) None ≡ Some (Ok line)) (text : is_blank line ≡ false) where
+  abbrev bytes : List ℕ
+  bytes = lane_bytes upload (input upload.lines)
+
+  here_cut : cut max_line_bytes (drop stands.at (input upload.lines)) None ≡ Some (Ok line)
+  here_cut = let (place, _, _) = stands.here (rw going refl) in rw place is
+
+  -- the lane goes on behind the line
+  beyond : line_end upload.lane stands.front line ≡ None → TakesFront max_line_bytes (line_end upload.lane) (stop_end upload.lane) bytes None (stands.front ++ line ∷ [])
+  beyond goes = subst (λ all. TakesFront max_line_bytes (line_end upload.lane) (stop_end upload.lane) (drop upload.start all) None (stands.front ++ line ∷ [])) (append-nil (input upload.lines))
+      (takes_first max_line_bytes (line_end upload.lane) (stop_end upload.lane) upload.start (stands.at + length line + 1) (input upload.lines) (stands.front ++ line ∷ [])
+      (passed_more max_line_bytes (line_end upload.lane) (stop_end upload.lane) upload.start stands.at (input upload.lines) stands.front stands.behind line None here_cut goes) [] None)
+
+  -- and says a message there
+  one_more : line_end upload.lane stands.front line ≡ None → length (message_in line) ≡ 1
+  one_more goes = rw text (one_said upload.lane upload.given (next_number upload.lane stands.front) (length line) (line_said line)
+      (sym (ends_as upload.lane stands.front line upload.given (next_number upload.lane stands.front) text stands.says refl) ∙ goes))
+
+  not_said : IsSaid upload.lane bytes None (record { messages = upload.given; end = None }) → ⊥
+  not_said said = by (line_end upload.lane stands.front line) refl
+    where
+      by : (end : Option LaneEnd) → line_end upload.lane stands.front line ≡ end → ⊥
+      by (Some e) ends =
+          let (_, never) = taken_unique max_line_bytes (line_end upload.lane) (stop_end upload.lane) bytes None stands.front said.front (Some e) None
+          (ends_by_line max_line_bytes (line_end upload.lane) (stop_end upload.lane) upload.start stands.at (input upload.lines) stands.front stands.behind line None e here_cut ends
+          (input upload.lines) None (record { more = []; bytes_are = sym (append-nil (input upload.lines)); ended = λ some. absurd (cc) })) said.taken in cc
+      by None goes =
+          let (front, end, taken, extra, longer) = beyond goes in
+          let (same, _) = taken_unique max_line_bytes (line_end upload.lane) (stop_end upload.lane) bytes None front said.front end None taken said.taken in
+          let all : upload.given ≡ messages_in ((stands.front ++ line ∷ []) ++ extra) = said.messages ∙ ap messages_in (sym same ∙ longer) in
+          let some : length (upload.given ++ message_in line) ≡ length (messages_in (stands.front ++ line ∷ [])) =
+          ap length (messages_more stands.front line upload.given (message_in line) stands.says refl) in
+          omega (
+            arith,
+            ap length all,
+            ap length (flat_map-append message_in (stands.front ++ line ∷ []) extra),
+            length-append (messages_in (stands.front ++ line ∷ [])) (messages_in extra),
+            some,
+            length-append upload.given (message_in line),
+            one_more goes,
+          )
+
+  pub more_told : NothingMore upload upload.lines.answers → ⊥
+  more_told nothing =
+      let (_, _, same) = stands.here (rw going refl) in
+      let none : upload.lane.fault ≡ None = sym same ∙ calm in
+      not_said (subst (λ had. UnlessHad had upload.lane (record { messages = upload.given; end = None }) (IsSaid upload.lane bytes None (record { messages = upload.given; end = None }))) none nothing)

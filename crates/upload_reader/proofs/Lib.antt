@@ -11,3 +11,4 @@ pub mod FrontSteps
 pub mod Reach
 pub mod GreetingLaws
 pub mod LaneLaws
+pub mod Walked

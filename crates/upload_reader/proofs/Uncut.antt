@@ -1,5 +1,5 @@
 -- Why no line is cut from some bytes.
-use Rattle.std.proofs.Common.{◌≡◌, ℕ, ◌<◌, ◌≤◌, List, length, if◌then◌else◌, nat_lt, option_map, Option, Some, None, Result, Err, inl, inr, refl, sym, ◌∙◌, arith}
+use Rattle.std.proofs.Common.{◌≡◌, ℕ, ◌<◌, ◌≤◌, List, length, if◌then◌else◌, nat_lt, option_map, Option, Some, None, Result, Ok, Err, inl, inr, refl, sym, ◌∙◌, arith}
 use Rattle.std.proofs.lemmas.Bool.{cases_lt}
 use Rattle.std.proofs.lemmas.Bool.Decides.{nat_tests}
 use Rattle.byte_streams.specs.Cutting.{cut, cut_by, line_length}
@@ -54,3 +54,15 @@ module _ (limit : ℕ) (bytes : List ℕ) where
   pub waits : cut limit bytes None ≡ None → (line_length limit bytes ≡ None) × (length bytes ≤ limit)
   unfolding cut
   waits is = none_by (line_length limit bytes) is
+
+  -- a line that is cut before the input has ended has its end there
+  end_by : (at : Option ℕ) (line : List ℕ) → cut_by at limit bytes None ≡ Some (Ok line) → at ≡ None → ⊥
+  end_by (Some n) line is none = cc
+  end_by None line is none = elim (cases_lt limit (length bytes)) [
+    | inl long ↦ cc (sym (past limit (length bytes) (Some (cut_fault LineTooLong)) None long) ∙ is)
+    | inr short ↦ cc (sym (within limit (length bytes) (Some (cut_fault LineTooLong)) None short) ∙ is)
+  ]
+
+  pub has_end : (line : List ℕ) → cut limit bytes None ≡ Some (Ok line) → line_length limit bytes ≡ None → ⊥
+  unfolding cut
+  has_end line is none = end_by (line_length limit bytes) line is none

@@ -2,3 +2,4 @@ pub mod Counting
 pub mod Passed
 pub mod Taken
 pub mod Unread
+pub mod Walked

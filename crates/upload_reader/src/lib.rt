@@ -4,9 +4,11 @@
 
 // What a line says.
 mod client;
+mod documents;
 mod hello_fault;
 mod hello_reading;
 mod lane_fault;
+mod last_members;
 mod limits;
 mod line;
 mod line_reading;
@@ -26,6 +28,7 @@ mod ending;
 mod greeting;
 mod next;
 mod progress;
+mod recent;
 mod refused;
 mod upload;
 

@@ -1,48 +1,136 @@
-//! Members of messages, each with the fault where it isn't so. Nothing is copied.
-ghost use Rattle.std.specs.Prelude.{◌≡◌, option_map};
+//! The members of a message, each with the fault where it isn't so. Nothing is copied.
+ghost use Rattle.std.specs.Prelude.{◌≡◌, option_map, option_and_then, codes, Some, None};
+ghost use Rattle.std.specs.Option.{option_map_or, ok_or};
 ghost use Rattle.serde_json.specs.Find.{as_str};
-ghost use Rattle.serde_json.specs.View.{view};
-ghost use Rattle.upload_reader.specs.Member.{json_said, member_at, member_as, number_in, optional_number_at, text_in, optional_text_at, page_said, path_said, path_if_any};
+ghost use Rattle.json_document.specs.Standing.{data_of};
+ghost use Rattle.upload_reader.specs.Member.{member_at, member_as, number_in, optional_number_at, optional_text_at, page_said, path_said};
+ghost use Rattle.upload_reader.specs.Message.{visit_in, time_in};
 ghost use Rattle.upload_reader.specs.inside.Unread.{IsReadAs, ReadsAs};
+ghost use Rattle.upload_reader.specs.declared.lane_fault.LaneFault.TheVariants.{BadMessage};
 
 use crate::lane_fault::LaneFault;
+use crate::last_members::LastMembers;
 use crate::limits::MAX_NUMBER;
 use crate::unread::Unread;
+use json_document::JsonPlace;
 use page_tree::{Page, PageFault};
-use serde_json::Value;
 use std::alloc::Global;
+use std::marker::Model;
+use std::snapshot::Snapshot;
 use xpath_child::{Path, PathFaultKind};
 
 // E6: each fault of a member.
 const BAD_MESSAGE: Unread = Unread::Fault(LaneFault::BadMessage);
 
-/// The value that a line is; else E5.
-pub(crate) fn line_value(alloc: Global, line: &[u8]) -> Result<Value, Unread>
-    ensures { ReadsAs view result (json_said line.now) }
-{
-    match Value::from_slice(alloc, line) {
-        Ok(value) => Ok(value),
-        Err(error) => {
-            if error.is_memory() {
-                Err(Unread::NoMemory)
-            } else {
-                Err(Unread::Fault(LaneFault::NotJson))
-            }
-        }
-    }
+/// The members of a message, which one walk over them has found. Contracts see the tokens of the message.
+#[derive(Drop)]
+pub(crate) struct MessageMembers<'t, 'a> {
+    last: LastMembers<'t, 'a>,
+    message: Snapshot<JsonPlace<'t, 'a>>,
 }
 
-/// The member's value, whatever it is.
-pub(crate) fn member_at<'a>(message: &'a Value, name: &str) -> Result<&'a Value, Unread>
-    ensures { ReadsAs (λ value. view value.now) result (member_at name.now (view message.now)) }
-{
-    message.get(name).ok_or(BAD_MESSAGE)
+impl<'t, 'a> Model for MessageMembers<'t, 'a> {
+    ghost use Rattle.std.specs.Prelude.{List};
+    ghost use Rattle.json.specs.Token.{Token, tokens_code};
+
+    ghost Value = { List Token };
+
+    ghost coded = { tokens_code };
+
+    ghost use Rattle.json_document.specs.Standing.{data_of};
+    ghost use Rattle.upload_reader.specs.inside.Walked.{AreLastMembers};
+
+    ghost view = { λ m. m.message.value };
+
+    ghost invariant = { λ m. AreLastMembers (data_of m.message.value) m.last };
+}
+
+impl<'t, 'a> MessageMembers<'t, 'a> {
+    pub(crate) fn of(message: &JsonPlace<'t, 'a>) -> MessageMembers<'t, 'a>
+        ensures { result ≡ message.now }
+    {
+        MessageMembers {
+            last: LastMembers::of(message),
+            message: Snapshot::of(message),
+        }
+    }
+
+    pub(crate) fn kind(&self) -> Result<&'a str, Unread>
+        ensures { ReadsAs (λ text. text.now) result (member_as as_str (codes "t") (data_of self.now)) }
+    {
+        text(&self.last.kind)
+    }
+
+    pub(crate) fn visit(&self) -> Result<u64, Unread>
+        ensures { IsReadAs result (visit_in (data_of self.now)) }
+    {
+        number(&self.last.visit, 1)
+    }
+
+    pub(crate) fn time(&self) -> Result<u64, Unread>
+        ensures { IsReadAs result (time_in (data_of self.now)) }
+    {
+        number(&self.last.at, 0)
+    }
+
+    /// 0 where the member is absent.
+    pub(crate) fn parent(&self) -> Result<u64, Unread>
+        ensures { IsReadAs result (optional_number_at (codes "parent") (data_of self.now)) }
+    {
+        optional_number(&self.last.parent)
+    }
+
+    /// 0 where the member is absent.
+    pub(crate) fn from(&self) -> Result<u64, Unread>
+        ensures { IsReadAs result (optional_number_at (codes "from") (data_of self.now)) }
+    {
+        optional_number(&self.last.from)
+    }
+
+    pub(crate) fn address(&self) -> Result<&'a str, Unread>
+        ensures { ReadsAs (λ text. text.now) result (member_as as_str (codes "path") (data_of self.now)) }
+    {
+        text(&self.last.address)
+    }
+
+    /// The member's value, whatever it is.
+    pub(crate) fn page(&self) -> Result<&JsonPlace<'t, 'a>, Unread>
+        ensures { ReadsAs (λ place. data_of place.now) result (member_at (codes "page") (data_of self.now)) }
+    {
+        self.last.page.as_ref().ok_or(BAD_MESSAGE)
+    }
+
+    pub(crate) fn target(&self) -> Result<&'a str, Unread>
+        ensures { ReadsAs (λ text. text.now) result (member_as as_str (codes "target") (data_of self.now)) }
+    {
+        text(&self.last.target)
+    }
+
+    pub(crate) fn value(&self) -> Result<&'a str, Unread>
+        ensures { ReadsAs (λ text. text.now) result (member_as as_str (codes "value") (data_of self.now)) }
+    {
+        text(&self.last.value)
+    }
+
+    /// None where the member is absent.
+    pub(crate) fn button(&self) -> Result<Option<&'a str>, Unread>
+        ensures { ReadsAs (option_map (λ text. text.now)) result (optional_text_at (codes "by") (data_of self.now)) }
+    {
+        optional_text(&self.last.button)
+    }
+
+    /// 0 where the member is absent.
+    pub(crate) fn req(&self) -> Result<u64, Unread>
+        ensures { IsReadAs result (optional_number_at (codes "req") (data_of self.now)) }
+    {
+        optional_number(&self.last.req)
+    }
 }
 
 /// A whole number from `least` to the greatest.
 #[tactic(auto, unfolding(crate::specs::Member::number_in))]
-fn number(value: &Value, least: u64) -> Option<u64>
-    ensures { result ≡ number_in least (view value.now) }
+fn number_in(value: &JsonPlace<'_, '_>, least: u64) -> Option<u64>
+    ensures { result ≡ number_in least (data_of value.now) }
 {
     let n = value.as_u64()?;
     if least <= n && n <= MAX_NUMBER {
@@ -52,46 +140,40 @@ fn number(value: &Value, least: u64) -> Option<u64>
     }
 }
 
-pub(crate) fn number_at(message: &Value, name: &str, least: u64) -> Result<u64, Unread>
-    ensures { IsReadAs result (member_as (number_in least) name.now (view message.now)) }
+fn number(member: &Option<JsonPlace<'_, '_>>, least: u64) -> Result<u64, Unread>
+    ensures { IsReadAs result (ok_or (option_and_then (number_in least) (option_map data_of member.now)) BadMessage) }
 {
-    let Some(value) = message.get(name) else {
+    let Some(value) = member else {
         return Err(BAD_MESSAGE);
     };
-    number(value, least).ok_or(BAD_MESSAGE)
+    number_in(value, least).ok_or(BAD_MESSAGE)
 }
 
-/// 0 where the member is absent.
-pub(crate) fn optional_number_at(message: &Value, name: &str) -> Result<u64, Unread>
-    ensures { IsReadAs result (optional_number_at name.now (view message.now)) }
+fn optional_number(member: &Option<JsonPlace<'_, '_>>) -> Result<u64, Unread>
+    ensures { IsReadAs result
+        (ok_or (option_map_or (number_in 0) (option_map data_of member.now) (Some 0)) BadMessage) }
 {
-    let Some(value) = message.get(name) else {
+    let Some(value) = member else {
         return Ok(0);
     };
-    number(value, 0).ok_or(BAD_MESSAGE)
+    number_in(value, 0).ok_or(BAD_MESSAGE)
 }
 
-/// The member's text, if it has one.
-pub(crate) fn text_in<'a>(message: &'a Value, name: &str) -> Option<&'a str>
-    ensures { option_map (λ text. text.now) result ≡ text_in name.now (view message.now) }
+fn text<'a>(member: &Option<JsonPlace<'_, 'a>>) -> Result<&'a str, Unread>
+    ensures { ReadsAs (λ text. text.now) result
+        (ok_or (option_and_then as_str (option_map data_of member.now)) BadMessage) }
 {
-    message.get(name)?.as_str()
+    let Some(value) = member else {
+        return Err(BAD_MESSAGE);
+    };
+    value.as_str().ok_or(BAD_MESSAGE)
 }
 
-pub(crate) fn member_text<'a>(message: &'a Value, name: &str) -> Result<&'a str, Unread>
-    ensures { ReadsAs (λ text. text.now) result (member_as as_str name.now (view message.now)) }
+fn optional_text<'a>(member: &Option<JsonPlace<'_, 'a>>) -> Result<Option<&'a str>, Unread>
+    ensures { ReadsAs (option_map (λ text. text.now)) result
+        (ok_or (option_map_or (λ d. option_map Some (as_str d)) (option_map data_of member.now) (Some None)) BadMessage) }
 {
-    text_in(message, name).ok_or(BAD_MESSAGE)
-}
-
-/// None where the member is absent.
-pub(crate) fn optional_text_at<'a>(
-    message: &'a Value,
-    name: &str,
-) -> Result<Option<&'a str>, Unread>
-    ensures { ReadsAs (option_map (λ text. text.now)) result (optional_text_at name.now (view message.now)) }
-{
-    let Some(value) = message.get(name) else {
+    let Some(value) = member else {
         return Ok(None);
     };
     match value.as_str() {
@@ -102,10 +184,10 @@ pub(crate) fn optional_text_at<'a>(
 
 /// The page that a value stands for; else E7.
 #[tactic(auto, unfolding(crate::specs::Member::page_said))]
-pub(crate) fn read_page(alloc: Global, value: &Value) -> Result<Page, Unread>
-    ensures { IsReadAs result (page_said (view value.now)) }
+pub(crate) fn read_page(alloc: Global, value: &JsonPlace<'_, '_>) -> Result<Page, Unread>
+    ensures { IsReadAs result (page_said (data_of value.now)) }
 {
-    match Page::from_value(alloc, value) {
+    match Page::from_place(alloc, value) {
         Ok(page) => Ok(page),
         Err(PageFault::NoMemory) => Err(Unread::NoMemory),
         Err(fault) => Err(Unread::Fault(LaneFault::BadPage(fault))),
@@ -127,14 +209,4 @@ pub(crate) fn read_path(alloc: Global, text: &str) -> Result<Path, Unread>
             }
         }
     }
-}
-
-pub(crate) fn read_path_if_any(alloc: Global, text: Option<&str>) -> Result<Option<Path>, Unread>
-    ensures { IsReadAs result (path_if_any (option_map (λ given. given.now) text.entry)) }
-{
-    let Some(text) = text else {
-        return Ok(None);
-    };
-    let path = read_path(alloc, text)?;
-    Ok(Some(path))
 }

@@ -5,12 +5,14 @@ ghost use Rattle.upload_reader.specs.Message.{is_blank, line_said, IsPositive};
 ghost use Rattle.upload_reader.specs.Next.{given_by, IfGot};
 ghost use Rattle.upload_reader.specs.Stream.{messages_of};
 
+use crate::documents::Documents;
 use crate::lane_fault::{LaneEnd, LaneFault};
 use crate::limits::MAX_MESSAGES;
 use crate::line::Line;
 use crate::line_reading::read_line;
 use crate::message::Message;
 use crate::next::Next;
+use crate::recent::Recent;
 use crate::session::Session;
 use crate::session_fault::SessionFault;
 use crate::trace::Trace;
@@ -93,6 +95,8 @@ impl Progress {
         number: u64,
         text: Result<(), LineFault>,
         line: &[u8],
+        documents: &mut Documents,
+        recent: &mut Recent,
     ) -> Next
         requires text { OnOk text (is_blank line.now ≡ false) }
         requires short { OnOk text (length line.now ≤ max_line_bytes) }
@@ -105,13 +109,20 @@ impl Progress {
         ensures lawful { IfGot result (λ message cost. MayFollow (lane_of self.old) self.old.given.items message) }
     {
         match text {
-            Ok(()) => self.take(alloc, number, line),
+            Ok(()) => self.take(alloc, number, line, documents, recent),
             Err(fault) => Next::without_line(number, fault),
         }
     }
 
     // Takes the line of that number, which isn't blank.
-    fn take(&mut self, alloc: Global, number: u64, line: &[u8]) -> Next
+    fn take(
+        &mut self,
+        alloc: Global,
+        number: u64,
+        line: &[u8],
+        documents: &mut Documents,
+        recent: &mut Recent,
+    ) -> Next
         requires text { is_blank line.now ≡ false }
         requires short { length line.now ≤ max_line_bytes }
         ensures lane { lane_of self.new ≡ lane_of self.old }
@@ -122,7 +133,7 @@ impl Progress {
         ensures lawful { IfGot result (λ message cost. MayFollow (lane_of self.old) self.old.given.items message) }
     {
         let cost = line.len() as u32;
-        match read_line(alloc, line) {
+        match read_line(alloc, line, documents, recent) {
             Ok(Line::Says(message)) => self.take_message(number, message, cost),
             Ok(Line::Bye) => Next::Over(LaneEnd::Bye),
             Err(Unread::Fault(kind)) => Next::at(number, kind),

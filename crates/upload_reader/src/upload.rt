@@ -1,20 +1,23 @@
 //! The upload of one client, message by message.
-ghost use Rattle.std.specs.Prelude.{ℕ, ◌≡◌, ◌≢◌, ◌+◌, ◌≤◌, [], ◌++◌, length, Some, None, IsSome, IfSome, IfOk, IfErr};
+ghost use Rattle.std.specs.Prelude.{ℕ, ◌≡◌, ◌≢◌, ◌+◌, ◌≤◌, List, [], ◌++◌, length, true, false, Ok, Some, None, IsSome, IfSome, IfOk, IfErr, IsTrue};
 ghost use Rattle.byte_streams.specs.Answers.{failures_of};
-ghost use Rattle.byte_streams.specs.Cutting.{StopsAtEnd};
-ghost use Rattle.byte_streams.specs.Reading.{WasRead, ReadsWhile};
-ghost use Rattle.upload_reader.specs.Limits.{max_messages};
+ghost use Rattle.byte_streams.specs.Cutting.{cut, StopsAtEnd};
+ghost use Rattle.byte_streams.specs.Reading.{WasRead, ReadsWhile, uncut_bytes};
+ghost use Rattle.upload_reader.specs.Limits.{max_line_bytes, max_messages};
 ghost use Rattle.upload_reader.specs.Next.{next_of, failed_reads, IfGot, IfOver, IsReal};
-ghost use Rattle.upload_reader.specs.Message.{IsPositive};
+ghost use Rattle.upload_reader.specs.Message.{is_blank, IsPositive};
 ghost use Rattle.upload_reader.specs.Stream.{messages_of, MayFollow};
 ghost use Rattle.upload_reader.specs.Upload.{Begins, Refuses, IsUntouched, upload_behind, with_answer, GivesFirst, EndsBy, NothingMore};
 
 use crate::client::Client;
+use crate::documents::Documents;
 use crate::ending::Ending;
 use crate::greeting::greet;
-use crate::line_reading::next_text;
+use crate::limits::MAX_LINE_BYTES;
+use crate::line_reading::{is_blank, next_text};
 use crate::next::Next;
 use crate::progress::Progress;
+use crate::recent::Recent;
 use crate::refused::Refused;
 use crate::session::Session;
 use byte_streams::{Lines, Source};
@@ -27,6 +30,8 @@ use std::snapshot::Snapshot;
 pub struct Upload<R: Source> {
     client: Client,
     lines: Lines<R>,
+    documents: Documents,
+    recent: Recent,
     progress: Progress,
     ending: Option<Ending>,
     start: Snapshot<Lines<R>>,
@@ -77,6 +82,8 @@ impl<R: Source> Upload<R> {
         let Self {
             client,
             lines,
+            documents,
+            recent,
             progress,
             ending: _,
             start,
@@ -85,6 +92,8 @@ impl<R: Source> Upload<R> {
             progress: progress.resume(session),
             client,
             lines,
+            documents,
+            recent,
             ending: None,
             start,
         }
@@ -98,8 +107,10 @@ impl<R: Source> Upload<R> {
         Upload {
             progress: Progress::begin(session, number, lines.fault()),
             start: Snapshot::of(&lines),
+            recent: Recent::new(lines.allocator()),
             client,
             lines,
+            documents: Documents::new(),
             ending: None,
         }
     }
@@ -133,6 +144,21 @@ impl<R: Source> Upload<R> {
         self.lines.into_reader()
     }
 
+    /// Whether what was read tells what `next` gives, which then reads nothing. It doesn't say so of a blank line, as the one behind that may lack.
+    pub fn has_next(&self) -> bool
+        ensures told { IsTrue result → ¬ NothingMore self.now self.now.lines.answers }
+        ensures none { result ≡ false → self.now.ending ≡ None → self.now.lines.fault ≡ None → (line : List ℕ)
+            → cut max_line_bytes (uncut_bytes self.now.lines) None ≡ Some (Ok line) → is_blank line ≡ true }
+    {
+        if self.ending.is_some() {
+            return false;
+        }
+        match self.lines.held_line(MAX_LINE_BYTES) {
+            Some(line) => !is_blank(line),
+            None => false,
+        }
+    }
+
     /// The next message with its cost, or how the lane ended. After the end the same answer comes again, and nothing more is read.
     pub fn next(&mut self) -> Next
         // A read was made only where those before it told of no further message and no end, and none on lines that had a fault. Nothing else changes but
@@ -160,7 +186,14 @@ impl<R: Source> Upload<R> {
         }
         let alloc = self.lines.allocator();
         let (number, text) = next_text(&mut self.lines, self.progress.lines());
-        let answer = self.progress.answer(alloc, number, text, self.lines.line());
+        let answer = self.progress.answer(
+            alloc,
+            number,
+            text,
+            self.lines.line(),
+            &mut self.documents,
+            &mut self.recent,
+        );
         self.ending = answer.ending();
         answer
     }

@@ -1,5 +1,5 @@
 -- What is found of a visit's parent.
-use Rattle.std.proofs.Common.{◌≡◌, ◌≢◌, ℕ, suc, ◌+◌, ◌==◌, ◌<◌, ◌≤◌, List, [], ◌∷◌, ◌++◌, length, take, zip, Bool, true, false, if◌then◌else◌, Option, Some, None, option_map, option_and_then, slice_get, IfSome, map, filter, inl, inr, refl, sym, ap, subst, ◌∙◌, arith}
+use Rattle.std.proofs.Common.{◌≡◌, ◌≢◌, ℕ, zero, suc, ◌+◌, ◌==◌, ◌<◌, ◌≤◌, List, [], ◌∷◌, ◌++◌, length, take, zip, Bool, true, false, not, ◌&&◌, nat_lt, if◌then◌else◌, Option, Some, None, option_map, option_and_then, slice_get, slice_set, IfSome, map, filter, inl, inr, refl, sym, ap, subst, ◌∙◌, arith}
 use Rattle.std.proofs.lemmas.Bool.Decides.{eqb_tells}
 use Rattle.std.proofs.lemmas.Option.{slice_get_within}
 use Rattle.std.proofs.lemmas.List.{length-append, length-map, append-nil}
@@ -7,12 +7,14 @@ use Rattle.std.proofs.lemmas.List.Elements.{filter-append}
 use Rattle.std.proofs.lemmas.List.Sums.{fold-append}
 use Rattle.std.proofs.Math.Seq.{take-length}
 use Rattle.std.specs.List.{last_or}
-use Rattle.std.specs.BTreeMap.{BTreeMap}
+use Rattle.visit_replay.proofs.Looking.{fresh_right}
 use Rattle.visit_replay.proofs.Places.{some_same, take_suc, zip_at, zip_size, front_at, last_at, last_push, same_places, map_at, some_there}
 use Rattle.client_log.specs.declared.visit.Visit.{Visit}
-use Rattle.visit_replay.specs.Following.{Replayed, last_numbered, outcome_behind, with_next, behind_parents}
-use Rattle.visit_replay.specs.inside.Moves.{Knows}
-use Rattle.visit_replay.specs.inside.Families.{pair_at, AreKnown, Stands}
+use Rattle.visit_replay.specs.Moved.{is_moved}
+use Rattle.visit_replay.specs.Following.{Replayed, last_numbered, parent_among, is_elsewhere, outcome_behind, with_next, behind_parents}
+use Rattle.visit_replay.specs.inside.Moves.{IsFresh, IsRight}
+use Rattle.visit_replay.specs.inside.Families.{pair_at, AreFresh, AreKnown, Stands, parent_place}
+use Rattle.visit_replay.specs.declared.moves.Asked.{Asked}
 use Rattle.visit_replay.specs.declared.outcome.Outcome.{Outcome}
 
 -- ---- from visit to visit
@@ -21,19 +23,18 @@ use Rattle.visit_replay.specs.declared.outcome.Outcome.{Outcome}
 abbrev pub behind : List Visit → List Outcome → ℕ → List Replayed
 behind visits own k = behind_parents (take k (zip visits own))
 
-pub record IsOnItsWay (visits : List Visit) (own : List Outcome) (k : ℕ) (outcomes : List Outcome) (places : ℕ → Option ℕ) (slots : List (Option (BTreeMap ℕ Bool))) (room : ℕ) : Type 0 where
+pub record IsOnItsWay (visits : List Visit) (own : List Outcome) (k : ℕ) (outcomes : List Outcome) (places : ℕ → Option ℕ) (asked : List Asked) : Type 0 where
   pub count : length outcomes ≡ length visits
   pub many : length own ≡ length visits
-  pub room_is : length visits ≤ room
-  pub slots_many : length slots ≡ k
+  pub asked_many : length asked ≡ length visits
   pub few : k ≤ length visits
   pub left : (j : ℕ) → k ≤ j → slice_get outcomes j ≡ slice_get own j
   pub stands : Stands visits outcomes places (behind visits own k)
   pub size : length (behind visits own k) ≡ k
-  pub known : AreKnown visits outcomes slots
+  pub known : AreKnown visits outcomes k asked
 
-module _ (visits : List Visit) (own : List Outcome) (k : ℕ) (outcomes : List Outcome) (places : ℕ → Option ℕ) (slots : List (Option (BTreeMap ℕ Bool))) (room : ℕ)
-    (way : IsOnItsWay visits own k outcomes places slots room) (visit : Visit) (mine : Outcome) (at : slice_get visits k ≡ Some visit) (given : slice_get outcomes k ≡ Some mine) where
+module _ (visits : List Visit) (own : List Outcome) (k : ℕ) (outcomes : List Outcome) (places : ℕ → Option ℕ) (asked : List Asked)
+    (way : IsOnItsWay visits own k outcomes places asked) (visit : Visit) (mine : Outcome) (at : slice_get visits k ≡ Some visit) (given : slice_get outcomes k ≡ Some mine) where
   abbrev before : List Replayed
   before = behind visits own k
 
@@ -110,32 +111,124 @@ module _ (visits : List Visit) (own : List Outcome) (k : ℕ) (outcomes : List O
 
   -- ---- what is known
 
-  next_known : (outcomes' : List Outcome) (slots' : List (Option (BTreeMap ℕ Bool))) → length slots' ≡ k → AreKnown visits outcomes' slots' → AreKnown visits outcomes' (slots' ++ None ∷ [])
-  next_known outcomes' slots' size known j v o slot v_at o_at slot_at =
-      let within = slice_get_within (slots' ++ None ∷ []) j slot slot_at in
-      let many = length-append slots' (None ∷ []) in
-      elim (eqb_tells j k) [
-        | inl same ↦ subst (λ slot. IfSome slot (Knows v o v.events)) (some_same None slot (sym (last_at slots' None) ∙ ap (slice_get (slots' ++ None ∷ [])) (size ∙ sym same.1) ∙ slot_at)) tt
-        | inr other ↦
-            let below : j < length slots' = omega (arith, within, many, size, other.1) in
-            known j v o slot v_at o_at (sym (front_at slots' None j below) ∙ slot_at)
-      ]
+  next_known : (outcomes' : List Outcome) (asked' : List Asked) → AreKnown visits outcomes' k asked' → AreKnown visits outcomes' (k + 1) asked'
+  next_known outcomes' asked' known = record {
+    right = λ j v o one below v_at o_at one_at. elim (eqb_tells j k) [
+      | inl same ↦ fresh_right v o one (known.fresh j one (omega (arith, same.1)) one_at)
+      | inr other ↦ known.right j v o one (omega (arith, below, other.1)) v_at o_at one_at
+    ];
+    fresh = λ j one past one_at. known.fresh j one (omega (arith, past)) one_at;
+  }
 
-  pub goes_on : (outcomes' : List Outcome) (places' : ℕ → Option ℕ) (slots' all : List (Option (BTreeMap ℕ Bool))) (room' : ℕ) → length outcomes' ≡ length outcomes
+  pub goes_on : (outcomes' : List Outcome) (places' : ℕ → Option ℕ) (asked' : List Asked) → length outcomes' ≡ length outcomes
       → ((j : ℕ) → j ≢ k → slice_get outcomes' j ≡ slice_get outcomes j) → slice_get outcomes' k ≡ Some (outcome_behind (behind visits own k) visit mine)
-      → ((number : ℕ) → places' number ≡ (if visit.number == number then Some k else places number)) → length slots' ≡ k → AreKnown visits outcomes' slots' → all ≡ slots' ++ None ∷ [] → room' ≡ room
-      → IsOnItsWay visits own (k + 1) outcomes' places' all room'
-  goes_on outcomes' places' slots' all room' size others new put many known all_are room_same = record {
+      → ((number : ℕ) → places' number ≡ (if visit.number == number then Some k else places number)) → length asked' ≡ length asked → AreKnown visits outcomes' k asked'
+      → IsOnItsWay visits own (k + 1) outcomes' places' asked'
+  goes_on outcomes' places' asked' size others new put many known = record {
     count = size ∙ way.count;
     many = way.many;
-    room_is = omega (arith, way.room_is, room_same);
-    slots_many = ap length all_are ∙ length-append slots' (None ∷ []) ∙ omega (arith, many);
+    asked_many = many ∙ way.asked_many;
     few = let within = slice_get_within visits k visit at in omega (arith, within);
     left = λ j past. others j (λ same. omega (arith, past, same)) ∙ way.left j (omega (arith, past));
     stands = subst (Stands visits outcomes' places') (sym one_more) (record { pairs = next_pairs outcomes' others new; places_are = next_places places' put; within = next_within places' put });
     size = ap length one_more ∙ more_size;
-    known = subst (AreKnown visits outcomes') (sym all_are) (next_known outcomes' slots' many known);
+    known = next_known outcomes' asked' known;
   }
+
+pub same_lists : (visits : List Visit) (own : List Outcome) (k : ℕ) (places : ℕ → Option ℕ) (outcomes outcomes' : List Outcome) (asked asked' : List Asked) → outcomes ≡ outcomes' → asked ≡ asked'
+    → IsOnItsWay visits own k outcomes' places asked' → IsOnItsWay visits own k outcomes places asked
+same_lists visits own k places outcomes outcomes' asked asked' same same_asked way =
+    subst (λ them. IsOnItsWay visits own k them places asked) (sym same) (subst (IsOnItsWay visits own k outcomes' places) (sym same_asked) way)
+
+-- ---- whether the parent leads elsewhere
+
+module _ (visits : List Visit) (outcomes : List Outcome) (places : ℕ → Option ℕ) (before : List Replayed) (stands : Stands visits outcomes places before) (visit : Visit) where
+  pub elsewhere_some : (place : ℕ) (v : Visit) (o : Outcome) (answer : Bool) → parent_place places visit ≡ Some place → slice_get visits place ≡ Some v → slice_get outcomes place ≡ Some o
+      → answer ≡ is_moved v o visit.from → answer ≡ is_elsewhere visit (parent_among before visit)
+  elsewhere_some place v o answer is v_at o_at told = go (nat_lt visit.parent visit.number) refl (not (visit.from == 0)) is
+    where
+      found : places visit.parent ≡ Some place → last_numbered visit.parent before ≡ Some (v, o)
+      found at =
+          let below : place < length before = subst (λ p. IfSome p (λ j. j < length before)) at (stands.within visit.parent) in
+          sym (stands.places_are visit.parent) ∙ ap (option_and_then (slice_get before)) at ∙ stands.pairs place below
+          ∙ ap (option_and_then (λ w. option_map (λ p. (w, p)) (slice_get outcomes place))) v_at ∙ ap (option_map (λ p. (v, p))) o_at
+
+      go : (less : Bool) → nat_lt visit.parent visit.number ≡ less → (some : Bool) → (if less && some then places visit.parent else None) ≡ Some place → answer ≡ is_elsewhere visit (parent_among before visit)
+      go true less true at = told ∙ sym (ap (is_elsewhere visit) (ap (λ b. if b then last_numbered visit.parent before else None) less ∙ found at))
+      go true less false at = cc
+      go false less some at = cc
+
+  pub elsewhere_none : parent_place places visit ≡ None → false ≡ is_elsewhere visit (parent_among before visit)
+  elsewhere_none is = go (nat_lt visit.parent visit.number) refl (visit.from == 0) refl is
+    where
+      none_stays : (visit.from == 0) ≡ true → (parent : Option Replayed) → false ≡ is_elsewhere visit parent
+      none_stays no_link None = refl
+      none_stays no_link (Some them) = rw no_link refl
+
+      go : (less : Bool) → nat_lt visit.parent visit.number ≡ less → (no_link : Bool) → (visit.from == 0) ≡ no_link → (if less && not no_link then places visit.parent else None) ≡ None
+          → false ≡ is_elsewhere visit (parent_among before visit)
+      go true less true is_none at = none_stays is_none (parent_among before visit)
+      go true less false is_none at =
+          sym (ap (is_elsewhere visit) (ap (λ b. if b then last_numbered visit.parent before else None) less ∙ sym (stands.places_are visit.parent) ∙ ap (option_and_then (slice_get before)) at))
+      go false less no_link is_none at = sym (ap (is_elsewhere visit) (ap (λ b. if b then last_numbered visit.parent before else None) less))
+
+-- the parent stands before it
+pub parent_within : (places : ℕ → Option ℕ) (visit : Visit) (place k : ℕ) → ((number : ℕ) → IfSome (places number) (λ j. j < k)) → parent_place places visit ≡ Some place → place < k
+parent_within places visit place k within is = go (nat_lt visit.parent visit.number) (not (visit.from == 0)) is
+  where
+    go : (less link : Bool) → (if less && link then places visit.parent else None) ≡ Some place → place < k
+    go true true at = subst (λ p. IfSome p (λ j. j < k)) at (within visit.parent)
+    go true false at = cc
+    go false link at = cc
+
+set_here : {A : Type 0} (xs : List A) (i : ℕ) (a b : A) → slice_get (slice_set xs i a) i ≡ Some b → a ≡ b
+set_here [] i a b is = cc
+set_here (x ∷ xs) zero a b is = cc
+set_here (x ∷ xs) (suc i) a b is = set_here xs i a b is
+
+set_there : {A : Type 0} (xs : List A) (i j : ℕ) (a : A) → j ≢ i → slice_get (slice_set xs i a) j ≡ slice_get xs j
+set_there [] i j a other = refl
+set_there (x ∷ xs) zero zero a other = absurd (other refl)
+set_there (x ∷ xs) zero (suc j) a other = refl
+set_there (x ∷ xs) (suc i) zero a other = refl
+set_there (x ∷ xs) (suc i) (suc j) a other = set_there xs i j a (λ same. other (ap suc same))
+
+-- what is known of one visit changed
+pub known_set : (visits : List Visit) (outcomes : List Outcome) (k place : ℕ) (asked : List Asked) (one : Asked) → place < k → AreKnown visits outcomes k asked
+    → ((v : Visit) (o : Outcome) → slice_get visits place ≡ Some v → slice_get outcomes place ≡ Some o → IsRight v o one) → AreKnown visits outcomes k (slice_set asked place one)
+known_set visits outcomes k place asked one below known right = record {
+  right = λ j v o other less v_at o_at at. elim (eqb_tells j place) [
+    | inl same ↦
+        subst (IsRight v o) (set_here asked place one other (ap (slice_get (slice_set asked place one)) (sym same.1) ∙ at)) (right v o (ap (slice_get visits) (sym same.1) ∙ v_at) (ap (slice_get outcomes) (sym same.1) ∙ o_at))
+    | inr apart ↦ known.right j v o other less v_at o_at (sym (set_there asked place j one apart.1) ∙ at)
+  ];
+  fresh = λ j other past at. known.fresh j other past (sym (set_there asked place j one (λ same. omega (arith, same, past, below))) ∙ at);
+}
+
+-- ---- what is asked for before
+
+pub fresh_push : (k : ℕ) (all : List Asked) (one : Asked) → AreFresh k all → IsFresh one → AreFresh (k + 1) (all ++ one ∷ [])
+fresh_push k all one fresh is = record {
+  many = length-append all (one ∷ []) ∙ omega (arith, fresh.many);
+  fresh = λ j other at.
+      let within = slice_get_within (all ++ one ∷ []) j other at in
+      elim (eqb_tells j k) [
+        | inl same ↦ subst IsFresh (some_same one other (sym (last_at all one) ∙ ap (slice_get (all ++ one ∷ [])) (fresh.many ∙ sym same.1) ∙ at)) is
+        | inr apart ↦
+            let below : j < length all = omega (arith, within, length-append all (one ∷ []), fresh.many, apart.1) in
+            fresh.fresh j other (sym (front_at all one j below) ∙ at)
+      ];
+}
+
+pub within_more : (k number own : ℕ) (places places' : ℕ → Option ℕ) → ((n : ℕ) → IfSome (places n) (λ j. j < k)) → ((n : ℕ) → places' n ≡ (if own == n then Some k else places n)) → IfSome (places' number) (λ j. j < k + 1)
+within_more k number own places places' within put = elim (eqb_tells own number) [
+  | inl same ↦ let last : k < k + 1 = omega arith in subst (λ place. IfSome place (λ j. j < k + 1)) (sym (put number ∙ ap (λ b. if b then Some k else places number) same.0)) last
+  | inr other ↦ subst (λ place. IfSome place (λ j. j < k + 1)) (sym (put number ∙ ap (λ b. if b then Some k else places number) other.0)) (weaker_place (places number) (within number))
+]
+  where
+    weaker_place : (place : Option ℕ) → IfSome place (λ j. j < k) → IfSome place (λ j. j < k + 1)
+    weaker_place None h = tt
+    weaker_place (Some j) h = omega (arith, h)
 
 -- ---- all of them
 
@@ -147,9 +240,9 @@ followed_at visits outcomes before size many pairs = same_places outcomes (map (
     let pair = pairs j (omega (arith, below, size)) ∙ ap (option_and_then (λ v. option_map (λ o. (v, o)) (slice_get outcomes j))) at ∙ ap (option_map (λ o. (visit, o))) given in
     given ∙ sym (map_at (λ one. one.1) before j (visit, outcome) pair))
 
-pub all_followed : (visits : List Visit) (own : List Outcome) (outcomes : List Outcome) (places : ℕ → Option ℕ) (slots : List (Option (BTreeMap ℕ Bool))) (room k : ℕ)
-    → IsOnItsWay visits own k outcomes places slots room → k ≡ length visits → outcomes ≡ map (λ one. one.1) (behind_parents (zip visits own))
-all_followed visits own outcomes places slots room k way whole =
+pub all_followed : (visits : List Visit) (own : List Outcome) (outcomes : List Outcome) (places : ℕ → Option ℕ) (asked : List Asked) (k : ℕ)
+    → IsOnItsWay visits own k outcomes places asked → k ≡ length visits → outcomes ≡ map (λ one. one.1) (behind_parents (zip visits own))
+all_followed visits own outcomes places asked k way whole =
     followed_at visits outcomes (behind visits own k) (way.size ∙ whole ∙ sym way.count) way.count way.stands.pairs
     ∙ ap (λ pairs. map (λ one. one.1) (behind_parents pairs)) (take_all (zip visits own) k (zip_many visits own k way.many whole))
   where

@@ -7,4 +7,6 @@ pub mod Sorting
 pub mod Stepping
 pub mod FirstOfNumber
 pub mod Families
+pub mod Looking
+pub mod LeftBehind
 pub mod Places

@@ -2,12 +2,10 @@
 ghost use Rattle.std.specs.Prelude.{◌≡◌, ◌≢◌, ◌<◌, ◌≤◌, [], ℕ, length, map, zip, slice_get, IfOk, IfSome, OnOk};
 ghost use Rattle.std.specs.BTreeMap.{get};
 ghost use Rattle.std.specs.Ordering.{nat_cmp};
-ghost use Rattle.visit_replay.specs.Moved.{is_moved};
 ghost use Rattle.visit_replay.specs.Following.{is_untouched, behind_parents};
-ghost use Rattle.visit_replay.specs.inside.Moves.{Knows};
-ghost use Rattle.visit_replay.specs.inside.Families.{AreKnown, TellsElsewhere, IsBehind};
+ghost use Rattle.visit_replay.specs.inside.Families.{AreFresh, AreKnown, TellsElsewhere, IsBehind, parent_place};
 
-use crate::moves::moves_of;
+use crate::moves::Asked;
 use crate::outcome::{ConflictKind, Outcome};
 use crate::requests::Requests;
 use client_log::Visit;
@@ -18,7 +16,7 @@ use std::collections::BTreeMap;
 /// The outcomes of visits in their order, from those that `replay` gives of each by itself. A visit that isn't untouched is a conflict at its load where its
 /// parent's request that opened it goes elsewhere now (K10). Its parent is the last visit before it with the number `parent`, if that is less than its own.
 ///
-/// Each visit that opened others is looked through once, however many these are.
+/// Each visit that opened others is gone through once, up to the last event that opened one, however many these are.
 pub fn follow_parents(
     alloc: Global,
     visits: &[Visit],
@@ -27,9 +25,9 @@ pub fn follow_parents(
     requires { length outcomes.items ≡ length visits.now }
     ensures { IfOk result (λ all. all.items ≡ map (λ one. one.1) (behind_parents (zip visits.now outcomes.items))) }
 {
+    let mut asked = all_asked(alloc, visits, outcomes.as_slice())?;
     let mut outcomes = outcomes;
     let mut places = BTreeMap::new(alloc);
-    let mut slots = Vec::with_capacity(alloc, visits.len())?;
     for k in 0..visits.len() {
         settle(
             alloc,
@@ -37,12 +35,56 @@ pub fn follow_parents(
             outcomes.as_mut_slice(),
             k,
             &places,
-            slots.as_mut_slice(),
+            asked.as_mut_slice(),
         )?;
         places.insert(visits[k].number, k)?;
-        slots.push_reserved(None);
     }
     Ok(outcomes)
+}
+
+// For each visit what those behind it ask for of its requests, so that one look finds all of that. No answer hangs on it: what wasn't asked for here is asked
+// for when it is wanted.
+fn all_asked(alloc: Global, visits: &[Visit], outcomes: &[Outcome]) -> Result<Vec<Asked>, NoMemory>
+    requires { length outcomes.now ≡ length visits.now }
+    ensures { IfOk result (λ all. AreFresh (length visits.now) all.items) }
+{
+    let mut earlier = BTreeMap::new(alloc);
+    let mut all: Vec<Asked> = Vec::with_capacity(alloc, visits.len())?;
+    for j in 0..visits.len() {
+        ask_parent(&earlier, all.as_mut_slice(), &visits[j], &outcomes[j])?;
+        earlier.insert(visits[j].number, j)?;
+        all.push_reserved(Asked::new(alloc));
+    }
+    Ok(all)
+}
+
+// Asks for the request that opened the visit, unless that stays untouched.
+fn ask_parent(
+    places: &BTreeMap<u64, usize>,
+    all: &mut [Asked],
+    visit: &Visit,
+    outcome: &Outcome,
+) -> Result<(), NoMemory>
+    requires within { (number : ℕ) → IfSome (get nat_cmp places.now number) (λ j. j < length all.old) }
+    ensures { OnOk result (AreFresh (length all.old) all.old → AreFresh (length all.old) all.new) }
+{
+    if is_untouched(outcome) {
+        return Ok(());
+    }
+    match parent_of(places, visit) {
+        Some(place) => all[place].ask(visit.from),
+        None => Ok(()),
+    }
+}
+
+// Where its parent stands among the visits with these places, if it has a request there that opened it.
+fn parent_of(places: &BTreeMap<u64, usize>, visit: &Visit) -> Option<usize>
+    ensures { result ≡ parent_place (get nat_cmp places.now) visit.now }
+{
+    if visit.from == 0 || visit.parent >= visit.number {
+        return None;
+    }
+    places.get(&visit.parent).copied()
 }
 
 // Gives the visit there the outcome that it has behind those before it: K10 where its parent leads elsewhere.
@@ -52,19 +94,19 @@ fn settle(
     outcomes: &mut [Outcome],
     k: usize,
     places: &BTreeMap<u64, usize>,
-    slots: &mut [Option<BTreeMap<u64, bool>>],
+    asked: &mut [Asked],
 ) -> Result<(), NoMemory>
-    requires there { (k < length visits.now) × (k < length outcomes.old) × (length slots.old ≡ k) }
+    requires there { (k < length visits.now) × (k < length outcomes.old) × (k ≤ length asked.old) }
     requires within { (number : ℕ) → IfSome (get nat_cmp places.now number) (λ j. j < k) }
-    requires known { AreKnown visits.now outcomes.old slots.old }
-    ensures known { AreKnown visits.now outcomes.new slots.new }
+    requires known { AreKnown visits.now outcomes.old k asked.old }
+    ensures known { OnOk result (AreKnown visits.now outcomes.new k asked.new) }
     ensures others { (j : ℕ) → j ≢ k → slice_get outcomes.new j ≡ slice_get outcomes.old j }
     ensures settled { OnOk result (IsBehind visits.now (get nat_cmp places.now) k outcomes.old outcomes.new) }
 {
     if is_untouched(&outcomes[k]) {
         return Ok(());
     }
-    if !is_elsewhere(alloc, visits, outcomes, places, slots, &visits[k])? {
+    if !is_elsewhere(alloc, visits, outcomes, k, places, asked)? {
         return Ok(());
     }
     outcomes[k] = moved_away(alloc);
@@ -91,53 +133,24 @@ fn moved_away(alloc: Global) -> Outcome
     }
 }
 
-// Whether the visit's parent leads elsewhere now.
+// Whether the parent of the visit there leads elsewhere now.
 fn is_elsewhere(
     alloc: Global,
     visits: &[Visit],
     outcomes: &[Outcome],
+    k: usize,
     places: &BTreeMap<u64, usize>,
-    slots: &mut [Option<BTreeMap<u64, bool>>],
-    visit: &Visit,
+    asked: &mut [Asked],
 ) -> Result<bool, NoMemory>
-    requires there { (length slots.old ≤ length visits.now) × (length slots.old ≤ length outcomes.now) }
-    requires within { (number : ℕ) → IfSome (get nat_cmp places.now number) (λ j. j < length slots.old) }
-    requires known { AreKnown visits.now outcomes.now slots.old }
-    ensures known { AreKnown visits.now outcomes.now slots.new }
-    ensures answer { IfOk result (TellsElsewhere visits.now outcomes.now (get nat_cmp places.now) visit.now) }
+    requires there { (k < length visits.now) × (k < length outcomes.now) × (k ≤ length asked.old) }
+    requires within { (number : ℕ) → IfSome (get nat_cmp places.now number) (λ j. j < k) }
+    requires known { AreKnown visits.now outcomes.now k asked.old }
+    ensures known { OnOk result (AreKnown visits.now outcomes.now k asked.new) }
+    ensures answer { IfOk result (TellsElsewhere visits.now outcomes.now (get nat_cmp places.now) k) }
 {
-    if visit.parent >= visit.number {
-        return Ok(false);
-    }
-    match places.get(&visit.parent).copied() {
-        Some(place) => knows(
-            alloc,
-            &visits[place],
-            &outcomes[place],
-            &mut slots[place],
-            visit.from,
-        ),
-        None => Ok(false),
-    }
-}
-
-// Whether the request of that number goes elsewhere, by what is kept of that or is looked up now.
-fn knows(
-    alloc: Global,
-    visit: &Visit,
-    outcome: &Outcome,
-    slot: &mut Option<BTreeMap<u64, bool>>,
-    number: u64,
-) -> Result<bool, NoMemory>
-    requires { IfSome slot.old (Knows visit.now outcome.now visit.now.events) }
-    ensures slot { IfSome slot.new (Knows visit.now outcome.now visit.now.events) }
-    ensures answer { IfOk result (λ answer. answer ≡ is_moved visit.now outcome.now number) }
-{
-    if slot.is_none() {
-        *slot = Some(moves_of(alloc, visit, outcome)?);
-    }
-    match slot {
-        Some(moves) => Ok(number != 0 && moves.get(&number).copied().unwrap_or(false)),
+    let visit = &visits[k];
+    match parent_of(places, visit) {
+        Some(place) => asked[place].tell(alloc, &visits[place], &outcomes[place], visit.from),
         None => Ok(false),
     }
 }

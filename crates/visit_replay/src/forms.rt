@@ -1,5 +1,5 @@
 //! What a form sends.
-ghost use Rattle.std.specs.Prelude.{◌≡◌, ◌<◌, ◌==◌, [], ◌∷◌, false, IfOk, OnOk, option_map};
+ghost use Rattle.std.specs.Prelude.{◌≡◌, ◌<◌, ◌==◌, [], false, Some, IfOk, OnOk, option_map};
 ghost use Rattle.std.specs.List.{cons_option};
 ghost use Rattle.std.specs.Option.{option_map_or};
 ghost use Rattle.form_urlencoded.specs.Form.{append_pair};
@@ -7,13 +7,14 @@ ghost use Rattle.page_tree.specs.Limits.{nodes};
 ghost use Rattle.page_tree.specs.Number.{place_numbered};
 ghost use Rattle.visit_replay.specs.Form.{unless_empty, sent_name, value_or, is_post, action_of};
 ghost use Rattle.visit_replay.specs.inside.KeptFields.{text_now};
-ghost use Rattle.visit_replay.specs.inside.FieldsNow.{pair_now, pairs_now, with_pairs, IsEncoded};
+ghost use Rattle.visit_replay.specs.inside.FieldsNow.{pair_of, pair_now, pairs_now, with_pairs, IsEncoded};
 
 use crate::conflicts::is_disabled;
 use crate::fields::Fields;
 use form_urlencoded::Serializer;
 use page_tree::{Control, NoMemory, Page, Text};
 use std::alloc::Global;
+use std::borrow::CowStr;
 use std::ops::Range;
 
 /// A page as it is filled in: with what its fields hold, and the number of the button that was pressed, if any.
@@ -22,6 +23,13 @@ pub(crate) struct Filled<'a, 'v> {
     pub(crate) page: &'a Page,
     pub(crate) fields: &'a Fields<'v>,
     pub(crate) button: Option<u32>,
+}
+
+/// What a node sends.
+#[derive(Drop)]
+pub(crate) struct SentPair<'a> {
+    pub(crate) name: &'a str,
+    pub(crate) value: CowStr<'a, Global>,
 }
 
 /// The form's pairs as `application/x-www-form-urlencoded`, in one pass over the nodes under it.
@@ -77,49 +85,70 @@ fn add_pairs(
 }
 
 // Adds what the node with that number sends, if anything.
-#[tactic(auto, unfolding(crate::specs::Form::sent_value))]
 fn add_pair(pairs: &mut Serializer, filled: &Filled<'_, '_>, number: u32) -> Result<(), NoMemory>
     ensures { OnOk result (pairs.new ≡ with_pairs pairs.old (cons_option (pair_now filled.now number) [])) }
 {
-    let page = filled.page;
-    let Some(name) = sent_name(page, number) else {
-        return Ok(());
-    };
-    match page.control_of(number) {
-        Control::Text => add_text(pairs, name, filled.fields, page, number),
-        Control::Check if filled.fields.is_on(page, number) => {
-            pairs.append_pair(name, value_or("on", page, number))
-        }
-        Control::Radio if page.start_checked_of(number) => {
-            pairs.append_pair(name, value_or("on", page, number))
-        }
-        Control::Submit if is_pressed(filled.button, number) => {
-            pairs.append_pair(name, value_or("", page, number))
-        }
-        _ => Ok(()),
-    }
-}
-
-// Adds the text that a text control holds now.
-fn add_text(
-    pairs: &mut Serializer,
-    name: &str,
-    fields: &Fields<'_>,
-    page: &Page,
-    number: u32,
-) -> Result<(), NoMemory>
-    ensures { OnOk result (pairs.new ≡ with_pairs pairs.old ((name.now, text_now fields.now page.now number) ∷ [])) }
-{
-    match fields.text(number) {
-        Some(text) => pairs.append_pair(name, text),
-        None => match page.start_text_of(number)? {
-            Some(text) => pairs.append_pair(name, text.as_str()),
-            None => pairs.append_pair(name, ""),
-        },
+    match sent_by(filled, number)? {
+        Some(sent) => pairs.append_pair(sent.name, sent.value.as_str()),
+        None => Ok(()),
     }
 }
 
 // ---- one node
+
+/// What the node with that number sends, if anything.
+#[tactic(auto, unfolding(crate::specs::Form::sent_value))]
+pub(crate) fn sent_by<'a>(
+    filled: &Filled<'a, '_>,
+    number: u32,
+) -> Result<Option<SentPair<'a>>, NoMemory>
+    ensures { IfOk result (λ sent. option_map pair_of sent ≡ pair_now filled.now number) }
+{
+    let page = filled.page;
+    let Some(name) = sent_name(page, number) else {
+        return Ok(None);
+    };
+    match page.control_of(number) {
+        Control::Text => text_sent(name, filled.fields, page, number),
+        Control::Check if filled.fields.is_on(page, number) => {
+            Ok(Some(sent_as(name, value_or("on", page, number))))
+        }
+        Control::Radio if page.start_checked_of(number) => {
+            Ok(Some(sent_as(name, value_or("on", page, number))))
+        }
+        Control::Submit if is_pressed(filled.button, number) => {
+            Ok(Some(sent_as(name, value_or("", page, number))))
+        }
+        _ => Ok(None),
+    }
+}
+
+// The text that a text control holds now, under its name.
+fn text_sent<'a>(
+    name: &'a str,
+    fields: &'a Fields<'_>,
+    page: &'a Page,
+    number: u32,
+) -> Result<Option<SentPair<'a>>, NoMemory>
+    ensures { IfOk result (λ sent. option_map pair_of sent ≡ Some (name.now, text_now fields.now page.now number)) }
+{
+    match fields.text(number) {
+        Some(text) => Ok(Some(sent_as(name, text))),
+        None => match page.start_text_of(number)? {
+            Some(value) => Ok(Some(SentPair { name, value })),
+            None => Ok(Some(sent_as(name, ""))),
+        },
+    }
+}
+
+fn sent_as<'a>(name: &'a str, value: &'a str) -> SentPair<'a>
+    ensures { pair_of result ≡ (name.now, value.now) }
+{
+    SentPair {
+        name,
+        value: CowStr::Borrowed(value),
+    }
+}
 
 // A control that is disabled, or has no name, sends nothing.
 fn sent_name(page: &Page, number: u32) -> Option<&str>

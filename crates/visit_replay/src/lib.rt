@@ -10,6 +10,7 @@
 #![tactic(auto)]
 
 mod address;
+mod comparing;
 mod conflicts;
 mod fields;
 mod following;

@@ -1,35 +1,124 @@
-//! Which requests of a visit go elsewhere now: all of them at once, for visits that open many others.
-ghost use Rattle.std.specs.Prelude.{◌≡◌, ◌<◌, length, take, IfOk, OnOk, option_map};
-ghost use Rattle.visit_replay.specs.Moved.{are_apart};
+//! Which requests of a visit go elsewhere now: those that later visits name, all of them at once.
+ghost use Rattle.std.specs.Prelude.{ℕ, ◌≡◌, ◌≤◌, ◌<◌, true, length, take, IfOk, OnOk, IsSome, option_map};
+ghost use Rattle.std.specs.BTreeMap.{get};
+ghost use Rattle.std.specs.Ordering.{nat_cmp};
+ghost use Rattle.upload_reader.specs.declared.message.Event.{Event};
+ghost use Rattle.client_log.specs.declared.visit.Visit.{Visit};
+ghost use Rattle.visit_replay.specs.Moved.{event_numbered, own_request, are_apart, is_moved};
+ghost use Rattle.visit_replay.specs.declared.outcome.Outcome.{Outcome};
 ghost use Rattle.visit_replay.specs.inside.KeptFields.{Keeps};
-ghost use Rattle.visit_replay.specs.inside.Moves.{Knows, HasAddresses, KnowsMore};
+ghost use Rattle.visit_replay.specs.inside.Moves.{IsFresh, IsRight, HasAddresses, MeetsOne, is_pending, answer_in};
 
 use crate::fields::Fields;
-use crate::moving::{note, own_request_on, requests_of};
+use crate::moving::{goes_elsewhere, note, requests_of};
 use crate::outcome::Outcome;
-use crate::requests::Request;
 use client_log::Visit;
 use page_tree::NoMemory;
 use std::alloc::{AllocError, Global};
 use std::collections::BTreeMap;
+use upload_reader::Event;
 
-/// Each number under which the visit made a request, with whether that goes elsewhere now.
-pub(crate) fn moves_of(
-    alloc: Global,
-    visit: &Visit,
-    outcome: &Outcome,
-) -> Result<BTreeMap<u64, bool>, NoMemory>
-    ensures { IfOk result (Knows visit.now outcome.now visit.now.events) }
-{
-    let addresses = addresses_of(alloc, outcome)?;
-    let mut fields = Fields::new(alloc);
-    let mut moves = BTreeMap::new(alloc);
-    let events = visit.events.as_slice();
-    for k in 0..events.len() {
-        add_move(alloc, visit, k, &fields, &addresses, &mut moves)?;
-        note(&visit.page, &events[k], &mut fields)?;
+/// The numbers of a visit's requests that are asked for, each with whether that goes elsewhere now, where it was found. Once all events up to the last of them
+/// were looked at, one that wasn't found goes nowhere else.
+#[derive(Drop)]
+pub(crate) struct Asked {
+    numbers: BTreeMap<u64, Option<bool>>,
+    looked: bool,
+}
+
+impl Asked {
+    /// No number.
+    pub(crate) fn new(alloc: Global) -> Asked
+        ensures { IsFresh result }
+    {
+        Asked {
+            numbers: BTreeMap::new(alloc),
+            looked: false,
+        }
     }
-    Ok(moves)
+
+    /// One number more.
+    pub(crate) fn ask(&mut self, number: u64) -> Result<(), NoMemory>
+        ensures right { OnOk result ((visit : Visit) (outcome : Outcome)
+            → IsRight visit outcome self.old → IsRight visit outcome self.new) }
+        ensures fresh { OnOk result (IsFresh self.old → IsFresh self.new) }
+        ensures there { OnOk result (IsSome (get nat_cmp self.new.numbers number)) }
+    {
+        if self.numbers.contains_key(&number) {
+            return Ok(());
+        }
+        self.looked = false;
+        self.numbers.insert(number, None)?;
+        Ok(())
+    }
+
+    /// Whether the request of that number goes elsewhere now. Where that wasn't asked before, the events are gone through for it.
+    #[tactic(auto, using(crate::proofs::Looking::answer_is))]
+    pub(crate) fn tell(
+        &mut self,
+        alloc: Global,
+        visit: &Visit,
+        outcome: &Outcome,
+        number: u64,
+    ) -> Result<bool, NoMemory>
+        requires { IsRight visit.now outcome.now self.old }
+        ensures right { OnOk result (IsRight visit.now outcome.now self.new) }
+        ensures answer { IfOk result (λ answer. answer ≡ is_moved visit.now outcome.now number) }
+    {
+        if number == 0 || requests_of(outcome).is_empty() {
+            return Ok(false);
+        }
+        self.ask(number)?;
+        self.look(alloc, visit, outcome)?;
+        Ok(self.answer(number))
+    }
+
+    fn answer(&self, number: u64) -> bool
+        ensures { result ≡ answer_in (get nat_cmp self.now.numbers number) }
+    {
+        match self.numbers.get(&number).copied() {
+            Some(Some(answer)) => answer,
+            _ => false,
+        }
+    }
+
+    // Finds all numbers that are asked for and weren't looked for, in one pass over the events up to the last of them.
+    fn look(&mut self, alloc: Global, visit: &Visit, outcome: &Outcome) -> Result<(), NoMemory>
+        requires { IsRight visit.now outcome.now self.old }
+        ensures right { OnOk result (IsRight visit.now outcome.now self.new) }
+        ensures looked { OnOk result (self.new.looked ≡ true) }
+        ensures there { OnOk result ((number : ℕ) → IsSome (get nat_cmp self.old.numbers number)
+            → IsSome (get nat_cmp self.new.numbers number)) }
+    {
+        if self.looked {
+            return Ok(());
+        }
+        let addresses = addresses_of(alloc, outcome)?;
+        let mut fields = Fields::new(alloc);
+        let events = visit.events.as_slice();
+        for k in 0..last_asked(events, &self.numbers) {
+            meet(visit, k, &fields, &addresses, &mut self.numbers)?;
+            note(&visit.page, &events[k], &mut fields)?;
+        }
+        self.looked = true;
+        Ok(())
+    }
+}
+
+// How many events there are up to the last one with a number that is asked for.
+fn last_asked(events: &[Event], numbers: &BTreeMap<u64, Option<bool>>) -> usize
+    ensures within { result ≤ length events.now }
+    ensures all { (number : ℕ) → IsSome (get nat_cmp numbers.now number)
+        → event_numbered events.now number ≡ event_numbered (take result events.now) number }
+{
+    let mut count = events.len();
+    while count > 0 {
+        if numbers.contains_key(&events[count - 1].request()) {
+            return count;
+        }
+        count -= 1;
+    }
+    0
 }
 
 // The address of the first request of each number.
@@ -49,34 +138,48 @@ fn addresses_of<'a>(
     Ok(addresses)
 }
 
-// Adds the request of the event with k events before it, if it makes one under a number of its own.
-fn add_move(
-    alloc: Global,
+// Finds the request of the event with k events before it, if its number is asked for and no earlier event has it.
+fn meet(
     visit: &Visit,
     k: usize,
     fields: &Fields<'_>,
     addresses: &BTreeMap<u64, &str>,
-    moves: &mut BTreeMap<u64, bool>,
+    numbers: &mut BTreeMap<u64, Option<bool>>,
 ) -> Result<(), NoMemory>
     requires there { k < length visit.now.events }
     requires fields { Keeps fields.now visit.now.page (take k visit.now.events) }
-    ensures { OnOk result (KnowsMore visit.now k addresses.now moves.old moves.new) }
+    ensures { OnOk result (MeetsOne visit.now k addresses.now numbers.old numbers.new) }
 {
     let number = visit.events.as_slice()[k].request();
-    if number == 0 || moves.contains_key(&number) {
+    if !is_pending(numbers, number) {
         return Ok(());
     }
-    let before = own_request_on(alloc, visit, fields, k)?;
-    let apart = is_apart(&before, addresses.get(&number).copied());
-    moves.insert(number, apart)?;
+    let now = addresses.get(&number).copied();
+    let apart = is_apart(visit, fields, k, now)?;
+    numbers.insert(number, Some(apart))?;
     Ok(())
 }
 
-fn is_apart(before: &Option<Request>, now: Option<&str>) -> bool
-    ensures { result ≡ are_apart before.now (option_map (λ address. address.now) now.entry) }
+fn is_pending(numbers: &BTreeMap<u64, Option<bool>>, number: u64) -> bool
+    ensures { result ≡ is_pending (get nat_cmp numbers.now number) }
 {
-    match (before, now) {
-        (Some(before), Some(now)) => before.address.as_str() != now,
-        _ => false,
+    matches!(numbers.get(&number).copied(), Some(None))
+}
+
+#[tactic(auto, using(crate::proofs::Looking::none_apart))]
+fn is_apart(
+    visit: &Visit,
+    fields: &Fields<'_>,
+    k: usize,
+    now: Option<&str>,
+) -> Result<bool, NoMemory>
+    requires there { k < length visit.now.events }
+    requires fields { Keeps fields.now visit.now.page (take k visit.now.events) }
+    ensures { IfOk result
+        (λ apart. apart ≡ are_apart (own_request visit.now k) (option_map (λ address. address.now) now.entry)) }
+{
+    match now {
+        Some(now) => goes_elsewhere(visit, fields, k, now),
+        None => Ok(false),
     }
 }

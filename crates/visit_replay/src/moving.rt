@@ -1,13 +1,13 @@
 //! Whether a request of a visit goes elsewhere now.
-ghost use Rattle.std.specs.Prelude.{◌≡◌, ◌<◌, length, take, IfOk, IfSome, OnOk, option_map};
-ghost use Rattle.visit_replay.specs.Moved.{requests_of, address_now, event_numbered, own_request, is_moved};
+ghost use Rattle.std.specs.Prelude.{◌≡◌, ◌<◌, length, take, Some, IfOk, IfSome, OnOk, option_map};
+ghost use Rattle.visit_replay.specs.Moved.{requests_of, address_now, event_numbered, own_request, are_apart, is_moved};
 ghost use Rattle.visit_replay.specs.inside.KeptFields.{Keeps, TakesIn};
 
 use crate::conflicts::{Located, find, target_of};
 use crate::fields::Fields;
 use crate::forms::Filled;
 use crate::outcome::Outcome;
-use crate::requests::{Request, request_at};
+use crate::requests::{Request, leads_elsewhere};
 use client_log::Visit;
 use page_tree::{NoMemory, Page};
 use std::alloc::Global;
@@ -24,13 +24,12 @@ pub fn moved(alloc: Global, visit: &Visit, outcome: &Outcome, from: u64) -> Resu
     let Some(now) = request_now(outcome, from) else {
         return Ok(false);
     };
-    let Some(k) = event_numbered(visit.events.as_slice(), from) else {
+    let events = visit.events.as_slice();
+    let Some(k) = event_numbered(events, from) else {
         return Ok(false);
     };
-    match own_request(alloc, visit, k)? {
-        Some(before) => Ok(before.address.as_str() != now.address.as_str()),
-        None => Ok(false),
-    }
+    let fields = fields_behind(alloc, &visit.page, events, k)?;
+    goes_elsewhere(visit, &fields, k, now.address.as_str())
 }
 
 // ---- what the replay asks for
@@ -63,30 +62,22 @@ fn event_numbered(events: &[Event], number: u64) -> Option<usize>
     events.iter().position(|event| event.request() == number)
 }
 
-// The request of the event with k events before it.
-fn own_request(alloc: Global, visit: &Visit, k: usize) -> Result<Option<Request>, NoMemory>
-    requires { k < length visit.now.events }
-    ensures { IfOk result (λ request. request ≡ own_request visit.now k) }
-{
-    let fields = fields_behind(alloc, &visit.page, visit.events.as_slice(), k)?;
-    own_request_on(alloc, visit, &fields, k)
-}
-
-// The same, by the fields as these events left them.
-pub(crate) fn own_request_on(
-    alloc: Global,
+/// Whether the event with k events before it made a request of another address, by the fields as these left them. Only the addresses count: what is sent under
+/// post isn't looked at.
+pub(crate) fn goes_elsewhere(
     visit: &Visit,
     fields: &Fields<'_>,
     k: usize,
-) -> Result<Option<Request>, NoMemory>
+    now: &str,
+) -> Result<bool, NoMemory>
     requires there { k < length visit.now.events }
     requires fields { Keeps fields.now visit.now.page (take k visit.now.events) }
-    ensures { IfOk result (λ request. request ≡ own_request visit.now k) }
+    ensures { IfOk result (λ answer. answer ≡ are_apart (own_request visit.now k) (Some now.now)) }
 {
     let page = &visit.page;
     let event = &visit.events.as_slice()[k];
     let (target, button) = match find(page, page, event)? {
-        Located::Bad(_) => return Ok(None),
+        Located::Bad(_) => return Ok(false),
         Located::At { target, button } => (target, button),
     };
     let filled = Filled {
@@ -94,7 +85,7 @@ pub(crate) fn own_request_on(
         fields,
         button,
     };
-    request_at(alloc, visit.address.as_str(), &filled, event, target)
+    leads_elsewhere(visit.address.as_str(), &filled, event, target, now)
 }
 
 // The fields as the first so many events left them.

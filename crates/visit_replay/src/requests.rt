@@ -4,10 +4,11 @@ ghost use Rattle.page_tree.specs.Limits.{nodes};
 ghost use Rattle.page_tree.specs.Number.{place_numbered};
 ghost use Rattle.visit_replay.specs.Form.{sent_to};
 ghost use Rattle.visit_replay.specs.Requests.{load_request, link_request};
-ghost use Rattle.visit_replay.specs.inside.FieldsNow.{IsRequestAt};
+ghost use Rattle.visit_replay.specs.inside.FieldsNow.{IsRequestAt, LeadsElsewhere};
 ghost use Rattle.visit_replay.specs.inside.OneEvent.{IsButton, by_of};
 
 use crate::address::bare;
+use crate::comparing::is_sent_to;
 use crate::forms::{self, Filled};
 use page_tree::{NoMemory, Page, Text};
 use std::alloc::Global;
@@ -124,6 +125,36 @@ pub(crate) fn request_at(
             let pairs = forms::encoded(alloc, filled, target)?;
             let post = forms::is_post(new, target);
             Ok(Some(form_request(alloc, post, *req, action, pairs)?))
+        }
+    }
+}
+
+/// Whether that of such an event goes to another address than that one. What is sent under post isn't looked at.
+pub(crate) fn leads_elsewhere(
+    address: &str,
+    filled: &Filled<'_, '_>,
+    event: &Event,
+    target: u32,
+    now: &str,
+) -> Result<bool, NoMemory>
+    requires there { target < nodes filled.now.page.now }
+    requires button { IsButton filled.now.page.now (by_of event.now) filled.now.button }
+    ensures { IfOk result (LeadsElsewhere address.now filled.now event.now target now.now) }
+{
+    let page = filled.page;
+    match event {
+        Event::Input { .. } => Ok(false),
+        Event::Click { req: 0, .. } | Event::Submit { req: 0, .. } => Ok(false),
+        Event::Click { .. } => match page.attribute_of(target, "href") {
+            Some(href) => Ok(href != now),
+            None => Ok(false),
+        },
+        Event::Submit { .. } => {
+            let action = forms::action_of(address, page, target);
+            if forms::is_post(page, target) {
+                return Ok(action != now);
+            }
+            Ok(!is_sent_to(filled, target, bare(action), now)?)
         }
     }
 }

@@ -1,33 +1,65 @@
 -- A docket has a case for each visit of a log, in their order.
-use Rattle.std.proofs.Common.{◌≡◌, ℕ, ◌+◌, List, [], ◌∷◌, length, map, fold, refl, ap, arith, length-append}
-use Rattle.std.proofs.lemmas.List.{length-map}
+use Rattle.std.proofs.Common.{◌≡◌, ℕ, ◌+◌, List, [], ◌∷◌, length, map, take, refl, sym, ap, subst, ◌∙◌, arith}
+use Rattle.std.proofs.lemmas.List.{length-take, get_or-take}
+use Rattle.std.proofs.lemmas.Simd.{map-map}
+use Rattle.std.specs.Borrow.{Bor}
+use Rattle.std.specs.Prelude.{Vec}
+use Rattle.std.specs.declared.alloc.Global.{Global}
 use Rattle.std.specs.List.{zip}
+use Rattle.std.specs.List.Sorted.{IsStrictlyIncreasing}
 use Rattle.std.specs.Map.{keys_of}
 use Rattle.client_log.specs.declared.visit.Visit.{Visit}
-use Rattle.visit_replay.specs.Following.{Replayed, outcome_behind, with_next, behind_parents, outcomes}
-use Rattle.visit_replay.specs.Outcome.{outcome}
+use Rattle.visit_replay.specs.Following.{outcomes}
 use Rattle.visit_replay.specs.RepairedSite.{RepairedSite}
 use Rattle.visit_replay.specs.declared.outcome.Outcome.{Outcome}
+use Rattle.conflict_desk.specs.Docket.{AreAscending}
+use Rattle.conflict_desk.specs.declared.docket.Docket.{Docket}
 use Rattle.lanes_in_turn.specs.declared.gathered.LaneResult.{LaneResult}
-use Rattle.warp_run.specs.Repair.{as_case, docket_for}
+use Rattle.warp_run.specs.Repair.{as_case, docket_with, docket_for}
 
--- ---- as many outcomes as visits
+-- ---- the cases of a docket ascend, as the visits do
 
-follow_count : (before visits : List Replayed) → length (fold with_next before visits) ≡ length before + length visits
-follow_count before [] = omega arith
-follow_count before (one ∷ visits) =
-    omega (arith, follow_count (with_next before one) visits, length-append before ((one.0, outcome_behind before one.0 one.1) ∷ []))
+cases_numbers : (visits : List Visit) (outs : List Outcome)
+    → map (λ case. case.visit) (map as_case (zip visits outs)) ≡ take (length outs) (map (λ visit. visit.number) visits)
+cases_numbers [] [] = refl
+cases_numbers [] (out ∷ outs) = refl
+cases_numbers (visit ∷ visits) [] = refl
+cases_numbers (visit ∷ visits) (out ∷ outs) = ap (λ numbers. visit.number ∷ numbers) (cases_numbers visits outs)
 
-pub outcomes_count : (site : RepairedSite) (visits : List Visit) → length (outcomes site visits) ≡ length visits
-outcomes_count site visits =
-    let own : List Replayed = map (λ visit. (visit, outcome site visit)) visits in
-    let with_own : Visit → Replayed = λ visit. (visit, outcome site visit) in
-    omega (arith, length-map (behind_parents own) (λ (one : Replayed). one.1), follow_count [] own, length-map visits with_own)
+increasing_front : (n : ℕ) (xs : List ℕ) → IsStrictlyIncreasing xs → IsStrictlyIncreasing (take n xs)
+increasing_front n xs increasing k below =
+    let size = length-take n xs in
+    let here = get_or-take n xs k 0 (omega (arith, size, below)) in
+    let next = get_or-take n xs (k + 1) 0 (omega (arith, size, below)) in
+    let less = increasing k (omega (arith, size, below)) in
+    omega (arith, here, next, less)
 
-pub cases_numbers : (visits : List Visit) (outs : List Outcome) → length outs ≡ length visits → map (λ case. case.visit) (map as_case (zip visits outs)) ≡ map (λ visit. visit.number) visits
-cases_numbers [] outs same = refl
-cases_numbers (visit ∷ visits) [] same = absurd (omega (arith, same))
-cases_numbers (visit ∷ visits) (out ∷ outs) same = ap (λ numbers. visit.number ∷ numbers) (cases_numbers visits outs (omega (arith, same)))
+pub cases_ascend : (visits : List Visit) (outs : List Outcome) → IsStrictlyIncreasing (map (λ visit. visit.number) visits) → AreAscending (map as_case (zip visits outs))
+cases_ascend visits outs increasing =
+    subst IsStrictlyIncreasing (sym (cases_numbers visits outs)) (increasing_front (length outs) (map (λ visit. visit.number) visits) increasing)
+
+-- ---- what is given back by client makes the defined dockets
+
+abbrev pub by_outcomes : {R : Type 0} → (List ℕ × LaneResult R) × Vec Outcome Global → Docket
+by_outcomes one = docket_with one.0.0 one.0.1.log.log one.1.items
+
+pub dockets_are : {R : Type 0} (site : RepairedSite) (entries : List (List ℕ × LaneResult R)) (outs : List (Vec Outcome Global))
+    → map (λ own. own.items) outs ≡ map (λ entry. outcomes site entry.1.log.log.visits) entries
+    → map by_outcomes (zip entries outs) ≡ map (docket_for site) entries
+dockets_are site [] outs is = refl
+dockets_are site (entry ∷ entries) [] is = absurd (omega (arith, ap length is))
+dockets_are site (entry ∷ entries) (out ∷ outs) is =
+    let here : out.items ≡ outcomes site entry.1.log.log.visits = cc in
+    let rest : map (λ own. own.items) outs ≡ map (λ entry. outcomes site entry.1.log.log.visits) entries = cc in
+    rw (here, dockets_are site entries outs rest) refl
+
+-- the outcomes of what is listed are those of what the logs keep
+pub kept_outcomes : {R : Type 0} (site : RepairedSite) (lists : List (Bor (List Visit))) (entries : List (List ℕ × LaneResult R))
+    → map (λ visits. visits.now) lists ≡ map (λ entry. entry.1.log.log.visits) entries
+    → map (λ visits. outcomes site visits.now) lists ≡ map (λ entry. outcomes site entry.1.log.log.visits) entries
+kept_outcomes site lists entries is =
+    sym (map-map (outcomes site) (λ (visits : Bor (List Visit)). visits.now) lists) ∙ ap (map (outcomes site)) is
+    ∙ map-map (outcomes site) (λ entry. entry.1.log.log.visits) entries
 
 -- ---- each docket is of the client of its lane
 

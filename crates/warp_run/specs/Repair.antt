@@ -32,10 +32,14 @@ as_case one = record { visit = one.0.number; parent = one.0.parent; outcome = on
 abbrev pub new_repaired : Stop → List ClientSummary → List Docket → Repaired
 new_repaired stop clients dockets = record { stop = stop; clients = clients; desk = new_books dockets; decided = [] }
 
+-- the visits that the log keeps, with these outcomes
+abbrev pub docket_with : List ℕ → Log → List Outcome → Docket
+docket_with client log outcomes = record { client = client; cases = map as_case (zip log.visits outcomes) }
+
 module _ (site : RepairedSite) where
   -- each visit that the log keeps, with the outcome that it has behind those before it
   abbrev pub docket_by : List ℕ → Log → Docket
-  docket_by client log = record { client = client; cases = map as_case (zip log.visits (outcomes site log.visits)) }
+  docket_by client log = docket_with client log (outcomes site log.visits)
 
   abbrev pub docket_for : {R : Type 0} → List ℕ × LaneResult R → Docket
   docket_for entry = docket_by entry.0 entry.1.log.log

@@ -1,13 +1,14 @@
 //! Replays what was gathered.
-ghost use Rattle.std.specs.Prelude.{◌≡◌, ◌≢◌, map, IfOk, IfErr};
-ghost use Rattle.std.specs.List.{zip};
+ghost use Rattle.std.specs.Prelude.{◌≡◌, ◌≢◌, map, bytes_eq, IfOk, IfErr};
+ghost use Rattle.std.specs.List.{zip, AllByRecursion, IsDistinct};
+ghost use Rattle.std.specs.Map.{keys_of};
 ghost use Rattle.conflict_desk.specs.Desk.{AreDockets, new_books};
 ghost use Rattle.conflict_desk.specs.Laws.{IsInOrder};
 ghost use Rattle.conflict_desk.specs.Docket.{AreAscending};
 ghost use Rattle.visit_replay.specs.RepairedSite.{site_by};
 ghost use Rattle.visit_replay.specs.Limits.{AreWorkers};
 ghost use Rattle.replay_workers.specs.declared.fault.PoolFault.TheVariants.{BadWorkers, NoMemory};
-ghost use Rattle.warp_run.specs.Repair.{as_case, summary_of, docket_by, docket_for, repaired_of};
+ghost use Rattle.warp_run.specs.Repair.{as_case, summary_of, docket_with, docket_for, repaired_of};
 
 use crate::listed::Listed;
 use crate::repaired::{ClientSummary, Repaired};
@@ -24,7 +25,7 @@ use std::thread::Threads;
 use upload_reader::Client;
 use visit_replay::{Outcome, Patch};
 
-/// Replays the visits that each client's log keeps, client by client, each visit behind its parent, by so many workers, 1 to `replay_workers::MAX_WORKERS`;
+/// Replays the visits that all clients' logs keep, each behind its client's parent of it, by one pool of so many workers, 1 to `replay_workers::MAX_WORKERS`;
 /// and opens a desk with their outcomes, on which nothing is decided. F1 for another number of workers.
 pub fn repair<H: SiteHooks, R: Source, T: AllocGlobal + Threads + Sync>(
     rt: &T,
@@ -95,36 +96,63 @@ fn replay_lanes<H: SiteHooks, R: Source, T: AllocGlobal + Threads + Sync>(
         map (docket_for (site_by H.page_of H.signals hooks.now patch.now)) clients.now.entries) }
     ensures for_desk { IfOk result (λ dockets. AreDockets dockets.items) }
 {
-    let count = clients.len();
-    let mut dockets = Vec::with_capacity(alloc, count)?;
+    let visits = kept_visits(alloc, clients)?;
+    let Ok(outcomes) = replay_all(rt, workers, hooks, patch, visits.as_slice()) else {
+        return Err(AllocError);
+    };
+    with_outcomes(alloc, clients, outcomes)
+}
+
+// The visits that each client's log keeps.
+fn kept_visits<R: Source>(
+    alloc: Global,
+    clients: &IndexMap<Client, LaneResult<R>>,
+) -> Result<Vec<&[Visit]>, NoMemory>
+    ensures { IfOk result (λ all. map (λ visits. visits.now) all.items
+        ≡ map (λ entry. entry.1.log.log.visits) clients.now.entries) }
+{
+    let mut all = Vec::new(alloc);
+    for lane in clients.values() {
+        all.push(lane.log.visits())?;
+    }
+    Ok(all)
+}
+
+// A docket of each client with the outcomes of its visits.
+fn with_outcomes<R: Source>(
+    alloc: Global,
+    clients: &IndexMap<Client, LaneResult<R>>,
+    outcomes: Vec<Vec<Outcome>>,
+) -> Result<Vec<Docket>, NoMemory>
+    ensures dockets { IfOk result (λ all. all.items
+        ≡ map (λ one. docket_with one.0.0 one.0.1.log.log one.1.items) (zip clients.now.entries outcomes.items)) }
+    ensures distinct { IsDistinct bytes_eq (keys_of clients.now.entries) }
+    ensures ascend { IfOk result (λ all. AllByRecursion (λ docket. AreAscending docket.cases) all.items) }
+{
+    let mut dockets = Vec::new(alloc);
+    let mut rest = outcomes.into_iter();
     for (client, lane) in clients.iter() {
-        dockets.push(replay_lane(rt, alloc, workers, hooks, patch, client, &lane.log)?)?;
+        let Some(own) = rest.next() else {
+            break;
+        };
+        dockets.push(docket(alloc, client, &lane.log, own)?)?;
     }
     Ok(dockets)
 }
 
-// The docket of the client with that log.
-fn replay_lane<H: SiteHooks, T: AllocGlobal + Threads + Sync>(
-    rt: &T,
+// The docket of the client with that log, by the outcomes of its visits.
+fn docket(
     alloc: Global,
-    workers: u32,
-    hooks: &H,
-    patch: &Patch,
     client: &Client,
     log: &ClientLog,
+    outcomes: Vec<Outcome>,
 ) -> Result<Docket, NoMemory>
-    requires workers { AreWorkers workers }
-    ensures docket { IfOk result (λ docket. docket ≡
-        docket_by (site_by H.page_of H.signals hooks.now patch.now) client.now log.now.log) }
+    ensures docket { IfOk result (λ docket. docket ≡ docket_with client.now log.now.log outcomes.items) }
     ensures ascend { IfOk result (λ docket. AreAscending docket.cases) }
 {
-    let visits = log.visits();
-    let Ok(outcomes) = replay_all(rt, workers, hooks, patch, visits) else {
-        return Err(AllocError);
-    };
     Ok(Docket {
         client: client.copy()?,
-        cases: pair_up(alloc, visits, outcomes)?,
+        cases: pair_up(alloc, log.visits(), outcomes)?,
     })
 }
 

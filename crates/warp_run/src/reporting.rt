@@ -1,6 +1,7 @@
 //! The report of what was repaired.
 ghost use Rattle.std.specs.Prelude.{◌≡◌, ◌++◌, IfOk, OnOk, Some, Err, slice_get, string_bytes};
-ghost use Rattle.std.specs.List.{flat_map};
+ghost use Rattle.std.specs.List.{flat_map, list_all};
+ghost use Rattle.json.specs.Run.{is_plain};
 ghost use Rattle.byte_streams.specs.Writing.{writes_of};
 ghost use Rattle.upload_reader.specs.declared.ending.Ending.TheVariants.{Over};
 ghost use Rattle.conflict_desk.specs.Book.{standing_in, standing_requests};
@@ -20,6 +21,9 @@ use std::alloc::Global;
 use std::mem;
 use upload_reader::{Ending, LaneEnd};
 use visit_replay::{Method, Outcome, Request};
+
+/// How long a word may be, in bytes, that is looked at byte by byte. The writer of JSON looks at many at once, but makes up to 16 KB ready for each word.
+const MAX_SHORT: usize = 1_024;
 
 /// Writes the report: why the taking stopped, then each client with its visits and their requests, and then each decision with its answer. It is composed
 /// whole before the first write. O1 where a write fails or takes nothing, O2 where memory is refused.
@@ -196,6 +200,26 @@ fn add_request(text: &mut String, request: &Request) -> Result<(), NoMemory>
 
 // The word as a JSON string.
 fn add_quoted(text: &mut String, word: &str) -> Result<(), NoMemory>
+    ensures { OnOk result (string_bytes text.new ≡ string_bytes text.old ++ plain.json_string word.now) }
+{
+    if word.len() > MAX_SHORT || !is_plain(word.as_bytes()) {
+        return add_escaped(text, word);
+    }
+    text.push('"')?;
+    text.push_str(word)?;
+    text.push('"')
+}
+
+fn is_plain(bytes: &[u8]) -> bool
+    ensures { result ≡ list_all is_plain bytes.now }
+{
+    bytes
+        .iter()
+        .all(|byte| *byte >= 32 && *byte != b'"' && *byte != b'\\')
+}
+
+// The same by the writer of JSON, whatever stands in the word.
+fn add_escaped(text: &mut String, word: &str) -> Result<(), NoMemory>
     ensures { OnOk result (string_bytes text.new ≡ string_bytes text.old ++ plain.json_string word.now) }
 {
     let empty = String::new(*text.allocator());

@@ -34,7 +34,7 @@ lacks_failed : (test : ℕ → Bool) (mark : ℕ) → test mark ≡ false → (b
 lacks_failed test mark fails [] h = tt
 lacks_failed test mark fails (b ∷ bs) h = grind (arith, nat_tests, lacks_failed test mark fails bs)
 
-name_parts : (name : List ℕ) → is_name name ≡ true → list_all is_name_part name ≡ true
+pub name_parts : (name : List ℕ) → is_name name ≡ true → list_all is_name_part name ≡ true
 name_parts [] h = cc
 name_parts (c ∷ cs) h = grind arith
 

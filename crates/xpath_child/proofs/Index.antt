@@ -1,12 +1,14 @@
 -- The index of a step: what `]` closes, and the number of its digits.
-use Rattle.std.proofs.Common.{◌≡◌, ◌≢◌, ℕ, ◌-◌, ◌<◌, ◌≤◌, Bool, true, false, ◌&&◌, List, [], ◌∷◌, ◌++◌, length, take, get_or, Result, Option, Some, None, if◌then◌else◌, refl, sym, ◌∙◌, ap, arith, length-append, bytes_eq, rules}
+use Rattle.std.proofs.Common.{◌≡◌, ◌≢◌, ℕ, zero, suc, ◌+◌, ◌*◌, ◌-◌, ◌^◌, ◌<◌, ◌≤◌, Bool, true, false, ◌&&◌, List, [], ◌∷◌, ◌++◌, length, take, get_or, Option, Some, None, if◌then◌else◌, refl, sym, ◌∙◌, ap, arith, length-append, bytes_eq, rules}
 use Rattle.std.specs.List.{list_all}
 use Rattle.std.specs.Char.{is_ascii_digit}
-use Rattle.std.specs.Str.Parse.{digits_value, ParsesUnsigned}
-use Rattle.std.specs.Result.{result_ok}
-use Rattle.std.proofs.lemmas.Str.Parse.{IsNumeralModel, numerals_by_value, parse_gives, digits_value_short}
+use Rattle.std.specs.Str.Parse.{digits_value}
+use Rattle.std.proofs.lemmas.Str.Parse.{IsNumeralModel, numerals_by_value, digits_value_short}
+use Rattle.std.proofs.lemmas.Str.{digit_value_digit}
+use Rattle.std.proofs.lemmas.Int.Digits.{digits_value_more}
+use Rattle.std.proofs.lemmas.List.{length-take}
 use Rattle.std.proofs.lemmas.Slice.Eq.{bytes_eq-Decides}
-use Rattle.std.proofs.lemmas.Bool.{and_parts, and_right, false_from_ne_true, leb-true, ltb-true, eqb-false, not-true}
+use Rattle.std.proofs.lemmas.Bool.{and_parts, and_from, and_right, false_from_ne_true, leb-true, ltb-true, eqb-false, not-true}
 use Rattle.std.proofs.Math.Seq.{take-append_seam}
 use Rattle.xpath_child.specs.Fault.{front, is_index, is_closed_index}
 
@@ -44,11 +46,31 @@ index_parts ds h =
     let sizes = and_parts _ _ digits.0 in
     record { some = ltb-true _ _ sizes.0; few = leb-true _ _ sizes.1; digits = digits.1; first = eqb-false _ _ (not-true _ first.1) }
 
-pub parse_index : {E : Type 0} (ds : List ℕ) (r : Result ℕ E) → ParsesUnsigned 32 10 ds r → is_index ds ≡ true → result_ok r ≡ Some (digits_value 10 ds)
-parse_index ds r p h =
+-- ---- the number of its digits
+
+digit_here : (ds : List ℕ) (i : ℕ) → list_all is_ascii_digit ds ≡ true → i < length ds → is_ascii_digit (get_or ds i 0) ≡ true
+digit_here [] i h inside = absurd (omega arith)
+digit_here (d ∷ ds) zero h inside = (and_parts _ _ h).0
+digit_here (d ∷ ds) (suc i) h inside = digit_here ds i (and_parts _ _ h).1 (omega arith)
+
+digits_front : (ds : List ℕ) (i : ℕ) → list_all is_ascii_digit ds ≡ true → list_all is_ascii_digit (take i ds) ≡ true
+digits_front ds zero h = refl
+digits_front [] (suc i) h = refl
+digits_front (d ∷ ds) (suc i) h = let parts = and_parts _ _ h in and_from _ _ parts.0 (digits_front ds i parts.1)
+
+-- one digit more, all within 32 bits
+pub digit_next : (ds : List ℕ) (i n : ℕ) → is_index ds ≡ true → i < length ds → n ≡ digits_value 10 (take i ds)
+    → (48 ≤ get_or ds i 0) × (n * 10 + (get_or ds i 0 - 48) ≡ digits_value 10 (take (i + 1) ds)) × (n * 10 + (get_or ds i 0 - 48) < 10 ^ 9)
+digit_next ds i n h inside so_far =
     let parts = index_parts ds h in
-    let small = digits_value_short own ds 9 parts.digits parts.few in
-    ap result_ok (parse_gives own 32 ds r p parts.digits parts.some (omega (arith, small)))
+    let digit = and_parts _ _ (digit_here ds i parts.digits inside) in
+    let low : 48 ≤ get_or ds i 0 = leb-true _ _ digit.0 in
+    let high : get_or ds i 0 ≤ 57 = leb-true _ _ digit.1 in
+    let value = digit_value_digit (get_or ds i 0) (low, high) in
+    let small = digits_value_short own (take (i + 1) ds) 9 (digits_front ds (i + 1) parts.digits) (omega (arith, parts.few, length-take (i + 1) ds)) in
+    let more = digits_value_more 10 ds i inside in
+    let next : n * 10 + (get_or ds i 0 - 48) ≡ digits_value 10 (take (i + 1) ds) = omega (arith, more, value, low, so_far) in
+    (low, next, omega (arith, next, small))
 
 abbrev pub index_of : List ℕ → Option ℕ
 index_of text = if is_closed_index text then Some (digits_value 10 (front text)) else None

@@ -3,9 +3,10 @@ pub mod Members
 pub mod Places
 pub mod Numbers
 pub mod Steps
-pub mod Faults
 pub mod Sound
 pub mod Complete
 pub mod Answered
-pub mod Placed
+pub mod Cut
+pub mod Matched
+pub mod Named
 pub mod RealFaults

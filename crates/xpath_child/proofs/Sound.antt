@@ -13,16 +13,27 @@ use Rattle.std.proofs.lemmas.Str.Parse.{digits_value_short}
 use Rattle.std.proofs.lemmas.Fmt.{decimal-digits_value, decimal_digit}
 use Rattle.page_tree.specs.Name.{is_name}
 use Rattle.page_tree.specs.Limits.{max_depth}
+use Rattle.page_tree.specs.FirstFault.{ok_unless}
 use Rattle.xpath_child.specs.Path.{Step, IsStep, IsPath, index_text, step_text, path_text}
 use Rattle.xpath_child.specs.Fault.{fault_at, test_part, index_part, is_test, front, is_closed_index, text_fault, first_step_fault, written_steps, path_fault, test_in, step_in, path_in}
+use Rattle.xpath_child.specs.declared.fault.PathFault.{PathFault}
 use Rattle.xpath_child.specs.declared.fault.PathFaultKind.TheVariants.{NotAbsolute}
 use Rattle.page_tree.proofs.FirstFault.{unless-none, option_or-none}
-use Rattle.xpath_child.proofs.Faults.{else_none, unless_ok}
 use Rattle.xpath_child.proofs.Index.{own, IsIndex, index_parts}
+
+-- ---- what the results of tests tell
+
+pub else_none : {A : Type 0} (b : Bool) (y : A) → None ≡ cond b (Some y) None → b ≡ false
+else_none true y h = cc
+else_none false y h = refl
+
+unless_ok : {A : Type 0} (fault : Option PathFault) (x y : A) → ok_unless fault x ≡ Ok y → (fault ≡ None) × (x ≡ y)
+unless_ok None x y h = (refl, cc)
+unless_ok (Some e) x y h = cc
 
 -- ---- where a step is cut
 
-cond_is : {A : Type 0} (b : Bool) (x y : A) → cond b (Some x) None ≡ Some y → x ≡ y
+pub cond_is : {A : Type 0} (b : Bool) (x y : A) → cond b (Some x) None ≡ Some y → x ≡ y
 cond_is true x y h = cc
 cond_is false x y h = cc
 

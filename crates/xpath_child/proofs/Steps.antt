@@ -1,5 +1,5 @@
 -- One child more, and what stays once a search is settled.
-use Rattle.std.proofs.Common.{◌≡◌, ℕ, zero, suc, ◌+◌, ◌-◌, ◌≤◌, ◌⊎◌, inl, inr, Bool, true, false, true≢false, ◌&&◌, cond, eqb, List, [], ◌∷◌, ◌++◌, map, length, nat_le, Option, Some, None, refl, sym, ◌∙◌, ap, arith, zero-add, fold, filter, flat_map, count_by, leb-true, le-leb, ne_eqb}
+use Rattle.std.proofs.Common.{◌≡◌, ℕ, zero, suc, ◌+◌, ◌-◌, ◌≤◌, ◌<◌, ◌==◌, ◌⊎◌, inl, inr, Bool, true, false, ◌&&◌, cond, List, [], ◌∷◌, ◌++◌, map, length, nat_le, is_some, Option, Some, None, refl, sym, ◌∙◌, ap, arith, zero-add, fold, filter, flat_map, count_by, leb-true, le-leb, ne_eqb}
 use Rattle.std.specs.Option.{option_map_or}
 use Rattle.std.specs.List.{range_with_len}
 use Rattle.std.proofs.lemmas.Bool.{and_right}
@@ -7,6 +7,7 @@ use Rattle.std.proofs.lemmas.List.{append-nil}
 use Rattle.std.proofs.lemmas.List.Concat.{flat_map-append}
 use Rattle.std.proofs.lemmas.List.Elements.{filter-append}
 use Rattle.std.proofs.lemmas.List.Folds.{fold_stays}
+use Rattle.std.proofs.lemmas.List.Splits.{length-slice_split}
 use Rattle.std.proofs.lemmas.List.Sums.{fold-append, sum_by-append}
 use Rattle.page_tree.proofs.Numbers.{range-append}
 use Rattle.page_tree.specs.Tree.{Tree}
@@ -14,7 +15,8 @@ use Rattle.page_tree.specs.Look.{name_at, child_count_at}
 use Rattle.xpath_child.specs.Path.{Step}
 use Rattle.xpath_child.specs.Reaches.{matches, matching_before, is_nth, selects}
 use Rattle.xpath_child.specs.Targets.{selected_positions, places_below, places, target_of, target_in}
-use Rattle.xpath_child.specs.inside.Search.{note}
+use Rattle.xpath_child.specs.Fault.{written_steps, step_in}
+use Rattle.xpath_child.specs.inside.Search.{steps_in, note}
 use Rattle.xpath_child.specs.declared.path.Target.{Target}
 use Rattle.xpath_child.specs.declared.path.Target.TheVariants.{Missing, Several}
 
@@ -97,16 +99,29 @@ module _ (page : Tree) (step : Step) (rest : List Step) (at : List ℕ) where
         | inr past ↦ so_far ∙ ap (fold note found) (sym (past_stays i (n - i) (ap (λ b. option_map_or (λ m. nat_le m b) step.index false) (sym count) ∙ past))) ∙ whole
       ]
 
+-- ---- a child that matches, and one that doesn't
+
+module _ (page : Tree) (step : Step) (rest : List Step) (child : List ℕ) (before : ℕ) where
+  pub match_noted : (index : Option ℕ) (left : List Step) (now next : Target) → matches step.test (name_at child page) ≡ true → index ≡ step.index → left ≡ rest
+      → next ≡ fold note now (cond (is_nth index before) (places_below page left child) []) → next ≡ fold note now (cond (matches step.test (name_at child page) && is_nth step.index before) (places_below page rest child) [])
+  match_noted index left now next matched same same_rest e =
+      e ∙ ap (λ n. fold note now (cond (is_nth n before) (places_below page left child) [])) same
+      ∙ ap (λ steps. fold note now (cond (is_nth step.index before) (places_below page steps child) [])) same_rest
+      ∙ ap (λ m. fold note now (cond (m && is_nth step.index before) (places_below page rest child) [])) (sym matched)
+
+  pub other_noted : (now : Target) → matches step.test (name_at child page) ≡ false → now ≡ fold note now (cond (matches step.test (name_at child page) && is_nth step.index before) (places_below page rest child) [])
+  other_noted now other = ap (λ m. fold note now (cond (m && is_nth step.index before) (places_below page rest child) [])) (sym other)
+
 -- ---- a child without children, from which further steps reach nothing
 
-none_below : {A : Type 0} (f : A → Step) (page : Tree) (steps : List A) (at : List ℕ) → eqb (length steps) 0 ≡ false → child_count_at at page ≡ 0 → places_below page (map f steps) at ≡ []
-none_below f page [] at more none = absurd (true≢false more)
-none_below f page (step ∷ steps) at more none = ap (through page (f step) (map f steps) at) none
+none_below : (page : Tree) (texts : List (List ℕ)) (at : List ℕ) → 0 < length texts → child_count_at at page ≡ 0 → places_below page (map step_in texts) at ≡ []
+none_below page [] at some none = absurd (omega arith)
+none_below page (text ∷ texts) at some none = ap (through page (step_in text) (map step_in texts) at) none
 
-pub nothing_noted : {A : Type 0} (f : A → Step) (page : Tree) (steps : List A) (at : List ℕ) (found : Target) (b : Bool) → eqb (length steps) 0 ≡ false → child_count_at at page ≡ 0
-    → found ≡ fold note found (cond b (places_below page (map f steps) at) [])
-nothing_noted f page steps at found true more none = sym (ap (fold note found) (none_below f page steps at more none))
-nothing_noted f page steps at found false more none = refl
+pub nothing_noted : (page : Tree) (left : Option (List ℕ)) (at : List ℕ) (found : Target) (b : Bool) → is_some left ≡ true → child_count_at at page ≡ 0 → found ≡ fold note found (cond b (places_below page (steps_in left) at) [])
+nothing_noted page None at found b more none = cc
+nothing_noted page (Some text) at found true more none = sym (ap (fold note found) (none_below page (written_steps text) at (omega (arith, length-slice_split (λ c. c == 47) text)) none))
+nothing_noted page (Some text) at found false more none = refl
 
 -- ---- a whole path
 

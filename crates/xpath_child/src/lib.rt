@@ -9,6 +9,7 @@
 mod fault;
 mod limits;
 mod path;
+mod shared_text;
 mod step;
 
 pub use fault::{PathFault, PathFaultKind};

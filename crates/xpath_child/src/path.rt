@@ -1,19 +1,20 @@
 //! Paths, and what they select on a page.
-ghost use Rattle.std.specs.Prelude.{◌≡◌, ◌≢◌, ◌↔◌, ◌<◌, ℕ, List, IsTrue, Some, None, IfOk, IfErr, option_map};
+ghost use Rattle.std.specs.Prelude.{◌≡◌, ◌≢◌, ◌↔◌, ◌<◌, ℕ, List, IsTrue, Ok, Some, None, IfSome, IfOk, IfErr, option_map};
 ghost use Rattle.page_tree.specs.Tree.{Tree};
 ghost use Rattle.page_tree.specs.Limits.{nodes};
+ghost use Rattle.page_tree.specs.Name.{is_name};
 ghost use Rattle.page_tree.specs.Look.{name_at};
 ghost use Rattle.page_tree.specs.Number.{place_numbered};
 ghost use Rattle.xpath_child.specs.Path.{Step as Plain, IsPath, path_text};
-ghost use Rattle.xpath_child.specs.Fault.{path_in, path_fault, test_in, GivesPath};
-ghost use Rattle.xpath_child.specs.inside.Placed.{AllStandIn};
-ghost use Rattle.xpath_child.specs.Reaches.{IsTarget, matches};
+ghost use Rattle.xpath_child.specs.Fault.{path_in, path_fault, GivesPath};
+ghost use Rattle.xpath_child.specs.Reaches.{IsTarget};
 ghost use Rattle.xpath_child.specs.Targets.{target_in, only_place, place_found};
 ghost use Rattle.xpath_child.specs.declared.fault.PathFaultKind.TheVariants.{NoMemory};
-ghost use Rattle.xpath_child.specs.inside.Search.{note, Notes, hits_from, hits_at};
+ghost use Rattle.xpath_child.specs.inside.Search.{AreSteps, note, Notes, hits_from, hits_behind};
 
-use crate::fault::{PathFault, PathFaultKind};
-use crate::step::{Step, matches, read_steps};
+use crate::fault::PathFault;
+use crate::shared_text::SharedText;
+use crate::step::{Tail, end_of_match, fault_of};
 use page_tree::{NoMemory, Page, Place, Text};
 use std::alloc::Global;
 use std::marker::Model;
@@ -21,29 +22,22 @@ use std::marker::Model;
 /// A path: 1 to 48 steps, each `/`, then `*` or a name of 1 to 64 bytes, then at most one index `[n]` of 1 to 9 digits, the first not 0. It is
 /// this project's own part of the location paths of XPath 1.0 (sections 2 to 2.5). Contracts see it as the list of its steps.
 ///
-/// It is kept in three blocks of memory, however many steps it has, and is as small as a reference where it is moved.
+/// It is kept as its text alone, which copies share, and cut into steps at each search.
 #[derive(Debug, Drop)]
 pub struct Path {
-    written: Box<Written>,
-}
-
-// A text, and where each of its steps stands there.
-#[derive(Debug, Drop)]
-struct Written {
-    text: Text,
-    steps: Vec<Step>,
+    text: SharedText,
 }
 
 impl Model for Path {
-    ghost use Rattle.std.specs.Prelude.{List};
+    ghost use Rattle.std.specs.Prelude.{◌≡◌, List, None, map, drop};
     ghost use Rattle.xpath_child.specs.Path.{Step};
-    ghost use Rattle.xpath_child.specs.inside.Placed.{steps_seen, IsTextOf};
+    ghost use Rattle.xpath_child.specs.Fault.{path_fault, step_in, written_steps};
 
     ghost Value = { List Step };
 
-    ghost view = { λ p. steps_seen p.written.value.text p.written.value.steps.items };
+    ghost view = { λ p. map step_in (written_steps (drop 1 p.text)) };
 
-    ghost invariant = { λ p. IsTextOf p.written.value.text p.written.value.steps.items };
+    ghost invariant = { λ p. path_fault p.text ≡ None };
 }
 
 impl Path {
@@ -62,39 +56,38 @@ impl Path {
         // The same as a function of the text.
         ensures exact { GivesPath (λ path. path) result (path_in text.now) }
     {
-        let Some(rest) = text.strip_prefix('/') else {
-            return Err(PathFaultKind::NotAbsolute.at(0));
-        };
-        let steps = read_steps(alloc, rest)?;
-        let text = Text::from_str(alloc, text)?;
-        Ok(Path {
-            written: Box::new(alloc, Written { text, steps })?,
-        })
+        match fault_of(text) {
+            Some(fault) => Err(fault),
+            None => Ok(Path {
+                text: SharedText::from_str(alloc, text)?,
+            }),
+        }
     }
 
     /// The text of the path, which is the one that was read.
     pub fn write(&self) -> Result<Text, NoMemory>
         ensures { IfOk result (λ text. text ≡ path_text self.now) }
     {
-        Text::from_str(*self.written.steps.allocator(), self.written.text.as_str())
+        self.text.to_text()
     }
 
     /// What the path selects on a page, as `select`, by its number. The first step selects from the document, whose only child is the root.
     ///
-    /// It takes no memory. For each step, a child of a node that was reached is looked at once. The search stops at a second node, and at each
-    /// node once the index is past.
+    /// It takes no memory. Each child of a node that a step reached is looked at once, and its name compared with the text. The search stops at a second
+    /// node, and at each node once the index is past.
     pub fn find(&self, page: &Page) -> Found
         ensures target { IsTarget self.now page.now (place_found page.now result) }
         ensures exact { place_found page.now result ≡ target_in self.now page.now }
         ensures there { (number : ℕ) → result ≡ Found.One number → number < nodes page.now }
     {
-        let Some((step, rest)) = self.written.steps.as_slice().split_first() else {
+        let Some(steps) = self.text.as_str().strip_prefix('/') else {
+            return Found::Missing;
+        };
+        let Some(end) = end_of_match(steps, name_of(page, 0)) else {
             return Found::Missing;
         };
         let mut found = Found::Missing;
-        let text = self.written.text.as_str().as_bytes();
-        let test = step.test(text);
-        visit_child(page, text, test, step, rest, 0, 0, &mut found);
+        visit_child(page, Tail::of(steps, end), 0, 0, &mut found);
         found
     }
 
@@ -110,15 +103,28 @@ impl Path {
         }
     }
 
-    /// An equal path.
+    /// An equal path. Its text isn't copied.
     pub fn copy(&self) -> Result<Path, NoMemory>
         ensures { IfOk result (λ copy. copy ≡ self.now) }
     {
-        let text = self.written.text.copy()?;
-        let steps = self.written.steps.clone()?;
         Ok(Path {
-            written: Box::new(*steps.allocator(), Written { text, steps })?,
+            text: self.text.copy()?,
         })
+    }
+
+    /// Whether two paths are equal: their texts are.
+    pub fn same(&self, other: &Path) -> bool
+        ensures { IsTrue result ↔ (self.now ≡ other.now) }
+    {
+        self.text.as_str() == other.text.as_str()
+    }
+
+    /// Whether it is the path of this text.
+    pub fn is_of(&self, text: &str) -> bool
+        ensures same { IsTrue result ↔ (path_text self.now ≡ text.now) }
+        ensures read { IsTrue result → path_in text.now ≡ Ok self.now }
+    {
+        self.text.as_str() == text
     }
 }
 
@@ -174,59 +180,58 @@ impl Found {
     }
 }
 
-// Notes the nodes that the steps of that text reach from a node.
+// Notes the nodes that these steps, each but the first behind a `/`, reach from a node: the node itself where there are none.
 #[cycle(visit)]
 #[inline(never)]
-fn visit(page: &Page, text: &[u8], steps: &[Step], at: u32, found: &mut Found)
-    requires { AllStandIn text.now steps.now }
-    ensures { Notes page.now found.old found.new (hits_from page.now text.now steps.now at) }
+fn visit(page: &Page, steps: Option<&str>, at: u32, found: &mut Found)
+    requires { AreSteps (option_map (λ text. text.now) steps) }
+    ensures { Notes page.now found.old found.new (hits_from page.now (option_map (λ text. text.now) steps.entry) at) }
 {
-    let Some((step, rest)) = steps.split_first() else {
+    let Some(text) = steps else {
         found.note(at);
         return;
     };
-    let test = step.test(text);
+    let mut known = None;
     let mut child = page.nodes_under(at).start;
     let mut before = 0;
     for i in 0..page.children_of(at) {
-        if found.is_several() || step.is_past(before) {
-            return;
-        }
-        if visit_child(page, text, test, step, rest, child, before, found) {
+        if let Some(end) = end_of_match(text, name_of(page, child)) {
+            let tail = Tail::known_or_of(known, text, end);
+            visit_child(page, tail, child, before, found);
             before += 1;
+            if found.is_several() || tail.is_past(before) {
+                return;
+            }
+            known = Some(tail);
         }
         child = page.nodes_under(child).end;
     }
 }
 
-// Notes the nodes that a step of that test and the rest reach through one child, before which so many siblings match. It says whether the child matches.
-// It stands within the loop of `visit`, so that a child which doesn't match costs no call: that makes a search a third shorter.
+// Notes the nodes that are reached behind a child that matches, before which so many siblings match. It stands within the loop of `visit`, so that a child
+// which isn't picked costs no call.
 #[cycle(visit)]
 #[inline(always)]
-fn visit_child(
-    page: &Page,
-    text: &[u8],
-    test: &[u8],
-    step: &Step,
-    rest: &[Step],
-    child: u32,
-    before: u32,
-    found: &mut Found,
-) -> bool
-    requires { AllStandIn text.now rest.now }
-    ensures matched { result ≡ matches (test_in test.now) (name_at (place_numbered child page.now) page.now) }
-    ensures noted { Notes page.now found.old found.new (hits_at page.now test.now step.now before text.now rest.now child) }
+fn visit_child(page: &Page, tail: Tail<'_>, child: u32, before: u32, found: &mut Found)
+    requires { AreSteps (option_map (λ text. text.now) tail.rest) }
+    ensures { Notes page.now found.old found.new (hits_behind page.now tail.entry before child) }
 {
-    if !matches(test, page.name_of(child)) {
-        return false;
-    }
-    if !step.picks(before) {
-        return true;
+    if !tail.picks(before) {
+        return;
     }
     // (further steps reach nothing from a child without children)
-    if !rest.is_empty() && page.children_of(child) == 0 {
-        return true;
+    if tail.rest.is_some() && page.children_of(child) == 0 {
+        return;
     }
-    visit(page, text, rest, child, found);
-    true
+    visit(page, tail.rest, child, found);
+}
+
+// The name of a node, which is one that a step may have; none for a text.
+#[inline(always)]
+fn name_of(page: &Page, number: u32) -> Option<&str>
+    ensures exact { option_map (λ name. name.now) result ≡ name_at (place_numbered number page.now) page.now }
+    ensures name { IfSome result (λ name. IsTrue (is_name name.now)) }
+{
+    page.within_limits();
+    page.name_of(number)
 }

@@ -1,35 +1,64 @@
-//! The steps of a path: where they stand in its text, how they are read, and which nodes they match.
-ghost use Rattle.std.specs.Prelude.{◌≡◌, ◌+◌, ◌^◌, ◌<◌, ◌≤◌, length, option_map, if◌then◌else◌, nat_le, false, Some, None};
-ghost use Rattle.std.specs.List.{list_all};
+//! The steps of a path: how they stand in its text, their faults, and which nodes they match.
+ghost use Rattle.std.specs.Prelude.{◌≡◌, ◌+◌, ◌^◌, ◌<◌, ◌==◌, length, drop, option_map, if◌then◌else◌, nat_le, IsTrue, false, Some, None, IfSome};
+ghost use Rattle.std.specs.List.{list_all, before_first, position};
 ghost use Rattle.std.specs.Char.{is_ascii_digit};
-ghost use Rattle.page_tree.specs.FirstFault.{ok_unless};
-ghost use Rattle.xpath_child.specs.Fault.{test_part, index_part, test_in, is_test, is_index, is_closed_index, front, text_fault, first_step_fault, written_steps, GivesPath};
-ghost use Rattle.xpath_child.specs.inside.Placed.{step_seen, step_at, placed_steps};
-ghost use Rattle.xpath_child.specs.Reaches.{matches, is_nth};
 ghost use Rattle.std.specs.Option.{option_map_or};
+ghost use Rattle.std.specs.Str.{bytes_eq};
 ghost use Rattle.std.specs.Str.Parse.{digits_value};
+ghost use Rattle.page_tree.specs.Name.{is_name};
+ghost use Rattle.xpath_child.specs.Fault.{is_test, is_index, is_closed_index, test_part, front, text_fault, first_step_fault, written_steps, path_fault, step_in};
+ghost use Rattle.xpath_child.specs.Reaches.{matches, is_nth};
+ghost use Rattle.xpath_child.specs.inside.Search.{AreSteps, first_in, is_inner, ends_test, IsTail};
 
 use crate::fault::{PathFault, PathFaultKind};
 use crate::limits::{MAX_INDEX_DIGITS, MAX_STEPS};
 use page_tree::is_name;
-use std::alloc::Global;
 
-/// Where a step's name, or its `*`, stands in the text of the path, and its index, counted from 1.
-#[derive(Clone, Copy, Debug)]
-pub(crate) struct Step {
-    start: u16,
-    len: u16,
+/// What stands behind the test of a step: its index, counted from 1, and the steps that follow, if there are any.
+#[derive(Clone, Copy)]
+pub(crate) struct Tail<'a> {
     index: Option<u32>,
+    pub(crate) rest: Option<&'a str>,
 }
 
-impl Step {
-    /// Its test, as it stands in the text: a name, or `*`.
-    pub(crate) fn test<'a>(&self, text: &'a [u8]) -> &'a [u8]
-        requires { self.now.start + self.now.len ≤ length text.now }
-        ensures { test_in result.now ≡ (step_seen text.now self.now).test }
+impl<'a> Tail<'a> {
+    /// That of the first of these steps, whose test ends there.
+    pub(crate) fn of(steps: &'a str, end: usize) -> Tail<'a>
+        requires steps { AreSteps (Some steps.now) }
+        requires end { end ≡ length (test_part (first_in steps.now)) }
+        ensures { IsTail steps.now result }
     {
-        let start = usize::from(self.start);
-        &text[start..start + usize::from(self.len)]
+        match steps.as_bytes().get(end) {
+            None => Tail {
+                index: None,
+                rest: None,
+            },
+            Some(b'[') => {
+                let (index, rest) = cut(&steps[end + 1..], b'/');
+                Tail {
+                    index: Some(closed_index(index)),
+                    rest,
+                }
+            }
+            Some(_) => Tail {
+                index: None,
+                rest: Some(&steps[end + 1..]),
+            },
+        }
+    }
+
+    /// The same, where it may be known already.
+    #[inline(always)]
+    pub(crate) fn known_or_of(known: Option<Tail<'a>>, steps: &'a str, end: usize) -> Tail<'a>
+        requires steps { AreSteps (Some steps.now) }
+        requires end { end ≡ length (test_part (first_in steps.now)) }
+        requires known { IfSome known (λ tail. IsTail steps.now tail) }
+        ensures { IsTail steps.now result }
+    {
+        match known {
+            Some(tail) => tail,
+            None => Tail::of(steps, end),
+        }
     }
 
     /// Whether the index, if there is one, picks a match before which so many stand.
@@ -53,70 +82,115 @@ impl Step {
     }
 }
 
-/// Whether a node of that name, if it has one, matches a test.
-pub(crate) fn matches(test: &[u8], name: Option<&str>) -> bool
-    ensures { result ≡ matches (test_in test.now) (option_map (λ s. s.now) name.entry) }
+/// Where the test of the first of these steps ends, if a node of that name matches it. No step is cut off for that: the text is compared with the name.
+#[inline(always)]
+pub(crate) fn end_of_match(steps: &str, name: Option<&str>) -> Option<usize>
+    requires { IfSome name (λ name. IsTrue (is_name name.now)) }
+    ensures { result ≡ (if matches (step_in (first_in steps.now)).test (option_map (λ name. name.now) name.entry)
+        then Some (length (test_part (first_in steps.now))) else None) }
 {
-    match name {
+    let name = name?;
+    if begins_with(steps.as_bytes(), name.as_bytes()) {
+        Some(name.len())
+    } else if begins_with(steps.as_bytes(), b"*") {
+        Some(1)
+    } else {
+        None
+    }
+}
+
+// Whether the first of these steps has that test.
+#[inline(always)]
+fn begins_with(steps: &[u8], test: &[u8]) -> bool
+    requires { IsTrue (list_all is_inner test.now) }
+    ensures { result ≡ bytes_eq (test_part (first_in steps.now)) test.now }
+{
+    match steps.split_at_checked(test.len()) {
         None => false,
-        Some(name) => test == b"*".as_slice() || test == name.as_bytes(),
+        Some((front, tail)) => ends_test(tail) && front == test,
     }
 }
 
-/// The steps of what stands after the first `/` of a text; X5 where there are too many.
-pub(crate) fn read_steps(alloc: Global, rest: &str) -> Result<Vec<Step>, PathFault>
-    requires { length rest.now + 1 < 2 ^ 64 }
-    ensures { GivesPath (λ steps. steps.items) result
-        (ok_unless (first_step_fault 0 1 (written_steps rest.now)) (placed_steps 1 (written_steps rest.now))) }
+// Whether a test may end before these bytes.
+#[inline(always)]
+fn ends_test(tail: &[u8]) -> bool
+    ensures { result ≡ ends_test tail.now }
 {
-    let mut steps = Vec::new(alloc);
-    let mut slash = 0;
-    for text in rest.split('/') {
-        let start = slash + 1;
-        if steps.len() == MAX_STEPS {
-            return Err(PathFaultKind::TooManySteps.at(start));
-        }
-        steps.push(read_step(start, text)?)?;
-        slash = start + text.len();
+    match tail {
+        [] => true,
+        [c, ..] => *c == b'/' || *c == b'[',
     }
-    Ok(steps)
 }
 
-// The step of a text that begins at that byte; X2, X3 or X4 where it is none.
-fn read_step(start: usize, text: &str) -> Result<Step, PathFault>
-    requires room { start + length text.now < 2 ^ 64 }
-    requires low { start < 2 ^ 16 }
-    ensures { GivesPath (λ step. step) result (ok_unless (text_fault start text.now) (step_at start text.now)) }
+// What stands before the first such byte, and what stands after it, if there is one. It looks at byte after byte: for a short step that is less work
+// than `split_once`, for one of 64 bytes more.
+fn cut(text: &str, mark: u8) -> (&str, Option<&str>)
+    requires { mark < 128 }
+    ensures before { result.0.now ≡ before_first (λ c. c == mark) text.now }
+    ensures after { option_map (λ rest. rest.now) result.1
+        ≡ option_map (λ i. drop (i + 1) text.now) (position (λ c. c == mark) text.now) }
+{
+    match place_of(text, mark) {
+        None => (text, None),
+        Some(at) => (&text[..at], Some(&text[at + 1..])),
+    }
+}
+
+fn place_of(text: &str, mark: u8) -> Option<usize>
+    ensures { result ≡ position (λ c. c == mark) text.now }
+{
+    text.as_bytes().iter().position(|c| *c == mark)
+}
+
+/// The first fault of a text; X1 where it doesn't begin with `/`.
+pub(crate) fn fault_of(text: &str) -> Option<PathFault>
+    ensures { result ≡ path_fault text.now }
+{
+    match text.strip_prefix('/') {
+        Some(rest) => fault_of_steps(rest),
+        None => Some(PathFaultKind::NotAbsolute.at(0)),
+    }
+}
+
+// The first fault of what stands after the first `/` of a text; X5 where there are too many steps.
+fn fault_of_steps(text: &str) -> Option<PathFault>
+    requires { length text.now + 1 < 2 ^ 64 }
+    ensures { result ≡ first_step_fault 0 1 (written_steps text.now) }
+{
+    let mut start = 1;
+    let mut left = text;
+    for _before in 0..MAX_STEPS {
+        let (step, rest) = cut(left, b'/');
+        let fault = fault_of_step(start, step);
+        if fault.is_some() {
+            return fault;
+        }
+        let Some(rest) = rest else {
+            return None;
+        };
+        start += step.len() + 1;
+        left = rest;
+    }
+    Some(PathFaultKind::TooManySteps.at(start))
+}
+
+// The fault of a step's own text, which begins at that byte: X2, X3 or X4.
+fn fault_of_step(start: usize, text: &str) -> Option<PathFault>
+    requires { start + length text.now < 2 ^ 64 }
+    ensures { result ≡ text_fault start text.now }
 {
     if text.is_empty() {
-        return Err(PathFaultKind::EmptyStep.at(start));
+        return Some(PathFaultKind::EmptyStep.at(start));
     }
-    let (test_part, index_part) = cut(text);
-    if !is_test(test_part) {
-        return Err(PathFaultKind::BadName.at(start));
+    let (test, index) = cut(text, b'[');
+    if !is_test(test) {
+        return Some(PathFaultKind::BadName.at(start));
     }
-    let index = match index_part {
-        None => None,
-        Some(rest) => match read_index(rest) {
-            None => return Err(PathFaultKind::BadIndex.at(start + test_part.len())),
-            Some(n) => Some(n),
-        },
-    };
-    Ok(Step {
-        start: start as u16,
-        len: test_part.len() as u16,
-        index,
-    })
-}
-
-// What stands before the first `[`, and what stands after it.
-fn cut(text: &str) -> (&str, Option<&str>)
-    ensures before { result.0.now ≡ test_part text.now }
-    ensures after { option_map (λ rest. rest.now) result.1 ≡ index_part text.now }
-{
-    match text.split_once('[') {
-        None => (text, None),
-        Some((before, after)) => (before, Some(after)),
+    match index {
+        Some(rest) if read_index(rest).is_none() => {
+            Some(PathFaultKind::BadIndex.at(start + test.len()))
+        }
+        _ => None,
     }
 }
 
@@ -132,10 +206,31 @@ fn read_index(text: &str) -> Option<u32>
 {
     let digits = text.strip_suffix(']')?;
     if is_index(digits) {
-        digits.parse().ok()
+        Some(number(digits.as_bytes()))
     } else {
         None
     }
+}
+
+// The same, where it is known to be one.
+fn closed_index(text: &str) -> u32
+    requires { IsTrue (is_closed_index text.now) }
+    ensures { result ≡ digits_value 10 (front text.now) }
+{
+    let bytes = text.as_bytes();
+    number(&bytes[..bytes.len() - 1])
+}
+
+// What the digits of an index say: byte after byte is half the work of `parse`.
+fn number(digits: &[u8]) -> u32
+    requires { IsTrue (is_index digits.now) }
+    ensures { result ≡ digits_value 10 digits.now }
+{
+    let mut n = 0;
+    for c in digits {
+        n = n * 10 + u32::from(*c - b'0');
+    }
+    n
 }
 
 // 1 to 9 digits, the first not 0.

@@ -1,9 +1,11 @@
 -- What the code looks at besides: the parts of a node that no contract of a caller names.
-use Rattle.std.specs.Prelude.{ℕ, List, []}
+use Rattle.std.specs.Prelude.{ℕ, List, [], Bool, Option}
 use Rattle.std.specs.Option.{option_map_or}
 use Rattle.page_tree.specs.Tree.{Attribute, Tree, Trees, no_trees}
 use Rattle.page_tree.specs.Look.{node_at, attributes_of, children_of, words_of}
 use Rattle.page_tree.specs.Control.{start_text}
+use Rattle.page_tree.specs.Limits.{is_element}
+use Rattle.page_tree.specs.Number.{is_named}
 
 -- the attributes of the node there; none where no node is
 abbrev pub attributes_at : List ℕ → Tree → List Attribute
@@ -20,3 +22,7 @@ named_start_text name place t = start_text name (attributes_at place t) (childre
 -- the text there; empty for an element, or where no node is
 abbrev pub words_at : List ℕ → Tree → List ℕ
 words_at place t = option_map_or words_of (node_at place t) []
+
+-- the elements, or those of that name
+abbrev pub is_element_of : Option (List ℕ) → Tree → Bool
+is_element_of name = option_map_or is_named name is_element

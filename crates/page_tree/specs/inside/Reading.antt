@@ -2,14 +2,12 @@
 use Rattle.std.specs.Prelude.{◌≡◌, ◌≢◌, ℕ, ◌≤◌, List, ◌++◌, length, Bool, true, false, Option, Some, Result, Ok, Err}
 use Rattle.std.specs.Option.{option_map_or}
 use Rattle.serde_json.specs.Data.{Data, Items}
-use Rattle.page_tree.specs.Tree.{Tree, Trees, no_trees, tree}
+use Rattle.page_tree.specs.Tree.{Tree, Trees}
 use Rattle.page_tree.specs.Limits.{max_nodes}
-use Rattle.page_tree.specs.Look.{count, name_of}
 use Rattle.page_tree.specs.Value.{StandsFor, AllStandFor}
 use Rattle.page_tree.specs.Fault.{first_fault}
-use Rattle.page_tree.specs.inside.Table.{Line, spot_behind, lines_of, lines_from}
-use Rattle.page_tree.specs.inside.Building.{Passed}
-use Rattle.page_tree.specs.declared.siblings.Siblings.{Siblings}
+use Rattle.page_tree.specs.inside.Table.{Line, lines_of, lines_from}
+use Rattle.page_tree.specs.declared.rows.Spot.{Spot}
 use Rattle.page_tree.specs.declared.fault.PageFault.{PageFault}
 use Rattle.page_tree.specs.declared.fault.PageFault.TheVariants.{NoMemory}
 
@@ -26,20 +24,14 @@ abbrev pub ReadsPart : {X Y : Type 0} → (X → Y) → (Y → Bool) → PageFau
 ReadsPart view test fault given (Ok x) = (given ≡ Some (view x)) × (test (view x) ≡ true)
 ReadsPart view test fault given (Err e) = e ≢ NoMemory → (e ≡ fault) × (option_map_or test given false ≡ false)
 
--- no more siblings were passed than nodes were read
-abbrev pub HasPassed : Siblings → ℕ → Type 0
-HasPassed siblings many = (before : Trees) × Passed before siblings × (count before ≤ many)
-
--- the node that a value stands for was added, behind the siblings that were passed before
-pub record Adds (d : Data) (parent : ℕ) (siblings passes : Siblings) (old new : List Line) : Type 0 where
+-- the node that a value stands for was added, which stands there
+pub record Adds (d : Data) (spot : Spot) (old new : List Line) : Type 0 where
   pub added : Tree
   pub stands : StandsFor d added
-  pub lines : (before : Trees) → Passed before siblings
-      → (new ≡ old ++ lines_of (spot_behind parent before (name_of added)) (length old) added)
-      × Passed (tree added before) passes
+  pub lines : new ≡ old ++ lines_of spot (length old) added
   pub few : length new ≤ max_nodes
 
 -- those that some values stand for were added, the children of that parent
 abbrev pub AddsAll : Items → ℕ → List Line → List Line → Type 0
-AddsAll ds parent old new = (ts : Trees) × AllStandFor ds ts × (new ≡ old ++ lines_from parent no_trees (length old) ts)
+AddsAll ds parent old new = (ts : Trees) × AllStandFor ds ts × (new ≡ old ++ lines_from parent 0 (length old) ts)
     × (length new ≤ max_nodes)

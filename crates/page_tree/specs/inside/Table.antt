@@ -1,11 +1,11 @@
 -- A page as the table of its nodes, in document order: the lines that the rows of the code stand for.
-use Rattle.std.specs.Prelude.{◌≡◌, ℕ, zero, suc, ◌+◌, List, [], ◌∷◌, ◌++◌, Option, None, unwrap_or}
+use Rattle.std.specs.Prelude.{◌≡◌, ℕ, zero, suc, ◌+◌, List, [], ◌∷◌, ◌++◌, Option, unwrap_or}
 use Rattle.std.specs.Option.{option_map_or}
 use Rattle.page_tree.specs.Tree.{Attribute, Tree, element, words, Trees, no_trees, tree}
-use Rattle.page_tree.specs.Limits.{nodes, is_element, IsPage}
+use Rattle.page_tree.specs.Limits.{nodes, IsPage}
 use Rattle.page_tree.specs.Look.{children_of, nth_child, name_of, count, attributes_of, words_of}
-use Rattle.page_tree.specs.Number.{first_trees, count_of, is_named}
-use Rattle.page_tree.specs.declared.table.Spot.{Spot}
+use Rattle.page_tree.specs.Number.{first_trees}
+use Rattle.page_tree.specs.declared.rows.Spot.{Spot}
 
 pub record Line : Type 0 where
   -- an element's name, and what a text says
@@ -25,14 +25,9 @@ line_on t spot end n =
 
 -- ---- the table of a tree
 
--- where an element of that name, or a text, stands behind these siblings, the nearest first
-abbrev pub spot_behind : ℕ → Trees → Option (List ℕ) → Spot
-spot_behind parent before name = record {
-  parent = parent;
-  position = count before;
-  elements_before = option_map_or (λ _. count_of is_element before) name 0;
-  same_before = option_map_or (λ own. count_of (is_named own) before) name 0;
-}
+-- where the i-th child of that parent stands, from 0 on
+abbrev pub nth_spot : ℕ → ℕ → Spot
+nth_spot parent i = record { parent = parent; position = i }
 
 abbrev pub line_of : Spot → ℕ → Tree → Line
 line_of spot at t = line_on t spot (at + nodes t) (count (children_of t))
@@ -41,17 +36,17 @@ abbrev mutual
   -- of a node that has that number and stands there
   pub lines_of : Spot → ℕ → Tree → List Line
   lines_of spot at (element name attributes children) =
-      line_of spot at (element name attributes children) ∷ lines_from at no_trees (suc at) children
+      line_of spot at (element name attributes children) ∷ lines_from at 0 (suc at) children
   lines_of spot at (words text) = line_of spot at (words text) ∷ []
 
-  -- of the further children of that parent, behind these siblings, the nearest first
-  pub lines_from : ℕ → Trees → ℕ → Trees → List Line
-  lines_from parent before at no_trees = []
-  lines_from parent before at (tree t ts) =
-      lines_of (spot_behind parent before (name_of t)) at t ++ lines_from parent (tree t before) (at + nodes t) ts
+  -- of the children of that parent, from the i-th on
+  pub lines_from : ℕ → ℕ → ℕ → Trees → List Line
+  lines_from parent i at no_trees = []
+  lines_from parent i at (tree t ts) =
+      lines_of (nth_spot parent i) at t ++ lines_from parent (suc i) (at + nodes t) ts
 
 abbrev pub lines : Tree → List Line
-lines t = lines_of (spot_behind 0 no_trees None) 0 t
+lines t = lines_of (nth_spot 0 0) 0 t
 
 -- ---- the tree of a table
 

@@ -19,7 +19,7 @@ pool_of table_id terms = record { table_id = table_id; count = terms.count; work
 pub record IsClaims (table_id : TableId) (terms : Terms) : Type 0 where
   pub one : table_id.words ≡ 1
   pub none : table_id.slots ≡ 0
-  pub small : terms.count < 2 ^ 32
+  pub small : terms.count < 2 ^ 63
   pub workers : AreWorkers terms.workers
 
 -- the pass has one list, and nothing of the table is out with it

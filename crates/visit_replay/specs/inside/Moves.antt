@@ -1,25 +1,54 @@
--- Which requests of a visit go elsewhere now, as the code keeps it by their numbers while it goes through the events.
-use Rattle.std.specs.Prelude.{ℕ, ◌≡◌, ◌≢◌, ◌+◌, List, Bool, option_map, take}
+-- Which requests of a visit go elsewhere now, as the code keeps it of the numbers that are asked for while it goes
+-- through the events.
+use Rattle.std.specs.Prelude.{ℕ, ◌≡◌, ◌≢◌, ◌+◌, List, Bool, true, false, Option, Some, None, option_map, take, is_some}
 use Rattle.std.specs.Borrow.{Bor}
 use Rattle.std.specs.BTreeMap.{BTreeMap, get}
 use Rattle.std.specs.Ordering.{nat_cmp}
-use Rattle.upload_reader.specs.declared.message.Event.{Event}
 use Rattle.client_log.specs.declared.visit.Visit.{Visit}
-use Rattle.visit_replay.specs.Moved.{event_numbered, own_request, address_now, are_apart}
+use Rattle.visit_replay.specs.Moved.{event_numbered, address_now, is_moved}
+use Rattle.visit_replay.specs.declared.moves.Asked.{Asked}
 use Rattle.visit_replay.specs.declared.outcome.Outcome.{Outcome}
 
--- the map tells whether the request goes elsewhere that these events, the visit's first, made under a number
-abbrev pub Knows : Visit → Outcome → List Event → BTreeMap ℕ Bool → Type 0
-Knows visit outcome events moves = (number : ℕ) → number ≢ 0 → get nat_cmp moves number
-    ≡ option_map (λ k. are_apart (own_request visit k) (address_now outcome number)) (event_numbered events number)
+-- a number of those that are asked for, with what was found of it
+abbrev pub Numbers : Type 0
+Numbers = BTreeMap ℕ (Option Bool)
+
+-- it is asked for and wasn't found yet
+abbrev pub is_pending : Option (Option Bool) → Bool
+is_pending (Some None) = true
+is_pending other = false
+
+-- what was found of it
+abbrev pub answer_in : Option (Option Bool) → Bool
+answer_in (Some (Some answer)) = answer
+answer_in other = false
+
+-- what was found is so, and what wasn't yet is of none of the first k events
+pub record IsMet (visit : Visit) (outcome : Outcome) (k : ℕ) (numbers : Numbers) : Type 0 where
+  pub found : (number : ℕ) (answer : Bool) → number ≢ 0 → get nat_cmp numbers number ≡ Some (Some answer)
+      → answer ≡ is_moved visit outcome number
+  pub pending : (number : ℕ) → number ≢ 0 → get nat_cmp numbers number ≡ Some None
+      → event_numbered (take k visit.events) number ≡ None
+
+-- what was found is so, and once all were looked for, what wasn't found goes nowhere else
+pub record IsRight (visit : Visit) (outcome : Outcome) (asked : Asked) : Type 0 where
+  pub found : (number : ℕ) (answer : Bool) → number ≢ 0 → get nat_cmp asked.numbers number ≡ Some (Some answer)
+      → answer ≡ is_moved visit outcome number
+  pub missing : asked.looked ≡ true → (number : ℕ) → number ≢ 0 → get nat_cmp asked.numbers number ≡ Some None
+      → is_moved visit outcome number ≡ false
+
+-- nothing was looked for yet
+pub record IsFresh (asked : Asked) : Type 0 where
+  pub unlooked : asked.looked ≡ false
+  pub unfound : (number : ℕ) (answer : Option Bool) → get nat_cmp asked.numbers number ≡ Some answer → answer ≡ None
 
 -- the map has the address of the first request of each number
 abbrev pub HasAddresses : Outcome → BTreeMap ℕ (Bor (List ℕ)) → Type 0
 HasAddresses outcome addresses =
     (number : ℕ) → option_map (λ address. address.now) (get nat_cmp addresses number) ≡ address_now outcome number
 
--- the map knows of one event more
-abbrev pub KnowsMore : Visit → ℕ → BTreeMap ℕ (Bor (List ℕ)) → BTreeMap ℕ Bool → BTreeMap ℕ Bool → Type 0
-KnowsMore visit k addresses moves moves' =
-    (outcome : Outcome) → HasAddresses outcome addresses → Knows visit outcome (take k visit.events) moves
-    → Knows visit outcome (take (k + 1) visit.events) moves'
+-- one event more was looked at
+pub record MeetsOne (visit : Visit) (k : ℕ) (addresses : BTreeMap ℕ (Bor (List ℕ))) (old new : Numbers) : Type 0 where
+  pub met : (outcome : Outcome) → HasAddresses outcome addresses → IsMet visit outcome k old
+      → IsMet visit outcome (k + 1) new
+  pub same : (number : ℕ) → is_some (get nat_cmp new number) ≡ is_some (get nat_cmp old number)

@@ -1,16 +1,47 @@
--- The search for a target in the code: what it has found so far, and which children it need not look at.
-use Rattle.std.specs.Prelude.{◌≡◌, ℕ, List, [], ◌&&◌, if◌then◌else◌, fold}
+-- The search for a target in the code: the steps that are left in the text, what it has found so far, and which
+-- children it need not look at.
+use Rattle.std.specs.Prelude.{◌≡◌, ℕ, ◌+◌, List, [], ◌∷◌, Bool, true, not, ◌&&◌, ◌||◌, ◌==◌, if◌then◌else◌, Option, None, option_map, map, drop, fold}
+use Rattle.std.specs.List.{before_first, position}
+use Rattle.std.specs.Option.{option_map_or, IfSome}
 use Rattle.page_tree.specs.Tree.{Tree}
-use Rattle.page_tree.specs.Look.{name_at}
 use Rattle.page_tree.specs.Number.{place_numbered}
-use Rattle.xpath_child.specs.Fault.{test_in}
-use Rattle.xpath_child.specs.Reaches.{matches, is_nth}
+use Rattle.xpath_child.specs.Path.{Step}
+use Rattle.xpath_child.specs.Fault.{first_step_fault, written_steps, step_in}
+use Rattle.xpath_child.specs.Reaches.{is_nth}
 use Rattle.xpath_child.specs.Targets.{places_below, place_found}
-use Rattle.xpath_child.specs.inside.Placed.{steps_seen}
-use Rattle.xpath_child.specs.declared.step.Step.{Step}
+use Rattle.xpath_child.specs.declared.step.Tail.{Tail}
 use Rattle.xpath_child.specs.declared.path.Found.{Found}
 use Rattle.xpath_child.specs.declared.path.Target.{Target}
 use Rattle.xpath_child.specs.declared.path.Target.TheVariants.{Missing, One, Several}
+
+-- the steps of what is left behind a `/`, if there is any more
+abbrev pub steps_in : Option (List ℕ) → List Step
+steps_in left = option_map_or (λ text. map step_in (written_steps text)) left []
+
+-- none of them has a fault
+abbrev pub AreSteps : Option (List ℕ) → Type 0
+AreSteps left =
+    IfSome left (λ text. (before : ℕ) × (start : ℕ) × (first_step_fault before start (written_steps text) ≡ None))
+
+-- the first of the steps in a text, and what is left behind it
+abbrev pub first_in : List ℕ → List ℕ
+first_in text = before_first (λ c. c == 47) text
+
+abbrev pub left_in : List ℕ → Option (List ℕ)
+left_in text = option_map (λ i. drop (i + 1) text) (position (λ c. c == 47) text)
+
+-- bytes that a test has, and what may stand behind it
+abbrev pub is_inner : ℕ → Bool
+is_inner c = not (c == 47) && not (c == 91)
+
+abbrev pub ends_test : List ℕ → Bool
+ends_test [] = true
+ends_test (c ∷ _) = c == 47 || c == 91
+
+-- this stands in a text behind the test of its first step
+pub record IsTail (text : List ℕ) (tail : Tail) : Type 0 where
+  pub index : tail.index ≡ (step_in (first_in text)).index
+  pub rest : option_map (λ rest. rest.now) tail.rest ≡ left_in text
 
 -- a target and one place more
 abbrev pub note : Target → List ℕ → Target
@@ -21,13 +52,11 @@ note other place = Several
 abbrev pub Notes : Tree → Found → Found → List (List ℕ) → Type 0
 Notes page old new more = place_found page new ≡ fold note (place_found page old) more
 
--- the places that steps of a text reach from a node
-abbrev pub hits_from : Tree → List ℕ → List Step → ℕ → List (List ℕ)
-hits_from page text steps number = places_below page (steps_seen text steps) (place_numbered number page)
+-- the places that these steps reach from a node
+abbrev pub hits_from : Tree → Option (List ℕ) → ℕ → List (List ℕ)
+hits_from page left number = places_below page (steps_in left) (place_numbered number page)
 
--- those that a step, whose test that is, and the steps behind it reach through a child, before which so many siblings
--- match
-abbrev pub hits_at : Tree → List ℕ → Step → ℕ → List ℕ → List Step → ℕ → List (List ℕ)
-hits_at page test step before text rest child =
-    if matches (test_in test) (name_at (place_numbered child page) page) && is_nth step.index before
-    then hits_from page text rest child else []
+-- those that they reach behind a child that matches, before which so many siblings match
+abbrev pub hits_behind : Tree → Tail → ℕ → ℕ → List (List ℕ)
+hits_behind page tail before child =
+    if is_nth tail.index before then hits_from page (option_map (λ text. text.now) tail.rest) child else []

@@ -9,9 +9,9 @@ pub add_children-loop-child-preserved : goal.add_children-loop-child-preserved
 add_children-loop-child-preserved t c =
     let inside : c.loop-child.child-index < length c.args.children.now = search rules in
     let split = seen_next c.args.children.now c.loop-child.child-index c.child-item.result inside c.child-item.is in
-    adding_next c.args.table.now c.loop-child.table c.add_node.new.table c.args.parent c.loop-child.siblings c.pass.new.self (plain_trees c.args.children.now)
-    (plain_trees (drop (c.loop-child.child-index + 1) c.args.children.now)) (plain_tree c.child-item.result) c.in_ok-spot.spot
-    (rw c.name.ensures at c.in_ok-spot.ensures) c.in_ok-add_node.ensures (rw split at c.loop-child.invariant)
+    adding_next c.args.table.now c.loop-child.table c.add_node.new.table c.args.parent c.loop-child.position (plain_trees c.args.children.now)
+    (plain_trees (drop (c.loop-child.child-index + 1) c.args.children.now)) (plain_tree c.child-item.result)
+    c.in_ok-add_node.ensures (rw split at c.loop-child.invariant)
 
 pub add_node-overflow_cast-as_slice : goal.add_node-overflow_cast-as_slice
 add_node-overflow_cast-as_slice t c =

@@ -22,8 +22,8 @@ read_node-returns-in-Some-clause-judged t c =
 
 pub read_node-returns-in-Some-clause-added : goal.read_node-returns-in-Some-clause-added
 read_node-returns-in-Some-clause-added t c =
-    text_read (view c.args.value.now) c.in-Some.text.now c.args.parent c.args.siblings.now c.pass.new.self c.in_ok-spot.spot c.args.table.now c.push_words.new.self
-    (is_string (view c.args.value.now) c.in-Some.text.now (sym c.in-Some.ensures)) (omega (arith, c.if-len.false, c.len.ensures)) c.in_ok-spot.ensures c.in_ok-push_words.ensures
+    text_read (view c.args.value.now) c.in-Some.text.now c.args.spot c.args.table.now c.push_words.new.self
+    (is_string (view c.args.value.now) c.in-Some.text.now (sym c.in-Some.ensures)) (omega (arith, c.if-len.false, c.len.ensures)) c.in_ok-push_words.ensures
 
 pub read_node-returns-in-None-clause-judged : goal.read_node-returns-in-None-clause-judged
 read_node-returns-in-None-clause-judged t c =
@@ -82,9 +82,9 @@ read_object-returns-clause-judged t c =
 pub read_object-returns-clause-added : goal.read_object-returns-clause-added
 read_object-returns-clause-added t c =
     let (ms, is) = is_object (view c.args.value.now) c.requires.object in
-    element_read (view c.args.value.now) ms c.args.parent c.args.siblings.now c.pass.new.self c.in_ok-spot.spot c.len-number.result
+    element_read (view c.args.value.now) ms c.args.spot c.len-number.result
     c.args.table.now c.push_element.new.self c.read_items.new.table c.end.new.self c.in_ok-name.name.now c.in_ok-attributes.attributes c.in_ok-children.children.now
-    is c.in_ok-name.ensures.0 c.in_ok-attributes.ensures.0 c.in_ok-children.ensures.0 c.in_ok-spot.ensures c.len-number.ensures
+    is c.in_ok-name.ensures.0 c.in_ok-attributes.ensures.0 c.in_ok-children.ensures.0 c.len-number.ensures
     (rw (c.as_slice.ensures, c.min-count.ensures) at c.in_ok-push_element.ensures) c.in_ok-read_items.ensures.added c.end.ensures
 
 -- ---- children
@@ -93,12 +93,12 @@ pub read_items-loop-item-preserved : goal.read_items-loop-item-preserved
 read_items-loop-item-preserved t c =
     let inside : c.loop-item.item-index < length c.args.items.now = search rules in
     let split = items_next c.args.items.now c.loop-item.item-index c.item-item.result inside c.item-item.is in
-    read_step c.args.levels c.args.parent c.args.table.now c.loop-item.table c.read_node.new.table c.loop-item.siblings c.read_node.new.siblings (items_view c.args.items.now)
+    read_step c.args.levels c.args.parent c.loop-item.position c.args.table.now c.loop-item.table c.read_node.new.table (items_view c.args.items.now)
     (items_view (drop (c.loop-item.item-index + 1) c.args.items.now)) (view c.item-item.result) c.in_ok-read_node.ensures.judged c.in_ok-read_node.ensures.added
     (rw split at c.loop-item.invariant)
 
 pub read_items-returns-clause-added : goal.read_items-returns-clause-added
 read_items-returns-clause-added t c =
     let past : length c.args.items.now ≤ c.loop-item.item-index = search rules in
-    read_end c.args.levels c.args.parent c.args.table.now c.loop-item.table c.loop-item.siblings (items_view c.args.items.now)
+    read_end c.args.levels c.args.parent c.loop-item.position c.args.table.now c.loop-item.table (items_view c.args.items.now)
     (rw (items_end c.args.items.now c.loop-item.item-index past) at c.loop-item.invariant)

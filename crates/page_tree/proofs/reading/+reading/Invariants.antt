@@ -13,4 +13,4 @@ abbrev pub decreases-read_items : goal.decreases-read_items
 decreases-read_items l = 5 * l.levels + 3
 
 abbrev pub invariant-read_items-loop-item : goal.invariant-read_items-loop-item
-invariant-read_items-loop-item l = ReadSoFar l.levels l.parent l.initial.table l.table l.siblings (items_view l.items) (items_view (drop l.item-index l.items))
+invariant-read_items-loop-item l = ReadSoFar l.levels l.parent l.position l.initial.table l.table (items_view l.items) (items_view (drop l.item-index l.items))

@@ -15,11 +15,11 @@ returns-in_err-read_node-clause-fault c =
 pub returns-clause-page : goal.returns-clause-page
 returns-clause-page c =
     let there : IsSome (as_object (view c.args.value.now)) = search rules in
-    (root_read (view c.args.value.now) c.new-table.result c.read_node.new.table c.new-siblings.result c.read_node.new.siblings there c.new-table.ensures
-    c.new-siblings.ensures c.in_ok-read_node.ensures.judged c.in_ok-read_node.ensures.added).0
+    (root_read (view c.args.value.now) c.new-table.result c.read_node.new.table there c.new-table.ensures
+    c.in_ok-read_node.ensures.judged c.in_ok-read_node.ensures.added).0
 
 pub returns-clause-free : goal.returns-clause-free
 returns-clause-free c =
     let there : IsSome (as_object (view c.args.value.now)) = search rules in
-    (root_read (view c.args.value.now) c.new-table.result c.read_node.new.table c.new-siblings.result c.read_node.new.siblings there c.new-table.ensures
-    c.new-siblings.ensures c.in_ok-read_node.ensures.judged c.in_ok-read_node.ensures.added).1
+    (root_read (view c.args.value.now) c.new-table.result c.read_node.new.table there c.new-table.ensures
+    c.in_ok-read_node.ensures.judged c.in_ok-read_node.ensures.added).1

@@ -8,7 +8,7 @@ use Rattle.site_line.proofs.PagesAdded.{page_missed, page_next}
 use Rattle.site_line.proofs.reading.read_pages.Goals as goal
 
 pub loop-address-init : goal.loop-address-init
-loop-address-init c = record { pages = λ address. rw (c.new-table.ensures.pages address) refl; watched = c.new-table.ensures.watched }
+loop-address-init c = record { pages = λ address. rw (c.requires address) refl; watched = refl }
 
 pub returns-in_err-page-clause-fails : goal.returns-in_err-page-clause-fails
 returns-in_err-page-clause-fails c =

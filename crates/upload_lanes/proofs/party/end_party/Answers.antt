@@ -21,4 +21,4 @@ finish-ended-requires-clause-lanes g c =
 pub finish-ended-requires-clause-few : goal.finish-ended-requires-clause-few
 finish-ended-requires-clause-few g c =
     let done = c.join-upload.ensures in
-    few_uploaded (view c.join-upload.result.putter).put c.in-Some.handle.promise.upload.value c.join-upload.result.upload done.read done.put
+    few_uploaded c.in-Some.handle.promise.size.value (view c.join-upload.result.putter).put c.in-Some.handle.promise.upload.value c.join-upload.result.upload done.read done.put

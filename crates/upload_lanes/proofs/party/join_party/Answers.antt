@@ -4,7 +4,7 @@ use Rattle.std.specs.Arc.{arc_value}
 use Rattle.crossbeam_queue.specs.Passes.{view}
 use Rattle.lanes_in_turn.proofs.RoundLaws.{written}
 use Rattle.upload_lanes.proofs.SendingLaws.{own_upload}
-use Rattle.upload_lanes.proofs.StopLaws.{takes_by_one}
+use Rattle.upload_lanes.proofs.StopLaws.{fits_at, takes_by_one}
 use Rattle.upload_lanes.specs.inside.Party.{AreJoined, AreUploads, TakesByOne, without_upload}
 use Rattle.upload_lanes.proofs.party.join_party.Goals as goal
 
@@ -17,12 +17,13 @@ returns g c =
     let promises = map (λ handle. handle.promise) c.args.party.uploads.items in
     let got = (view recorded.taker).got in
     let new = c.join_uploads.new.lanes in
-    let room = (arc_value c.args.party.queue).room in
+    let places = (arc_value c.args.party.queue).room in
     let joined = subst (λ queue. AreJoined queue.room promises got recorded.lanes.items new) c.deref.ensures
     (subst (λ old. AreJoined c.deref.result.now.room promises got old new) c.as_mut_slice.ensures.value c.join_uploads.ensures.joined) in
     let same = written recorded.lanes.items new recorded.lanes.len (omega (arith, joined.count, recorded.lanes.len)) in
-    subst (λ lanes. TakesByOne allows (room + 1) fresh lanes recorded.stop) (sym same)
-    (takes_by_one allows room firsts recorded.lanes.items new promises got recorded.stop recorded.items c.join-taker.ensures.0.recording joined
+    subst (λ lanes. TakesByOne allows (c.args.party.room + 1) fresh lanes recorded.stop) (sym same)
+    (takes_by_one allows c.args.party.room places firsts recorded.lanes.items new promises got recorded.stop recorded.items
+    (λ k promise at. fits_at c.args.party.room places c.args.party.size promises c.requires.fits c.requires.sending.sizes k promise at) c.join-taker.ensures.0.recording joined
     fresh c.requires.lanes_are c.requires.sending.same c.join-taker.ensures.1)
 
 pub join_uploads-requires-clause-uploads : goal.join_uploads-requires-clause-uploads

@@ -1,8 +1,10 @@
-use Rattle.std.proofs.Common.{◌+◌, arith, subst}
+use Rattle.std.proofs.Common.{◌+◌, ◌*◌, ◌≤◌, ◌∙◌, ap, arith, length, subst}
 use Rattle.crossbeam_queue.specs.Passes.{view}
 use Rattle.lane_queue.specs.Items.{of_lane}
 use Rattle.upload_lanes.proofs.GroupLaws.{put_first}
-use Rattle.upload_lanes.specs.inside.Party.{TellsUpload}
+use Rattle.upload_lanes.proofs.SpreadLaws.{all_back, all_front, few_each, more_places, spread_append}
+use Rattle.upload_lanes.specs.inside.Party.{TellsParcels}
+use Rattle.upload_lanes.specs.inside.Sent.{parts, spread, AreSmall}
 use Rattle.upload_lanes.proofs.party.join_upload.Goals as goal
 
 pub returns-clause-told : goal.returns-clause-told
@@ -11,5 +13,14 @@ returns-clause-told g c =
     let split = c.reckon-left.ensures.rest in
     let got = (view c.args.taker.now).got in
     let put = view c.join-upload.result.putter in
-    subst (λ lane. TellsUpload (c.args.queue.now.room + 1) c.args.handle.promise.upload.value c.join-upload.result.upload (of_lane lane got)) done.lane_is
-    (done.read, put_first 1 (c.args.queue.now.room + 1) c.join-upload.result.upload put.put (of_lane put.lane got) split.0 split.1 (omega (arith, split.2, split.3)) done.put)
+    let places = c.args.queue.now.room in
+    let size = c.args.handle.promise.size.value in
+    let upload = c.join-upload.result.upload in
+    let small : AreSmall size _ = subst (AreSmall size) split.1 done.put.small in
+    let rest = few_each size split.0 (all_back (λ item. length (parts item.body) ≤ size) (of_lane put.lane got) split.0 small) in
+    let fits = more_places places size (length split.0) (length (spread split.0)) (omega (arith, split.2, split.3)) rest in
+    subst (λ lane. TellsParcels places c.args.handle.promise upload (of_lane lane got)) done.lane_is
+    (record {
+      told = (done.read, put_first size ((places + 1) * size) upload (spread put.put) (spread (of_lane put.lane got)) (spread split.0) (ap spread split.1 ∙ spread_append (of_lane put.lane got) split.0) fits done.put.front);
+      small = all_front (λ item. length (parts item.body) ≤ size) (of_lane put.lane got) split.0 small;
+    })

@@ -1,9 +1,9 @@
-use Rattle.std.proofs.Common.{◌≡◌, ◌+◌, ◌∷◌, [], ap, arith, length, map, refl, set, slice_get, subst, ◌∙◌}
+use Rattle.std.proofs.Common.{◌≡◌, ◌∷◌, [], ap, arith, length, map, refl, set, slice_get, subst, ◌∙◌}
 use Rattle.std.proofs.lemmas.List.{length-map, map-append}
 use Rattle.crossbeam_queue.specs.Passes.{view}
 use Rattle.lane_queue.specs.Items.{of_lane}
 use Rattle.upload_lanes.proofs.JoinLaws.{joins_all, joins_none, joins_one, promise_at}
-use Rattle.upload_lanes.specs.inside.Party.{TellsUpload, with_upload}
+use Rattle.upload_lanes.specs.inside.Party.{TellsParcels, with_upload}
 use Rattle.upload_lanes.proofs.party.join_uploads.Goals as goal
 
 pub loop-handle-init : goal.loop-handle-init
@@ -29,14 +29,14 @@ loop-handle-preserved g c =
     let got = (view c.args.taker.now).got in
     let here = promise_at c.args.queue.now.room promises (map (λ handle. handle.promise) c.loop-handle.handles.items) left c.in-Some.handle.promise got c.args.lanes.now c.loop-handle.lanes last c.loop-handle.invariant.2 in
     let lane = (c.requires.uploads (length left) c.in-Some.handle.promise here).1 in
-    let told = subst (λ all. TellsUpload (c.args.queue.now.room + 1) c.in-Some.handle.promise.upload.value c.join_upload-upload.result (of_lane (view c.in-Some.handle.promise.putter.value).lane all)) c.loop-handle.invariant.1 c.join_upload-upload.ensures.told in
+    let told = subst (λ all. TellsParcels c.args.queue.now.room c.in-Some.handle.promise c.join_upload-upload.result (of_lane (view c.in-Some.handle.promise.putter.value).lane all)) c.loop-handle.invariant.1 c.join_upload-upload.ensures.told in
     let size = length-map c.pop.new.self.items (λ handle. handle.promise) in
     let same : c.len.result ≡ length left = omega (arith, c.len.ensures, c.pop.new.self.len, size) in (
       c.join_upload-upload.ensures.of,
       c.join_upload-upload.ensures.got ∙ c.loop-handle.invariant.1,
       joins_one c.args.queue.now.room promises (map (λ handle. handle.promise) c.loop-handle.handles.items) left c.in-Some.handle.promise got c.args.lanes.now c.loop-handle.lanes last c.loop-handle.invariant.2
           c.join_upload-upload.result c.put_upload.new.lanes
-          (subst (λ k. TellsUpload (c.args.queue.now.room + 1) c.in-Some.handle.promise.upload.value c.join_upload-upload.result (of_lane k got)) lane told)
+          (subst (λ k. TellsParcels c.args.queue.now.room c.in-Some.handle.promise c.join_upload-upload.result (of_lane k got)) lane told)
           (λ was at. subst (λ k. c.put_upload.new.lanes ≡ set c.loop-handle.lanes k (with_upload was c.join_upload-upload.result)) same (c.put_upload.ensures was (ap (slice_get c.loop-handle.lanes) same ∙ at))),
     )
 

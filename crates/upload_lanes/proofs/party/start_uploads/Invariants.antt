@@ -7,5 +7,5 @@ use Rattle.upload_lanes.proofs.party.start_uploads.Given as goal
 
 abbrev pub invariant-loop-client : goal.invariant-loop-client
 invariant-loop-client g l =
-    IsSending (arc_value l.queue) l.fn.lanes.items l.client-iterator.rest.items l.rest.items (map (λ handle. handle.promise) l.uploads.items) (into_iter_items l.putters)
+    IsSending (arc_value l.queue) l.fn.size l.fn.lanes.items l.client-iterator.rest.items l.rest.items (map (λ handle. handle.promise) l.uploads.items) (into_iter_items l.putters)
     (vec_capacity l.uploads) (vec_capacity l.rest)

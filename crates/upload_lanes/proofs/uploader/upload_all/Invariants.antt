@@ -1,7 +1,6 @@
-use Rattle.std.proofs.Common.{◌≡◌, ◌≤◌, length}
+use Rattle.std.proofs.Common.{◌≡◌, []}
 use Rattle.crossbeam_queue.specs.Passes.{view}
 use Rattle.lane_queue.specs.Queue.{IsPassOf}
-use Rattle.upload_reader.specs.Limits.{max_messages}
 use Rattle.upload_lanes.specs.inside.Sent.{IsReadOn, IsPutting}
 use Rattle.upload_lanes.proofs.uploader.upload_all.Given as goal
 
@@ -11,6 +10,5 @@ invariant-loop g l =
     × (goal.iterator-loop g).is_finite l.iterator'
     × IsPassOf l.queue l.putter
     × ((view l.putter).lane ≡ (view l.fn.putter).lane)
-    × (length l.upload.given ≤ max_messages)
     × IsReadOn l.fn.upload l.upload
-    × IsPutting (view l.putter).put l.upload
+    × IsPutting l.fn.size (view l.putter).put [] l.upload

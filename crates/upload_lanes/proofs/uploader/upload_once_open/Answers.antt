@@ -8,5 +8,5 @@ returns-else-may_pass g c = record {
   of = c.requires.fresh.0;
   lane_is = refl;
   read = read_none c.args.upload c.requires.untouched;
-  put = nothing_put (view c.args.putter).put c.args.upload (put_none (view c.args.putter) c.args.upload c.requires.fresh.1 c.requires.untouched);
+  put = nothing_put c.args.outlet.size (view c.args.outlet.putter).put c.args.upload (put_none c.args.outlet.size (view c.args.outlet.putter) c.args.upload c.requires.fresh.1 c.requires.untouched);
 }

@@ -1,20 +1,25 @@
-use Rattle.std.proofs.Common.{◌++◌, ◌∷◌, [], string_bytes, sym, ap, subst, ◌∙◌, append-nil}
-use Rattle.std.specs.Str.{IsUtf8}
-use Rattle.std.proofs.lemmas.Str.{IsUtf8-append, IsUtf8-string_bytes}
-use Rattle.json.specs.Print.{print, print_from, quoted}
-use Rattle.json.specs.Token.{string}
+use Rattle.std.proofs.Common.{◌≡◌, ℕ, ◌++◌, ◌∷◌, [], List, if◌then◌else◌, Result, Ok, Err, OnOk, string_bytes, sym, ap, ◌∙◌, append_assoc}
+use Rattle.std.specs.Char.{encode_utf8}
+use Rattle.std.specs.List.{list_all}
+use Rattle.std.specs.Result.{is_ok}
+use Rattle.json.specs.Run.{is_plain}
+use Rattle.json.specs.Print.{escape, quoted}
+use Rattle.warp_run.proofs.ReportLaws.{plain_as_is}
 use Rattle.warp_run.proofs.reporting.add_quoted.Goals as goal
 
-pub from_utf8_unchecked-requires : goal.from_utf8_unchecked-requires
-from_utf8_unchecked-requires c =
-    let before = c.string.ensures.room.0 ∙ c.new-writer.ensures.before ∙ ap (λ v. v.items) c.into_bytes.ensures.value ∙ ap string_bytes c.replace.ensures.value in
-    let is = c.into_inner.ensures.items ∙ ap (λ bytes. bytes ++ print c.string.new.self.tokens) before in
-    subst IsUtf8 (sym is) (IsUtf8-append (string_bytes c.args.text.now) (print c.string.new.self.tokens) (IsUtf8-string_bytes c.args.text.now) c.into_inner.ensures.utf8)
+-- the closing quote behind the word
+closed : {E : Type 0} (r : Result (Unit {0}) E) (text before after word : List ℕ) → before ≡ (text ++ 34 ∷ []) ++ word
+    → after ≡ (if is_ok r then before ++ encode_utf8 34 else before) → escape word ≡ word → OnOk r (after ≡ text ++ quoted word)
+unfolding encode_utf8
+closed (Err e) text before after word opened put plain = tt
+closed (Ok done) text before after word opened put plain =
+    put ∙ ap (λ bytes. bytes ++ 34 ∷ []) opened ∙ append_assoc (text ++ 34 ∷ []) word (34 ∷ []) ∙ append_assoc text (34 ∷ []) (word ++ 34 ∷ [])
+    ∙ ap (λ w. text ++ 34 ∷ (w ++ 34 ∷ [])) (sym plain)
 
 pub returns : goal.returns
-unfolding print_from
+unfolding encode_utf8
 returns c =
-    let before = c.string.ensures.room.0 ∙ c.new-writer.ensures.before ∙ ap (λ v. v.items) c.into_bytes.ensures.value ∙ ap string_bytes c.replace.ensures.value in
-    let is = c.into_inner.ensures.items ∙ ap (λ bytes. bytes ++ print c.string.new.self.tokens) before in
-    let tokens = c.in_ok-string.ensures.ok ∙ ap (λ ts. ts ++ string c.args.word.now ∷ []) c.new-writer.ensures.tokens in
-    ap (λ v. v.items) c.from_utf8_unchecked.ensures.value ∙ is ∙ ap (λ ts. string_bytes c.args.text.now ++ print ts) tokens ∙ ap (λ text. string_bytes c.args.text.now ++ text) (append-nil (quoted c.args.word.now))
+    let word = c.args.word.now in
+    let plain = plain_as_is word (ap (list_all is_plain) (sym c.as_bytes.ensures.value) ∙ sym c.if-not-is_plain.ensures) in
+    closed c.push-2.result (string_bytes c.args.text.now) (string_bytes c.push_str.new.self) (string_bytes c.push-2.new.self) word
+    (c.in_ok-push_str.ensures.bytes ∙ ap (λ bytes. bytes ++ word) c.in_ok-push.ensures.bytes) c.push-2.ensures.bytes plain

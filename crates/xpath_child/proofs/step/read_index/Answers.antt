@@ -1,6 +1,7 @@
-use Rattle.std.proofs.Common.{Some, sym, ◌∙◌, lit<}
+use Rattle.std.proofs.Common.{Some, sym, ap, ◌∙◌, lit<}
+use Rattle.std.specs.Str.Parse.{digits_value}
 use Rattle.std.proofs.lemmas.Str.Pattern.{strip_suffix_char}
-use Rattle.xpath_child.proofs.Index.{not_closed, index_none, index_some, parse_index}
+use Rattle.xpath_child.proofs.Index.{not_closed, index_none, index_some}
 use lib.Utf8.{encode}
 use Rattle.xpath_child.proofs.step.read_index.Goals as goal
 
@@ -12,4 +13,4 @@ pub returns-then-is_index : goal.returns-then-is_index
 returns-then-is_index c =
     let h = sym c.if-is_index.ensures in
     let closed = strip_suffix_char 93 c.args.text.now (Some c.in_ok-digits.digits) c.in_ok-digits.ensures.cases (lit< tt) in
-    c.ok.ensures.value ∙ parse_index c.in_ok-digits.digits.now c.parse.result c.parse.ensures.value.0 h ∙ index_some c.args.text.now c.in_ok-digits.digits.now closed h
+    ap Some (c.number.ensures ∙ ap (digits_value 10) c.as_bytes.ensures.value) ∙ index_some c.args.text.now c.in_ok-digits.digits.now closed h

@@ -1,7 +1,7 @@
 use Rattle.std.proofs.Common.{◌≡◌, ◌-◌, ◌++◌, string_bytes}
 use Rattle.page_tree.specs.Look.{text_at}
 use Rattle.page_tree.specs.Number.{place_numbered}
-use Rattle.page_tree.proofs.LoopLaws.{texts_in}
+use Rattle.page_tree.specs.inside.TextWalk.{texts_in}
 use Rattle.page_tree.proofs.page.Page.text_of.Given as goal
 
 abbrev pub invariant-loop-below : goal.invariant-loop-below

@@ -1,4 +1,4 @@
-use Rattle.std.proofs.Common.{is_some, ap, refl, ◌∙◌}
+use Rattle.std.proofs.Common.{is_some, ap, refl}
 use Rattle.serde_json.specs.View.{view}
 use Rattle.site_hooks.specs.Table.{table_page, watched_in}
 use Rattle.site_line.specs.Site.{pages_in}
@@ -7,11 +7,11 @@ use Rattle.site_line.proofs.site.Site.from_value.Goals as goal
 
 pub returns-clause-ok : goal.returns-clause-ok
 returns-clause-ok c =
-    let pages = pages_there (pages_in (view c.args.value.now)) (table_page c.in_ok-table.table) c.in_ok-table.ensures.pages in (
+    let pages = pages_there (pages_in (view c.args.value.now)) (table_page c.read_pages.new.table) c.in_ok-read_pages.ensures.pages in (
       record {
         patched = c.in_ok-read_patched.field-0.items;
         pages = pages.0;
-        watched = watched_in c.read_watched.new.table;
+        watched = watched_in c.in_ok-table.table;
         quota = c.in_ok-quota.quota;
         workers = c.in_ok-workers.workers;
         decisions = c.in_ok-decisions.decisions.items;
@@ -20,15 +20,15 @@ returns-clause-ok c =
         object = ap is_some c.in_ok-read_members.ensures;
         patched = c.in_ok-read_patched.ensures;
         pages = pages.1;
-        watched = c.in_ok-read_watched.ensures.watched;
+        watched = c.in_ok-table.ensures.watched;
         quota = c.in_ok-quota.ensures.ok;
         workers = c.in_ok-workers.ensures.ok;
         decisions = c.in_ok-decisions.ensures;
       },
       record {
         patched = c.new-patch.ensures;
-        pages = λ address. c.in_ok-read_watched.ensures.pages address ∙ pages.2 address;
-        watched = refl;
+        pages = pages.2;
+        watched = c.in_ok-read_pages.ensures.watched;
         quota = refl;
         workers = refl;
         decisions = refl;

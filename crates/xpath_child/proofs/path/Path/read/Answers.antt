@@ -1,49 +1,28 @@
-use Rattle.std.proofs.Common.{◌≡◌, Some, None, Ok, Err, refl, ◌∙◌, ap, sym, lit<}
-use Rattle.std.proofs.lemmas.Result.{err_from_is_err_and}
-use Rattle.std.proofs.lemmas.Str.Pattern.{strip_prefix_char}
-use Rattle.xpath_child.specs.Fault.{first_step_fault, written_steps, path_in}
-use Rattle.xpath_child.specs.inside.Placed.{placed_steps}
-use Rattle.xpath_child.proofs.Faults.{fails_along}
-use Rattle.xpath_child.proofs.Answered.{path_in-slash, no_slash, not_absolute, only, refused}
-use Rattle.xpath_child.proofs.Placed.{read_here}
-use Rattle.xpath_child.proofs.Sound.{path_in-sound}
+use Rattle.std.proofs.Common.{Err, sym, ◌∙◌, ap}
+use Rattle.xpath_child.specs.Fault.{path_fault, path_in}
+use Rattle.xpath_child.proofs.Answered.{from_none, from_some, only, refused}
+use Rattle.xpath_child.proofs.Sound.{path_sound}
 use Rattle.xpath_child.proofs.path.Path.read.Goals as goal
 
-pub returns-in_default-clause-fault : goal.returns-in_default-clause-fault
-returns-in_default-clause-fault c = λ memory. rw c.at.ensures (no_slash c.args.text.now (strip_prefix_char 47 c.args.text.now None c.in_default.ensures.cases (lit< tt)))
+pub returns-in-Some-clause-exact : goal.returns-in-Some-clause-exact
+returns-in-Some-clause-exact c = from_some c.args.text.now c.in-Some.fault (sym c.fault_of.ensures ∙ c.in-Some.is)
 
-pub returns-in_default-clause-exact : goal.returns-in_default-clause-exact
-returns-in_default-clause-exact c = rw c.at.ensures (λ memory. refl, λ real. not_absolute c.args.text.now (strip_prefix_char 47 c.args.text.now None c.in_default.ensures.cases (lit< tt)))
+pub returns-in-Some-clause-memory : goal.returns-in-Some-clause-memory
+returns-in-Some-clause-memory c = (returns-in-Some-clause-exact c).0
 
-pub returns-in_default-clause-refused : goal.returns-in_default-clause-refused
-returns-in_default-clause-refused c = refused c.args.text.now (Err c.at.result) (returns-in_default-clause-exact c)
+pub returns-in-Some-clause-refused : goal.returns-in-Some-clause-refused
+returns-in-Some-clause-refused c = refused c.args.text.now (Err c.in-Some.fault) (returns-in-Some-clause-exact c)
 
-pub returns-in_err-steps-clause-exact : goal.returns-in_err-steps-clause-exact
-returns-in_err-steps-clause-exact c =
-    let slash = strip_prefix_char 47 c.args.text.now (Some c.in-Some.rest) c.in-Some.ensures.cases (lit< tt) in
-    let p = err_from_is_err_and c.from_residual.result c.from_residual.ensures.1 in
-    let fault = first_step_fault 0 1 (written_steps c.in-Some.rest.now) in
-    rw (path_in-slash c.args.text.now c.in-Some.rest.now slash, p.1, p.2) (fails_along fault fault (placed_steps 1 (written_steps c.in-Some.rest.now)) _ _ (λ f h. h) c.in_err-steps.ensures)
+pub returns-in_ok-from_str-in-None-clause-exact : goal.returns-in_ok-from_str-in-None-clause-exact
+returns-in_ok-from_str-in-None-clause-exact c =
+    let same = c.in_ok-from_str-in-None.ensures in
+    ap path_in (sym same) ∙ from_none c.in_ok-from_str-in-None.field-0 (ap path_fault same ∙ sym c.fault_of.ensures ∙ c.in-None.is)
 
-pub returns-in_err-steps-clause-refused : goal.returns-in_err-steps-clause-refused
-returns-in_err-steps-clause-refused c = refused c.args.text.now c.from_residual.result (returns-in_err-steps-clause-exact c)
+pub returns-in_ok-from_str-in-None-clause-ok : goal.returns-in_ok-from_str-in-None-clause-ok
+returns-in_ok-from_str-in-None-clause-ok c =
+    let same = c.in_ok-from_str-in-None.ensures in
+    let sound = path_sound c.in_ok-from_str-in-None.field-0 (ap path_fault same ∙ sym c.fault_of.ensures ∙ c.in-None.is) in
+    (sound.0, sound.1 ∙ same)
 
-pub invariant_of-result : goal.invariant_of-result
-invariant_of-result c =
-    let slash = strip_prefix_char 47 c.args.text.now (Some c.in-Some.rest) c.in-Some.ensures.cases (lit< tt) in
-    let kept = c.in_ok-new.field-0.value in
-    let same : kept.text ≡ c.args.text.now = ap (λ w. w.text) c.in_ok-new.ensures.ok ∙ c.in_ok-text.ensures in
-    (read_here kept.text c.in-Some.rest.now kept.steps.items (same ∙ slash) (c.in_ok-steps.ensures ∙ ap (λ w. Ok w.steps.items) (sym c.in_ok-new.ensures.ok))).0
-
-pub returns-clause-exact : goal.returns-clause-exact
-returns-clause-exact c =
-    let slash = strip_prefix_char 47 c.args.text.now (Some c.in-Some.rest) c.in-Some.ensures.cases (lit< tt) in
-    let kept = c.in_ok-new.field-0.value in
-    let same : kept.text ≡ c.args.text.now = ap (λ w. w.text) c.in_ok-new.ensures.ok ∙ c.in_ok-text.ensures in
-    ap path_in (sym same) ∙ (read_here kept.text c.in-Some.rest.now kept.steps.items (same ∙ slash) (c.in_ok-steps.ensures ∙ ap (λ w. Ok w.steps.items) (sym c.in_ok-new.ensures.ok))).1
-
-pub returns-clause-ok : goal.returns-clause-ok
-returns-clause-ok c = path_in-sound c.args.text.now _ (returns-clause-exact c)
-
-pub returns-clause-only : goal.returns-clause-only
-returns-clause-only c = λ other. only c.args.text.now _ other (returns-clause-exact c)
+pub returns-in_ok-from_str-in-None-clause-only : goal.returns-in_ok-from_str-in-None-clause-only
+returns-in_ok-from_str-in-None-clause-only c = λ other. only c.args.text.now _ other (returns-in_ok-from_str-in-None-clause-exact c)

@@ -1,0 +1,4 @@
+pub mod Spelled
+pub mod Stand
+pub mod FitLaws
+pub mod Numbers

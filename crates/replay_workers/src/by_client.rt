@@ -1,0 +1,72 @@
+//! The visits of all clients as one list, and what they give, given back by client.
+ghost use Rattle.std.specs.Prelude.{◌≡◌, ◌≤◌, ◌++◌, length, map, IfOk, OnOk};
+ghost use Rattle.std.specs.Vec.Iter.{into_iter_items};
+ghost use Rattle.replay_workers.specs.inside.Clients.{visits_of_all, FollowByClient};
+
+use client_log::Visit;
+use std::alloc::{AllocError, Global};
+use std::vec::IntoIter;
+use visit_replay::{Outcome, follow_parents};
+
+/// All clients' visits, client after client.
+pub(crate) fn in_one_list<'a>(
+    alloc: Global,
+    clients: &[&'a [Visit]],
+) -> Result<Vec<&'a Visit>, AllocError>
+    ensures { IfOk result (λ all. map (λ visit. visit.now) all.items ≡ visits_of_all clients.now) }
+{
+    let mut all = Vec::new(alloc);
+    for visits in clients {
+        add_visits(&mut all, visits)?;
+    }
+    Ok(all)
+}
+
+fn add_visits<'a>(all: &mut Vec<&'a Visit>, visits: &'a [Visit]) -> Result<(), AllocError>
+    ensures { OnOk result (map (λ visit. visit.now) all.new.items
+        ≡ map (λ visit. visit.now) all.old.items ++ visits.now) }
+{
+    all.reserve(visits.len())?;
+    for visit in visits {
+        all.push_reserved(visit);
+    }
+    Ok(())
+}
+
+/// What each client's visits give behind their parents, by what all give by themselves.
+pub(crate) fn follow_each(
+    alloc: Global,
+    clients: &[&[Visit]],
+    own: Vec<Outcome>,
+) -> Result<Vec<Vec<Outcome>>, AllocError>
+    requires { length own.items ≡ length (visits_of_all clients.now) }
+    ensures { IfOk result (λ all. FollowByClient clients.now own.items (map (λ one. one.items) all.items)) }
+{
+    let mut all = Vec::with_capacity(alloc, clients.len())?;
+    let mut rest = own.into_iter();
+    for visits in clients {
+        let own = take_front(alloc, &mut rest, visits.len())?;
+        all.push_reserved(follow_parents(alloc, visits, own)?);
+    }
+    Ok(all)
+}
+
+// So many from the front. There are no fewer.
+fn take_front(
+    alloc: Global,
+    rest: &mut IntoIter<Outcome>,
+    count: usize,
+) -> Result<Vec<Outcome>, AllocError>
+    requires { count ≤ length (into_iter_items rest.old) }
+    ensures count { IfOk result (λ front. length front.items ≡ count) }
+    ensures front { IfOk result (λ front. front.items ++ into_iter_items rest.new ≡ into_iter_items rest.old) }
+{
+    let mut front = Vec::with_capacity(alloc, count)?;
+    for _ in 0..count {
+        let Some(outcome) = rest.next() else {
+            unreachable!()
+        };
+        front.push_reserved(outcome);
+    }
+    Ok(front)
+}

@@ -1,0 +1,105 @@
+//! Clients that fall silent: what came of them before is recorded meanwhile.
+ghost use Rattle.std.specs.Prelude.{IfOk};
+ghost use Rattle.std.specs.List.{AllByRecursion};
+ghost use Rattle.upload_reader.specs.Upload.{IsUntouched};
+
+use crate::tests::{BYE, CLICK, END, LOAD, add_lines, begin, hello};
+use byte_streams::Fed;
+use client_log::Quota;
+use lane_queue::Room;
+use std::alloc::Global;
+use std::io::{ErrorKind, Read};
+use std::process::Abort;
+use std::sync::atomic::{AtomicU64, Ordering};
+use std::test::Fail;
+use std::{io, thread};
+use stream_fakes::Drip;
+use upload_lanes::{Stop, gather};
+use upload_reader::{Ending, LaneEnd, Upload};
+
+/// How often a silent client looks before it gives up: some ten seconds.
+const LOOKS: u32 = 20_000_000;
+
+/// A reader that is silent behind its first piece, until two recorders have asked behind their second message. It fails where they don't.
+#[derive(Drop)]
+struct Silent<'c> {
+    first: Drip,
+    rest: Drip,
+    recorded: &'c AtomicU64,
+}
+
+impl<'c> Read for Silent<'c> {
+    fn read(&mut self, buf: &mut [u8]) -> io::Result<usize> {
+        if self.first.reads == 0 {
+            return self.first.read(buf);
+        }
+        for _ in 0..LOOKS {
+            if self.recorded.load(Ordering::SeqCst) >= 2 {
+                return self.rest.read(buf);
+            }
+            thread::yield_now();
+        }
+        Err(io::Error::from(ErrorKind::TimedOut))
+    }
+}
+
+// Its first piece has two messages, and the front of the third.
+fn silent_upload<'c>(
+    alloc: Global,
+    client: &str,
+    recorded: &'c AtomicU64,
+) -> Result<Upload<Fed<Silent<'c>>>, Fail>
+    ensures { IfOk result IsUntouched }
+{
+    let mut first = hello(alloc, client)?;
+    add_lines(&mut first, &[LOAD, CLICK])?;
+    first.push_str(r#"{"t":"click","visit":1,"#)?;
+    let first = Drip::new(alloc, first.as_bytes(), 8_192)?;
+    let mut rest = String::new(alloc);
+    add_lines(&mut rest, &[r#""at":2,"target":"/html/body/a"}"#, END, BYE])?;
+    let rest = Drip::new(alloc, rest.as_bytes(), 8_192)?;
+    begin(
+        alloc,
+        Fed::new(Silent {
+            first,
+            rest,
+            recorded,
+        }),
+    )
+}
+
+fn both<'c>(alloc: Global, recorded: &'c AtomicU64) -> Result<Vec<Upload<Fed<Silent<'c>>>>, Fail>
+    ensures { IfOk result (λ uploads. AllByRecursion IsUntouched uploads.items) }
+{
+    let mut uploads = Vec::new(alloc);
+    uploads.push(silent_upload(alloc, "c1", recorded)?)?;
+    uploads.push(silent_upload(alloc, "c2", recorded)?)?;
+    Ok(uploads)
+}
+
+// No message waits for another one: with the most room, where several are handed over at once, as with the least.
+#[test]
+fn what_came_is_recorded_while_clients_are_silent(rt: HostRuntime) -> Result<(), Fail> {
+    for room in [1, 1_024] {
+        let recorded = AtomicU64::new(0);
+        let uploads = both(rt.alloc(), &recorded)?;
+        let halt = |taken: u64| -> bool {
+            if taken == 2 {
+                recorded.fetch_add(1, Ordering::SeqCst);
+            }
+            false
+        };
+        let gathered = gather(
+            &rt,
+            uploads,
+            Quota::new(1_048_576)?,
+            Room::new(room)?,
+            &halt,
+        )?;
+        assert!(rt; gathered.stop == Stop::None && gathered.clients.len() == 2);
+        for lane in gathered.clients.values() {
+            assert!(rt; lane.taken == 4 && matches!(lane.end, Some(Ending::Over(LaneEnd::Bye))));
+        }
+    }
+    Ok(())
+}

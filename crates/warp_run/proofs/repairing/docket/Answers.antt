@@ -1,0 +1,7 @@
+use Rattle.std.proofs.Common.{sym, subst}
+use Rattle.conflict_desk.specs.Docket.{AreAscending}
+use Rattle.warp_run.proofs.RepairLaws.{cases_ascend}
+use Rattle.warp_run.proofs.repairing.docket.Goals as goal
+
+pub returns-clause-ascend : goal.returns-clause-ascend
+returns-clause-ascend c = subst AreAscending (sym c.in_ok-pair_up.ensures) (cases_ascend c.visits.result.now c.args.outcomes.items c.visits.ensures.ascend)
