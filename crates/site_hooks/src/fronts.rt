@@ -41,7 +41,7 @@ impl Fronts {
         }
     }
 
-    /// AddsPath what leads to a text, and the text.
+    /// Adds what leads to a text, and the text.
     pub(crate) fn add(&mut self, alloc: Global, text: &str) -> Result<(), NoMemory>
         ensures only { OnlyAdds self.old self.new }
         ensures cut { OnOk result ((front rest : List ℕ) → text.now ≡ front ++ 47 ∷ rest

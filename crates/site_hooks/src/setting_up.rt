@@ -23,7 +23,7 @@ impl Table {
         }
     }
 
-    /// AddsPath the page at an address, in place of an earlier one; after an error all is as before.
+    /// Adds the page at an address, in place of an earlier one; after an error all is as before.
     pub fn add_page(&mut self, address: Text, page: Page) -> Result<(), NoMemory>
         ensures ok { OnOk result (AddsPage self.old address page self.new) }
         ensures err { OnErr result ((other : List ℕ) → table_page self.new other ≡ table_page self.old other) }

@@ -54,7 +54,7 @@ impl WatchList {
         self.paths.len()
     }
 
-    /// AddsPath a path, unless it is there; after an error all is as before.
+    /// Adds a path, unless it is there; after an error all is as before.
     pub(crate) fn add(&mut self, path: Path) -> Result<(), NoMemory>
         ensures ok { OnOk result (AddsPath self.old path self.new) }
         ensures err { OnErr result (self.new ≡ self.old) }
