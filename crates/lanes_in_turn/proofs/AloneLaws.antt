@@ -14,7 +14,7 @@ use Rattle.lanes_in_turn.specs.declared.gathered.LaneResult.{LaneResult}
 use Rattle.lanes_in_turn.specs.declared.gathered.Stop.{Stop}
 use Rattle.lanes_in_turn.specs.declared.gathered.Stop.TheVariants as stops
 
-some_only : {A : Type 0} (x y : A) → Some x ≡ Some y → x ≡ y
+pub some_only : {A : Type 0} (x y : A) → Some x ≡ Some y → x ≡ y
 some_only x y is = cc
 
 module _ {R : Type 0} where

@@ -1,14 +1,15 @@
 -- What taking the next of a lane keeps.
 use Rattle.std.proofs.Common.{◌≡◌, ℕ, ◌+◌, ◌≤◌, ◌<◌, List, [], ◌∷◌, ◌++◌, length, take, drop, true, false, is_some, Option, Some, None, refl, sym, ap, subst, ◌∙◌, arith, append_assoc, append-nil, true≢false}
 use Rattle.std.specs.Result.{is_err}
-use Rattle.std.proofs.lemmas.List.{length-append, take-append-drop, take_all}
+use Rattle.std.proofs.lemmas.List.{length-append, map-append, take-append-drop, take_all}
 use Rattle.std.specs.Prelude.{IfSome, OnOk, OnErr, Result, Ok, Err}
 use Rattle.std.proofs.Math.Seq.{take-append_seam}
 use Rattle.byte_streams.specs.Reading.{ReadsWhile}
 use Rattle.byte_streams.proofs.ReadingLaws.{reads_then}
 use Rattle.upload_reader.specs.Limits.{max_messages}
 use Rattle.upload_reader.specs.Next.{next_of, IfOver}
-use Rattle.upload_reader.specs.Stream.{Costed, BeginsWith}
+use Rattle.upload_reader.specs.Stream.{Costed, BeginsWith, messages_of}
+use Rattle.upload_reader.specs.declared.message.Message.{Message}
 use Rattle.upload_reader.specs.Upload.{UploadState, GivesFirst, EndsBy, NothingMore}
 use Rattle.upload_reader.specs.declared.ending.Ending.{Ending}
 use Rattle.client_log.specs.Client.{OfClient}
@@ -16,6 +17,7 @@ use Rattle.client_log.specs.Log.{kept_log}
 use Rattle.client_log.specs.Session.{session_of}
 use Rattle.lanes_in_turn.specs.Lane.{NotOver, ReadsBeforeEnd, Continues}
 use Rattle.lanes_in_turn.specs.Round.{IsAsked, IsTakenInTurn}
+use Rattle.lanes_in_turn.specs.inside.{IsTogether}
 use Rattle.lanes_in_turn.specs.declared.gathered.LaneResult.{LaneResult}
 
 -- a front of a front
@@ -121,6 +123,30 @@ module _ {R : Type 0} where
     reads = reads_then (NotOver begun) (NothingMore u) begun.lines u.lines v.lines
         (λ rest none. (u.given, rw (before.lane, before.start) at none)) before.reads reads;
   }
+
+  -- ---- the log and the upload, side by side
+
+  together_then : (earlier : List Message) (lane : LaneResult R) (v : UploadState R) → lane.upload ≡ Some v → v.lane.earlier ≡ earlier → lane.log.session ≡ earlier ++ messages_of v.given → IsTogether lane
+  together_then earlier lane v upload_is earlier_is session now now_is =
+      let same : v ≡ now = same_upload lane.upload v now upload_is now_is in
+      subst (λ u. lane.log.session ≡ u.lane.earlier ++ messages_of u.given) same (session ∙ ap (λ e. e ++ messages_of v.given) (sym earlier_is))
+
+  -- a message more was given and recorded
+  pub together_more : (lane new : LaneResult R) (u v : UploadState R) (one : Costed) → IsTogether lane → lane.upload ≡ Some u → new.upload ≡ Some v → v ≡ record u { lines = v.lines; given = u.given ++ one ∷ []; ending = None }
+      → new.log.session ≡ lane.log.session ++ one.0 ∷ [] → IsTogether new
+  together_more lane new u v one was upload_is new_is is session =
+      let given : v.given ≡ u.given ++ one ∷ [] = ap (λ upload. upload.given) is in
+      together_then u.lane.earlier new v new_is (ap (λ upload. upload.lane.earlier) is)
+      (session ∙ ap (λ s. s ++ one.0 ∷ []) (was u upload_is) ∙ append_assoc u.lane.earlier (messages_of u.given) (one.0 ∷ [])
+      ∙ ap (λ all. u.lane.earlier ++ all) (sym (map-append (λ costed. costed.0) u.given (one ∷ []))) ∙ ap (λ all. u.lane.earlier ++ messages_of all) (sym given))
+
+  -- it gave no more
+  pub together_still : (lane new : LaneResult R) (u v : UploadState R) (ending : Option Ending) → IsTogether lane → lane.upload ≡ Some u → new.upload ≡ Some v → v ≡ record u { lines = v.lines; given = u.given ++ []; ending = ending }
+      → new.log ≡ lane.log → IsTogether new
+  together_still lane new u v ending was upload_is new_is is log =
+      let given : v.given ≡ u.given = ap (λ upload. upload.given) is ∙ append-nil u.given in
+      together_then u.lane.earlier new v new_is (ap (λ upload. upload.lane.earlier) is)
+      (ap (λ l. l.session) log ∙ was u upload_is ∙ ap (λ all. u.lane.earlier ++ messages_of all) (sym given))
 
   -- ---- the steps
 

@@ -23,7 +23,7 @@ use Rattle.lanes_in_turn.proofs.LaneSteps.{continues_none}
 use Rattle.lanes_in_turn.specs.Lane.{NotOver}
 use Rattle.lanes_in_turn.specs.Round.{has_twice, clients_of, log_before, resumed_upload, without_lane, entries_of, ahead_of, IsAsked, IsTakenInTurn, IsLaneInTurn, AreTakenInTurn, without_lanes}
 use Rattle.lanes_in_turn.specs.Taking.{begun_lane}
-use Rattle.lanes_in_turn.specs.inside.{HasFewTaken, HaveFewTaken, one_more, only}
+use Rattle.lanes_in_turn.specs.inside.{HasFewTaken, HaveFewTaken, IsTogether, AreTogether, one_more, only}
 use Rattle.lanes_in_turn.specs.declared.gathered.Stop.TheVariants as stop
 use Rattle.lanes_in_turn.specs.declared.gathered.LaneResult.{LaneResult}
 
@@ -152,6 +152,13 @@ few_set lanes k lane within few here j one at = elim (in_set lanes k j lane one 
   | inr (other, there) ↦ few j one there
 ]
 
+pub together_set : {R : Type 0} (lanes : List (List ℕ × LaneResult R)) (k : ℕ) (lane : List ℕ × LaneResult R) → k < length lanes → AreTogether lanes → IsTogether lane.1
+    → AreTogether (set lanes k lane)
+together_set lanes k lane within together here j one at = elim (in_set lanes k j lane one within at) [
+  | inl (same, is) ↦ subst (λ l. IsTogether l.1) (sym is) here
+  | inr (other, there) ↦ together j one there
+]
+
 pub few_begun : {R : Type 0} (known : List ℕ → Option (LaneResult R)) (quota : ℕ) (uploads : List (UploadState R)) (lanes : List (List ℕ × LaneResult R))
     → lanes ≡ map (begun_lane known quota) uploads → HaveFewTaken lanes
 few_begun known quota uploads lanes is k lane at now upload_is =
@@ -245,8 +252,7 @@ module _ {R : Type 0} (known : List ℕ → Option (LaneResult R)) (quota : ℕ)
   -- ---- as they begin
 
   untouched_behind : (upload : UploadState R) (found : Option (LaneResult R)) → IsUntouched upload → (resumed_upload upload found).given ≡ []
-  untouched_behind upload None untouched = untouched.given
-  untouched_behind upload (Some lane) untouched = untouched.given
+  untouched_behind upload found untouched = untouched.given
 
   pub lanes_begun : (lanes : List (List ℕ × LaneResult R)) → AllByRecursion IsUntouched uploads → lanes ≡ map (begun_lane known quota) uploads → AreTakenInTurn known quota uploads (entries_of []) none lanes
   lanes_begun lanes untouched is = record {

@@ -59,8 +59,10 @@ module _ {R : Type 0} where
   abbrev pub behind_log : OfClient → UploadState R → UploadState R
   behind_log log upload = record upload { lane = record upload.lane { earlier = log.session } }
 
+  -- the same where this is known of its client: a new one begins behind a new session
   abbrev pub resumed_upload : UploadState R → Option (LaneResult R) → UploadState R
-  resumed_upload upload known = option_map_or (λ lane. behind_log lane.log upload) known upload
+  resumed_upload upload known =
+      (record upload { lane = record upload.lane { earlier = option_map_or (λ lane. lane.log.session) known [] } })
 
   -- a client that has no lane in this round
   abbrev pub without_lane : LaneResult R → LaneResult R

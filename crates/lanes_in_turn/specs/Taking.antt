@@ -42,11 +42,12 @@ module _ {R : Type 0} where
     pub taken : lane.taken ≡ 0
     pub end : lane.end ≡ None
 
-  -- a lane with its upload, of which nothing was taken
+  -- a lane with its upload, behind the session of its log, of which nothing was taken
   pub record IsFreshLane (lane : List ℕ × LaneResult R) : Type 0 where
     pub upload : UploadState R
     pub upload_is : lane.1.upload ≡ Some upload
     pub untouched : IsUntouched upload
+    pub behind : upload.lane.earlier ≡ lane.1.log.session
     pub begun : IsBegun lane.1
 
   -- its upload gave at most so many messages more than were taken
@@ -97,6 +98,6 @@ module _ {R : Type 0} where
   pub record IsGatheredAlone (upload : UploadState R) (quota : ℕ) (gathered : Gathered R) : Type 0 where
     pub lane : LaneResult R
     pub entries_are : gathered.clients.entries ≡ (upload.client, lane) ∷ []
-    pub is_taken : IsTaken (new_log quota upload.client) upload lane
+    pub is_taken : IsTaken (new_log quota upload.client) (resumed_upload upload None) lane
     pub ahead : GaveFewMore (refused_by gathered.stop) lane
     pub ends : ((gathered.stop ≡ kind.None) × IsSome lane.end) ⊎ ((gathered.stop ≡ kind.Memory) × (lane.end ≡ None))

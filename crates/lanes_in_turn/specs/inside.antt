@@ -1,6 +1,7 @@
 -- Steps of lanes in turn.
-use Rattle.std.specs.Prelude.{◌≡◌, ℕ, map, ◌+◌, ◌≤◌, List, length, ◌==◌, if◌then◌else◌, slice_get, Option, Some}
+use Rattle.std.specs.Prelude.{◌≡◌, ℕ, map, ◌+◌, ◌≤◌, List, ◌++◌, length, ◌==◌, if◌then◌else◌, slice_get, Option, Some}
 use Rattle.std.specs.List.{AllByRecursion}
+use Rattle.upload_reader.specs.Stream.{messages_of}
 use Rattle.upload_reader.specs.Upload.{UploadState, IsUntouched}
 use Rattle.lanes_in_turn.specs.Round.{AreTakenInTurn, IsFollowed}
 use Rattle.lanes_in_turn.specs.Taking.{begun_lane}
@@ -22,6 +23,14 @@ module _ {R : Type 0} where
 
   abbrev pub HaveFewTaken : List (List ℕ × LaneResult R) → Type 0
   HaveFewTaken lanes = (k : ℕ) (lane : List ℕ × LaneResult R) → slice_get lanes k ≡ Some lane → HasFewTaken lane.1
+
+  -- its log has the session of the messages that its upload gave, which begins behind the same ones
+  abbrev pub IsTogether : LaneResult R → Type 0
+  IsTogether lane = (now : UploadState R) → lane.upload ≡ Some now
+      → lane.log.session ≡ now.lane.earlier ++ messages_of now.given
+
+  abbrev pub AreTogether : List (List ℕ × LaneResult R) → Type 0
+  AreTogether lanes = (k : ℕ) (lane : List ℕ × LaneResult R) → slice_get lanes k ≡ Some lane → IsTogether lane.1
 
   -- whatever lanes these are, each was then asked so often, and gave so many messages more than were recorded
   abbrev pub AskLanes : ((ℕ → ℕ) → ℕ → ℕ) → (ℕ → ℕ) → List (List ℕ × LaneResult R) → List (List ℕ × LaneResult R)

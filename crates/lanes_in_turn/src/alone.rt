@@ -13,7 +13,7 @@ use client_log::{ClientLog, Quota};
 use indexmap::IndexMap;
 use page_tree::NoMemory;
 use std::sync::Wait;
-use upload_reader::{Client, Upload};
+use upload_reader::{Client, Session, Upload};
 
 /// Takes one upload to its end, in a first round: reads a message and records it, then the next. Where a message can't be recorded it stops there.
 pub fn gather_alone<R: Source + Drop, T: AllocGlobal + Wait>(
@@ -28,7 +28,10 @@ pub fn gather_alone<R: Source + Drop, T: AllocGlobal + Wait>(
     clients.reserve(1)?;
     let client = upload.client().copy()?;
     let log = ClientLog::new(rt.alloc(), client.copy()?, quota);
-    let mut lane = (client, new_lane(log, upload));
+    let mut lane = (
+        client,
+        new_lane(log, upload.resume(Session::new(rt.alloc()))),
+    );
     let stop = take_alone(rt, &mut lane, &Never);
     put_one(&mut clients, lane.0, lane.1);
     Ok(Gathered { clients, stop })

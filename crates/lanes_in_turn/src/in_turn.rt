@@ -3,7 +3,7 @@ ghost use Rattle.std.specs.Prelude.{◌<◌, length, IfOk, IfErr, OnOk, OnErr};
 ghost use Rattle.std.specs.List.{AllByRecursion};
 ghost use Rattle.upload_reader.specs.Upload.{IsUntouched};
 ghost use Rattle.lanes_in_turn.specs.Round.{GathersInTurn, IsFirst, IsNoRound, RefusesRound};
-ghost use Rattle.lanes_in_turn.specs.inside.{one_more, only, HaveFewTaken, AskLanes, FollowsSchedule};
+ghost use Rattle.lanes_in_turn.specs.inside.{one_more, only, HaveFewTaken, AreTogether, AskLanes, FollowsSchedule};
 
 use crate::fault::{GatherFault, RefusedRound};
 use crate::gathered::{Gathered, LaneResult, Stop};
@@ -54,6 +54,7 @@ pub fn gather_again_in_order<R: Source + Drop>(
 // Each entry takes the next of its lane.
 fn take_all<R: Source + Drop>(lanes: &mut [(Client, LaneResult<R>)], schedule: &[u32]) -> Stop
     requires few { HaveFewTaken lanes.old }
+    requires together { AreTogether lanes.old }
     ensures { FollowsSchedule schedule.now lanes.old lanes.new result }
 {
     for k in schedule {
@@ -73,7 +74,9 @@ fn take_at<R: Source + Drop>(
     k: usize,
 ) -> Result<(), NoMemory>
     requires few { HaveFewTaken lanes.old }
+    requires together { AreTogether lanes.old }
     ensures few { HaveFewTaken lanes.new }
+    ensures together { OnOk result (AreTogether lanes.new) }
     ensures goes { OnOk result (AskLanes (one_more k) (λ _. 0) lanes.old lanes.new) }
     ensures refused { OnErr result (AskLanes (λ asked. asked) (only k) lanes.old lanes.new) }
     ensures there { OnErr result (k < length lanes.new) }

@@ -4,7 +4,7 @@ ghost use Rattle.upload_reader.specs.Upload.{UploadState};
 ghost use Rattle.client_log.specs.Client.{OfClient};
 ghost use Rattle.lanes_in_turn.specs.Round.{IsTakenInTurn, have_ended, without_lane};
 ghost use Rattle.lanes_in_turn.specs.Taking.{items_in};
-ghost use Rattle.lanes_in_turn.specs.inside.{HasFewTaken};
+ghost use Rattle.lanes_in_turn.specs.inside.{HasFewTaken, IsTogether};
 
 use crate::gathered::LaneResult;
 use byte_streams::Source;
@@ -22,7 +22,9 @@ impl<R: Source + Drop> LaneResult<R> {
     // Takes the next of the lane, unless that has an end.
     pub(crate) fn take_next(&mut self) -> Result<(), NoMemory>
         requires few { HasFewTaken self.old }
+        requires together { IsTogether self.old }
         ensures few { HasFewTaken self.new }
+        ensures together { OnOk result (IsTogether self.new) }
         ensures goes { (before : OfClient) (begun : UploadState R) (asked : ℕ)
             → IsTakenInTurn before begun asked 0 self.old
             → OnOk result (IsTakenInTurn before begun (asked + 1) 0 self.new) }
@@ -41,7 +43,7 @@ impl<R: Source + Drop> LaneResult<R> {
         };
         match upload.next() {
             Next::Got(message, cost) => {
-                self.log.record(message, cost)?;
+                self.log.record_next(message, cost)?;
                 self.taken += 1;
             }
             Next::Over(end) => self.end = Some(Ending::Over(end)),

@@ -13,7 +13,7 @@ use client_log::{ClientLog, Quota};
 use indexmap::IndexMap;
 use page_tree::NoMemory;
 use std::alloc::Global;
-use upload_reader::{Client, Upload};
+use upload_reader::{Client, Session, Upload};
 
 /// The lanes of a round, of which nothing was taken, and room for all of them among the clients.
 pub(crate) fn begin_lanes<R: Source + Drop>(
@@ -60,7 +60,10 @@ fn begin_lane<R: Source + Drop>(
     let client = upload.client().copy()?;
     let lane = match clients.get(&client) {
         Some(known) => begin_behind(known, upload)?,
-        None => new_lane(ClientLog::new(alloc, client.copy()?, quota), upload),
+        None => {
+            let log = ClientLog::new(alloc, client.copy()?, quota);
+            new_lane(log, upload.resume(Session::new(alloc)))
+        }
     };
     Ok((client, lane))
 }

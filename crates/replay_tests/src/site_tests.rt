@@ -10,9 +10,49 @@ use std::process::Abort;
 use std::test::Fail;
 use xpath_child::Path;
 
-const WITH_X: &str = r#"{"n":"html","c":[{"n":"p","c":["x"]}]}"#;
+// Pages that are shown before or after. A row names one, since a text in a row is proved there.
+#[derive(Clone, Copy)]
+enum Shown {
+    X,
+    Y,
+    TwoX,
+    XThenY,
+    DeepX,
+    DeepXWithId,
+    DeepY,
+    DeepXAndY,
+    DeepXAndZ,
+}
 
-const WITH_Y: &str = r#"{"n":"html","c":[{"n":"p","c":["y"]}]}"#;
+impl Shown {
+    fn text(self) -> &'static str {
+        match self {
+            Shown::X => { r#"{"n":"html","c":[{"n":"p","c":["x"]}]}"# }
+            Shown::Y => { r#"{"n":"html","c":[{"n":"p","c":["y"]}]}"# }
+            Shown::TwoX => {
+                r#"{"n":"html","c":["t",{"n":"p","c":["x"]},{"n":"q"},{"n":"p","c":["x"]}]}"#
+            }
+            Shown::XThenY => {
+                r#"{"n":"html","c":["t",{"n":"p","c":["x"]},{"n":"q"},{"n":"p","c":["y"]}]}"#
+            }
+            Shown::DeepX => {
+                r#"{"n":"a","c":[{"n":"a","c":[{"n":"a","c":[{"n":"a","c":["x"]}]}]}]}"#
+            }
+            Shown::DeepXWithId => {
+                r#"{"n":"a","a":{"id":"1"},"c":[{"n":"a","c":[{"n":"a","c":[{"n":"a","c":["x"]}]}]}]}"#
+            }
+            Shown::DeepY => {
+                r#"{"n":"a","c":[{"n":"a","c":[{"n":"a","c":[{"n":"a","c":["y"]}]}]}]}"#
+            }
+            Shown::DeepXAndY => {
+                r#"{"n":"a","c":[{"n":"a","c":[{"n":"a","c":[{"n":"a","c":["x"]},{"n":"a","c":["y"]}]}]}]}"#
+            }
+            Shown::DeepXAndZ => {
+                r#"{"n":"a","c":[{"n":"a","c":[{"n":"a","c":[{"n":"a","c":["x"]},{"n":"a","c":["z"]}]}]}]}"#
+            }
+        }
+    }
+}
 
 // That page at these addresses, and a watched paragraph.
 fn watching(alloc: Global, addresses: &[&str], of: &str) -> Result<Table, Fail> {
@@ -28,7 +68,7 @@ fn count(page: Option<Page>) -> Option<u32> {
 
 // How many nodes the page at an address has, and whether the site signals where a paragraph changed.
 fn at<H: SiteHooks>(alloc: Global, site: &H, address: &str) -> Result<(Option<u32>, bool), Fail> {
-    let (old, new) = (page(alloc, WITH_X)?, page(alloc, WITH_Y)?);
+    let (old, new) = (page(alloc, Shown::X.text())?, page(alloc, Shown::Y.text())?);
     Ok((
         count(site.make(address)?),
         site.signals(address, &old, &new)?,
@@ -38,7 +78,7 @@ fn at<H: SiteHooks>(alloc: Global, site: &H, address: &str) -> Result<(Option<u3
 #[test]
 fn table_has_pages_and_watches_paths(rt: HostRuntime) -> Result<(), Fail> {
     let alloc = rt.alloc();
-    let mut table = watching(alloc, &["/p"], WITH_X)?;
+    let mut table = watching(alloc, &["/p"], Shown::X.text())?;
     assert!(rt; at(alloc, &table, "/p")? == (Some(3), true));
     assert!(rt; at(alloc, &table, "/q")? == (None, true));
     // A later page of the same address replaces, and a reference to a site is one.
@@ -47,27 +87,22 @@ fn table_has_pages_and_watches_paths(rt: HostRuntime) -> Result<(), Fail> {
     Ok(())
 }
 
-const TWO_X: &str = r#"{"n":"html","c":["t",{"n":"p","c":["x"]},{"n":"q"},{"n":"p","c":["x"]}]}"#;
-
-const X_THEN_Y: &str =
-    r#"{"n":"html","c":["t",{"n":"p","c":["x"]},{"n":"q"},{"n":"p","c":["y"]}]}"#;
-
 // A path, an old page, the new one, and whether the path has another text there.
-const WATCHED: [(&str, &str, &str, bool); 14] = [
-    ("/html", WITH_X, WITH_Y, true),
-    ("/*", WITH_X, WITH_Y, true),
-    ("/html/p", WITH_X, WITH_Y, true),
-    ("/*[1]/*[1]", WITH_X, WITH_Y, true),
-    ("/html/p[2]", WITH_X, WITH_Y, false),
-    ("/html/p/a", WITH_X, WITH_Y, false),
-    ("/html/p[2]", WITH_X, TWO_X, true),
-    ("/html/p[2]", TWO_X, WITH_X, true),
-    ("/html/p[2]", TWO_X, X_THEN_Y, true),
-    ("/html/*[3]", TWO_X, X_THEN_Y, true),
-    ("/html/*[2]", TWO_X, X_THEN_Y, false),
-    ("/html/p[1]", TWO_X, X_THEN_Y, false),
-    ("/html/p", TWO_X, X_THEN_Y, false),
-    ("/html/*", WITH_X, TWO_X, true),
+const WATCHED: &[(&str, Shown, Shown, bool)] = &[
+    ("/html", Shown::X, Shown::Y, true),
+    ("/*", Shown::X, Shown::Y, true),
+    ("/html/p", Shown::X, Shown::Y, true),
+    ("/*[1]/*[1]", Shown::X, Shown::Y, true),
+    ("/html/p[2]", Shown::X, Shown::Y, false),
+    ("/html/p/a", Shown::X, Shown::Y, false),
+    ("/html/p[2]", Shown::X, Shown::TwoX, true),
+    ("/html/p[2]", Shown::TwoX, Shown::X, true),
+    ("/html/p[2]", Shown::TwoX, Shown::XThenY, true),
+    ("/html/*[3]", Shown::TwoX, Shown::XThenY, true),
+    ("/html/*[2]", Shown::TwoX, Shown::XThenY, false),
+    ("/html/p[1]", Shown::TwoX, Shown::XThenY, false),
+    ("/html/p", Shown::TwoX, Shown::XThenY, false),
+    ("/html/*", Shown::X, Shown::TwoX, true),
 ];
 
 // It watches that path behind so many that no page has, and has that page at `/kept`.
@@ -82,55 +117,104 @@ fn watching_behind(alloc: Global, others: u32, path: &str, of: &str) -> Result<T
     Ok(table)
 }
 
+// Whether the table signals a change between these pages at an address.
+fn signals(
+    alloc: Global,
+    table: &Table,
+    address: &str,
+    before: Shown,
+    after: Shown,
+) -> Result<bool, Fail> {
+    let (old, new) = (page(alloc, before.text())?, page(alloc, after.text())?);
+    Ok(table.signals(address, &old, &new)?)
+}
+
+// Whether it signals that at the page's own address and at another.
+fn both_signal(
+    alloc: Global,
+    table: &Table,
+    before: Shown,
+    after: Shown,
+    changed: bool,
+) -> Result<bool, Fail> {
+    Ok(
+        signals(alloc, table, "/kept", before, after)? == changed
+            && signals(alloc, table, "/other", before, after)? == changed,
+    )
+}
+
+fn is_watched(
+    alloc: Global,
+    others: u32,
+    path: &str,
+    before: Shown,
+    after: Shown,
+    changed: bool,
+) -> Result<bool, Fail> {
+    let table = watching_behind(alloc, others, path, after.text())?;
+    both_signal(alloc, &table, before, after, changed)
+}
+
 #[test]
 fn few_or_many_paths_are_watched_alike(rt: HostRuntime) -> Result<(), Fail> {
-    let alloc = rt.alloc();
-    for others in [0, 40] {
-        for (path, before, after, changed) in WATCHED {
-            let table = watching_behind(alloc, others, path, after)?;
-            let (old, new) = (page(alloc, before)?, page(alloc, after)?);
-            for address in ["/kept", "/other"] {
-                assert!(rt; table.signals(address, &old, &new)? == changed);
-            }
-        }
+    for &(path, before, after, changed) in WATCHED {
+        assert!(rt;
+            is_watched(rt.alloc(), 0, path, before, after, changed)?,
+            "{path}"
+        );
+        assert!(rt;
+            is_watched(rt.alloc(), 40, path, before, after, changed)?,
+            "{path}, of many"
+        );
     }
     Ok(())
 }
 
-const DEEP: &str =
-    r#"{"n":"a","c":[{"n":"a","c":[{"n":"a","c":[{"n":"a","c":[{"n":"a","c":[{"n":"a","c":["x"]}]}]}]}]}]}"#;
+// An old page, the new one, and whether one of the paths of four steps has another text there. Half of them find both of two.
+const DEEP: &[(Shown, Shown, bool)] = &[
+    (Shown::DeepX, Shown::DeepXWithId, false),
+    (Shown::DeepX, Shown::DeepY, true),
+    (Shown::DeepX, Shown::DeepXAndY, true),
+    (Shown::DeepXAndY, Shown::DeepX, true),
+    (Shown::DeepXAndY, Shown::DeepXAndZ, false),
+    (Shown::DeepY, Shown::DeepXAndY, true),
+];
 
-const DEEP_WITH_ID: &str =
-    r#"{"n":"a","a":{"id":"1"},"c":[{"n":"a","c":[{"n":"a","c":[{"n":"a","c":[{"n":"a","c":[{"n":"a","c":["x"]}]}]}]}]}]}"#;
-
-const DEEP_WITH_Y: &str =
-    r#"{"n":"a","c":[{"n":"a","c":[{"n":"a","c":[{"n":"a","c":[{"n":"a","c":[{"n":"a","c":["y"]}]}]}]}]}]}"#;
-
-// A path of six steps, each of them `a` or `*`.
+// A path of four steps, each of them written in one of four ways.
 fn path_by(alloc: Global, ways: u32) -> Result<Path, Fail> {
     let mut text = String::new(alloc);
     let mut left = ways;
-    for _level in 0..6 {
-        text.push_str(if left % 2 == 0 { "/a" } else { "/*" })?;
-        left /= 2;
+    for _level in 0..4 {
+        text.push_str(match left % 4 {
+            0 => "/a",
+            1 => "/*",
+            2 => "/a[1]",
+            _ => "/*[1]",
+        })?;
+        left /= 4;
     }
     Ok(Path::read(alloc, text.as_str())?)
 }
 
-// So many paths lead to one node that they are looked for one by one.
-#[test]
-fn many_paths_lead_to_one_node(rt: HostRuntime) -> Result<(), Fail> {
-    let alloc = rt.alloc();
+// It watches a path of four steps in each of its ways, and has that page at `/kept`.
+fn watching_all_ways(alloc: Global, of: Shown) -> Result<Table, Fail> {
     let mut table = Table::new(alloc);
-    for ways in 0..64 {
+    for ways in 0..256 {
         table.watch(path_by(alloc, ways)?)?;
     }
-    let old = page(alloc, DEEP)?;
-    table.add_page(text(alloc, "/id")?, page(alloc, DEEP_WITH_ID)?)?;
-    table.add_page(text(alloc, "/y")?, page(alloc, DEEP_WITH_Y)?)?;
-    for address in ["/id", "/y", "/other"] {
-        assert!(rt; !table.signals(address, &old, &page(alloc, DEEP_WITH_ID)?)?);
-        assert!(rt; table.signals(address, &old, &page(alloc, DEEP_WITH_Y)?)?);
+    table.add_page(text(alloc, "/kept")?, page(alloc, of.text())?)?;
+    Ok(table)
+}
+
+#[test]
+fn all_ways_to_write_a_path_lead_to_one_node(rt: HostRuntime) -> Result<(), Fail> {
+    for &(before, after, changed) in DEEP {
+        let table = watching_all_ways(rt.alloc(), after)?;
+        assert!(rt;
+            both_signal(rt.alloc(), &table, before, after, changed)?,
+            "{}",
+            after.text()
+        );
     }
     Ok(())
 }
@@ -138,7 +222,7 @@ fn many_paths_lead_to_one_node(rt: HostRuntime) -> Result<(), Fail> {
 // Two sites with pages at all these addresses: that of the prefix has three nodes, and watches a path.
 fn forked(alloc: Global) -> Result<Fork<Table, Table>, Fail> {
     let addresses = ["/a", "/ab", "/b", "", "/"];
-    let inside = watching(alloc, &addresses, WITH_X)?;
+    let inside = watching(alloc, &addresses, Shown::X.text())?;
     let outside = site(alloc, &addresses, OLD)?;
     Ok(Fork::new(text(alloc, "/a")?, inside, outside))
 }
@@ -175,7 +259,7 @@ fn ask<F: PageMaker + Sync + Drop, C: ConflictTeller + Sync + Drop, L: SiteLaw +
 
 // How many nodes the page has that closures over a table make at an address, and what they signal there.
 fn asked_of(alloc: Global, table: &Table, address: &str) -> Result<(Option<u32>, bool), Fail> {
-    let (old, new) = (page(alloc, WITH_X)?, page(alloc, WITH_Y)?);
+    let (old, new) = (page(alloc, Shown::X.text())?, page(alloc, Shown::Y.text())?);
     let (made, told) = ask(
         |at: &str| table.make(at),
         |at: &str, old: &Page, new: &Page| table.signals(at, old, new),
@@ -189,7 +273,7 @@ fn asked_of(alloc: Global, table: &Table, address: &str) -> Result<(Option<u32>,
 
 #[test]
 fn closures_answer_by_their_law(rt: HostRuntime) -> Result<(), Fail> {
-    let table = watching(rt.alloc(), &["/p"], WITH_X)?;
+    let table = watching(rt.alloc(), &["/p"], Shown::X.text())?;
     assert!(rt; asked_of(rt.alloc(), &table, "/p")? == (Some(3), true));
     assert!(rt; asked_of(rt.alloc(), &table, "/q")? == (None, true));
     Ok(())
@@ -207,7 +291,7 @@ impl SiteLaw for NoSite {
 
 #[test]
 fn closures_of_no_site(rt: HostRuntime) -> Result<(), Fail> {
-    let page = page(rt.alloc(), WITH_X)?;
+    let page = page(rt.alloc(), Shown::X.text())?;
     let (made, told) = ask(
         |_at: &str| Ok(None),
         |_at: &str, _old: &Page, _new: &Page| Ok(false),
@@ -222,7 +306,7 @@ fn closures_of_no_site(rt: HostRuntime) -> Result<(), Fail> {
 
 #[test]
 fn want_of_memory_is_passed_on(rt: HostRuntime) -> Result<(), Fail> {
-    let page = page(rt.alloc(), WITH_X)?;
+    let page = page(rt.alloc(), Shown::X.text())?;
     let (made, told) = ask(
         |_at: &str| Err(AllocError),
         |_at: &str, _old: &Page, _new: &Page| Err(AllocError),

@@ -17,8 +17,8 @@ use Rattle.page_tree.specs.Tree.{Tree}
 use Rattle.std.proofs.lemmas.List.Folds.{list_any-append, list_any_at}
 use Rattle.xpath_child.specs.Path.{Step}
 use Rattle.site_hooks.specs.Findings.{AreFound}
-use Rattle.site_hooks.specs.Fronts.{AddsPath}
-use Rattle.site_hooks.specs.Kept.{IsOfFirst}
+use Rattle.site_hooks.specs.Kept.{AddsPath, IsOfFirst}
+use Rattle.site_hooks.specs.declared.findings.Findings.{Findings}
 use Rattle.site_hooks.specs.declared.site_page.SitePage.{SitePage}
 
 -- a list with each path once has one that passes where the whole list has
@@ -36,17 +36,18 @@ same_any test paths once now path same adds =
     ]
 
 -- what was found by all of them
-pub kept_whole : (paths : List (List Step)) (site_page : SitePage) (page : Tree) → IsOfFirst paths site_page → site_page.watched ≡ length paths → site_page.page ≡ page → AreFound page paths site_page.found
-kept_whole paths site_page page kept many same =
-    subst (λ p. AreFound p paths site_page.found) same
-    (subst (λ ps. AreFound site_page.page ps site_page.found) (take_all site_page.watched paths (omega (arith, many))) kept.1)
+pub kept_whole : (paths : List (List Step)) (site_page : SitePage) (page : Tree) (found : Findings) → IsOfFirst paths site_page → site_page.watched ≡ length paths → site_page.page ≡ page → site_page.found ≡ Some found
+    → AreFound page paths found
+kept_whole paths site_page page found kept many same is =
+    subst (λ p. AreFound p paths found) same
+    (subst (λ ps. AreFound site_page.page ps found) (take_all site_page.watched paths (omega (arith, many))) (kept.1 found is))
 
 -- what was found on a page is kept
 still_kept : (once now : List (List Step)) (path : List Step) (site_page : SitePage) → AddsPath once path now → IsOfFirst once site_page → IsOfFirst now site_page
 still_kept once now path site_page adds kept = elim adds [
   | inl added ↦ subst (λ paths. IsOfFirst paths site_page) (sym added) (
     omega (arith, kept.0, length-append once (path ∷ [])),
-    subst (λ paths. AreFound site_page.page paths site_page.found) (sym (take-append-le site_page.watched once (path ∷ []) kept.0)) kept.1,
+    λ found is. subst (λ paths. AreFound site_page.page paths found) (sym (take-append-le site_page.watched once (path ∷ []) kept.0)) (kept.1 found is),
   )
   | inr there ↦ subst (λ paths. IsOfFirst paths site_page) (sym there.0) kept
 ]

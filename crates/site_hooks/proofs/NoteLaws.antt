@@ -1,5 +1,5 @@
 -- What is noted of paths, node by node, is what they find.
-use Rattle.std.proofs.Common.{◌≡◌, ◌≢◌, ℕ, ◌<◌, ◌==◌, inl, inr, Bool, true, false, cond, List, [], length, get_or, Option, Some, unwrap_or, Result, Ok, Err, refl, sym, ◌∙◌, ap, subst}
+use Rattle.std.proofs.Common.{◌≡◌, ◌⊎◌, ◌≢◌, ℕ, ◌<◌, ◌==◌, inl, inr, Bool, true, false, cond, List, [], length, get_or, Result, Ok, Err, refl, sym, ◌∙◌, ap, subst}
 use Rattle.std.specs.Result.{OnOk}
 use Rattle.std.proofs.lemmas.Bool.{cases_lt, eqb-true, eq-eqb}
 use Rattle.std.proofs.lemmas.List.{get_or_past}
@@ -17,11 +17,6 @@ use Rattle.xpath_child.specs.declared.path.Target.TheVariants.{Missing, One, Sev
 use Rattle.xpath_child.proofs.Places.{target_in-is}
 use Rattle.site_hooks.specs.Findings.{found_by, noted, IsReached, IsNoted, AreFound, Grows}
 use Rattle.site_hooks.specs.declared.findings.Findings.{Findings}
-
--- what was put, as it is found
-pub found_put : (b : Bool) (f : Found) (o : Option Found) → unwrap_or (cond b (Some f) o) found.Missing ≡ cond b f (unwrap_or o found.Missing)
-found_put true f o = refl
-found_put false f o = refl
 
 pub on_ok : {X Y P Q : Type 0} (result : Result X Y) → (P → Q) → OnOk result P → OnOk result Q
 on_ok (Ok x) f h = f h
@@ -73,27 +68,28 @@ module _ (page : Tree) (at : ℕ) where
         either false is = (place_numbered number page, place_numbered at page, other is, h.1, reached)
     still_reached found.Several h = h
 
-module _ (page : Tree) (paths : List (List Step)) (old new : Findings) (number at : ℕ)
-    (is : (other : ℕ) → found_by new other ≡ cond (number == other) (noted at (found_by old number)) (found_by old other)) where
-  own : found_by new number ≡ noted at (found_by old number)
-  own = is number ∙ ap (λ b. cond b (noted at (found_by old number)) (found_by old number)) (eq-eqb number number refl)
+-- of each path nothing more was noted, or that node, which it reaches
+pub each_grows : (page : Tree) (paths : List (List Step)) (old new : Findings) (at : ℕ) → at < nodes page
+    → ((number : ℕ) → (found_by new number ≡ found_by old number)
+    ⊎ ((found_by new number ≡ noted at (found_by old number)) × Reaches (get_or paths number []) page (place_numbered at page)))
+    → Grows page paths old new
+each_grows page paths old new at within each = record {
+  kept = λ number place h. elim (each number) [
+    | inl same ↦ subst (λ f. IsNoted page f place) (sym same) h
+    | inr more ↦ subst (λ f. IsNoted page f place) (sym more.0) (stays_there page at (found_by old number) place h)
+  ];
+  right = λ was number. elim (each number) [
+    | inl same ↦ subst (IsReached page (get_or paths number [])) (sym same) (was number)
+    | inr more ↦ subst (IsReached page (get_or paths number [])) (sym more.0) (still_reached page at (get_or paths number []) within more.1 (found_by old number) (was number))
+  ];
+}
 
-  -- a law of each number, from that of the one that is noted
-  each_number : (P : ℕ → Found → Type 0) → P number (noted at (found_by old number)) → ((other : ℕ) → P other (found_by old other)) → (other : ℕ) → P other (found_by new other)
-  each_number P here there other = subst (P other) (sym (is other)) (either (number == other) refl)
-    where
-      either : (b : Bool) → (number == other) ≡ b → P other (cond b (noted at (found_by old number)) (found_by old other))
-      either true same = subst (λ n. P n (noted at (found_by old number))) (eqb-true number other same) here
-      either false differ = there other
-
-  pub noted_there : IsNoted page (found_by new number) (place_numbered at page)
-  noted_there = subst (λ f. IsNoted page f (place_numbered at page)) (sym own) (now_there page at (found_by old number))
-
-  pub noted_grows : at < nodes page → Reaches (get_or paths number []) page (place_numbered at page) → Grows page paths old new
-  noted_grows within reached = record {
-    kept = λ other place h. each_number (λ k f. IsNoted page (found_by old k) place → IsNoted page f place) (λ was. stays_there page at (found_by old number) place was) (λ k was. was) other h;
-    right = λ was. each_number (λ k f. IsReached page (get_or paths k []) f) (still_reached page at (get_or paths number []) within reached (found_by old number) (was number)) was;
-  }
+-- it was noted, or there is nothing more to note
+pub noted_there : (page : Tree) (at : ℕ) (old new : Found) → ((new ≡ found.Several) ⊎ (new ≡ noted at old)) → IsNoted page new (place_numbered at page)
+noted_there page at old new h = elim h [
+  | inl several ↦ subst (λ f. IsNoted page f (place_numbered at page)) (sym several) tt
+  | inr more ↦ subst (λ f. IsNoted page f (place_numbered at page)) (sym more) (now_there page at old)
+]
 
 -- ---- all is noted
 

@@ -1,8 +1,6 @@
 -- What paths find on a page, by the paths' numbers.
-use Rattle.std.specs.Prelude.{◌≡◌, ◌<◌, ◌==◌, ⊤, ℕ, List, [], Bool, not, if◌then◌else◌, get_or, unwrap_or, option_map}
-use Rattle.std.specs.BTreeMap.{get}
+use Rattle.std.specs.Prelude.{◌≡◌, ◌<◌, ◌==◌, ⊤, ℕ, List, [], Bool, not, if◌then◌else◌, get_or, option_map}
 use Rattle.std.specs.Option.{option_eq}
-use Rattle.std.specs.Ordering.{nat_cmp}
 use Rattle.std.specs.Str.{bytes_eq}
 use Rattle.page_tree.specs.Tree.{Tree}
 use Rattle.page_tree.specs.Limits.{nodes}
@@ -13,22 +11,17 @@ use Rattle.xpath_child.specs.Reaches.{Reaches, IsTarget}
 use Rattle.xpath_child.specs.Targets.{target_in, place_found, only_place}
 use Rattle.xpath_child.specs.declared.path.Found.{Found}
 use Rattle.xpath_child.specs.declared.path.Found.TheVariants as found
-use Rattle.xpath_child.specs.declared.path.Target.{Target}
 use Rattle.xpath_child.specs.declared.path.Target.TheVariants.{Several}
 use Rattle.site_hooks.specs.declared.findings.Findings.{Findings}
 
 -- what the path of that number found
 abbrev pub found_by : Findings → ℕ → Found
-found_by findings number = unwrap_or (get nat_cmp findings.found number) found.Missing
-
--- it found what the path of that number finds
-abbrev pub IsFound : Tree → List (List Step) → Findings → ℕ → Type 0
-IsFound page paths findings number =
-    place_found page (found_by findings number) ≡ target_in (get_or paths number []) page
+found_by findings number = get_or findings.found.items number found.Missing
 
 -- what each path finds; nothing, past the last one
 abbrev pub AreFound : Tree → List (List Step) → Findings → Type 0
-AreFound page paths findings = (number : ℕ) → IsFound page paths findings number
+AreFound page paths findings =
+    (number : ℕ) → place_found page (found_by findings number) ≡ target_in (get_or paths number []) page
 
 -- ---- noted node by node
 
@@ -59,17 +52,11 @@ pub record Grows (page : Tree) (paths : List (List Step)) (old new : Findings) :
 
 -- ---- texts
 
--- the texts at two targets, each on its page, are not the same
-abbrev pub texts_differ : Tree → Target → Tree → Target → Bool
-texts_differ old before new after = not (option_eq bytes_eq
-    (option_map (λ place. text_at place old) (only_place before))
-    (option_map (λ place. text_at place new) (only_place after)))
+-- the texts at what was found on each of two pages are not the same
+abbrev pub found_differ : Tree → Found → Tree → Found → Bool
+found_differ old before new after = not (option_eq bytes_eq
+    (option_map (λ place. text_at place old) (only_place (place_found old before)))
+    (option_map (λ place. text_at place new) (only_place (place_found new after))))
 
--- what a path found on the old page, and on the new one, beside what it found on the other
-abbrev pub differs_before : Tree → Tree → Findings → ℕ × Found → Bool
-differs_before old new after found =
-    texts_differ old (place_found old found.1) new (place_found new (found_by after found.0))
-
-abbrev pub differs_after : Tree → Tree → Findings → ℕ × Found → Bool
-differs_after old new before found =
-    texts_differ old (place_found old (found_by before found.0)) new (place_found new found.1)
+abbrev pub differ_by : Tree → Findings → Tree → Findings → ℕ → Bool
+differ_by old before new after number = found_differ old (found_by before number) new (found_by after number)

@@ -1,8 +1,9 @@
 pub mod Closures
 pub mod Findings
 pub mod Fork
-pub mod Fronts
 pub mod Kept
+pub mod Levels
+pub mod Sets
 pub mod Siblings
 pub mod Table
 pub mod Walk

@@ -1,12 +1,11 @@
 -- A walk over a page for many paths.
-use Rattle.std.specs.Prelude.{◌≡◌, ◌<◌, ◌&&◌, ℕ, suc, List, [], ◌∷◌, ◌++◌, length, get_or, IsTrue, IsSome, Option, Some}
-use Rattle.std.specs.List.{Contains}
+use Rattle.std.specs.Prelude.{◌≡◌, ◌&&◌, ◌↔◌, ℕ, suc, List, [], ◌++◌, get_or, length, take, drop, slice_get, IsTrue, IsSomeAnd, Option, Some}
 use Rattle.std.specs.Option.{option_map_or}
 use Rattle.page_tree.specs.Tree.{Tree}
-use Rattle.xpath_child.specs.Path.{Step, IsStep, IsPath, step_text, path_text}
+use Rattle.xpath_child.specs.Path.{Step}
 use Rattle.xpath_child.specs.Reaches.{matches, is_nth, LeadsOn, Reaches}
 use Rattle.site_hooks.specs.Findings.{found_by, IsNoted, Grows}
-use Rattle.site_hooks.specs.Fronts.{known_front}
+use Rattle.site_hooks.specs.Sets.{Has}
 use Rattle.site_hooks.specs.declared.findings.Findings.{Findings}
 use Rattle.site_hooks.specs.declared.walk.Walk.{Walk}
 
@@ -19,41 +18,27 @@ abbrev pub IsPicked : List ℕ → ℕ → ℕ → Step → Type 0
 IsPicked name same elements step =
     IsTrue (matches step.test (Some name) && is_nth step.index (before_test same elements step.test))
 
--- the text is the front's, and behind it that of a step which selects such a child
-pub record StepsOn (name : List ℕ) (same elements : ℕ) (front text : List ℕ) : Type 0 where
-  pub step : Step
-  pub is_step : IsStep step
-  pub picked : IsPicked name same elements step
-  pub is : text ≡ front ++ 47 ∷ step_text step
+-- the path's step at that level does
+abbrev pub PicksAt : List Step → ℕ → List ℕ → ℕ → ℕ → Type 0
+PicksAt path level name same elements = IsSomeAnd (slice_get path level) (IsPicked name same elements)
 
--- the text is that of a path which reaches the place
-pub record IsRoute (page : Tree) (at text : List ℕ) : Type 0 where
-  pub path : List Step
-  pub is_path : IsPath path
-  pub is : path_text path ≡ text
-  pub levels : length path ≡ suc (length at)
-  pub reaches : Reaches path page at
+-- the first steps of the path, one for each level down to the place, lead there
+abbrev pub LeadsDownTo : Tree → List ℕ → List Step → Type 0
+LeadsDownTo page at path = Reaches (take (suc (length at)) path) page at
 
--- of the path that has the text, the place was noted
+-- the set has the numbers of the paths that lead there
+abbrev pub AreAlive : Walk → List ℕ → List ℕ → Type 0
+AreAlive walk at alive =
+    (number : ℕ) → Has alive number ↔ LeadsDownTo walk.page.now at (get_or walk.paths.now number [])
+
+-- of each path that is in the set and ends at that level, the place was noted
 abbrev pub EndsFound : Walk → List ℕ → List ℕ → Findings → Type 0
-EndsFound walk text at found = (number : ℕ) → known_front walk.fronts.now text ≡ Some (Some number)
-    → IsNoted walk.page.now (found_by found number) at
+EndsFound walk alive at found = (number : ℕ) → Has alive number
+    → length (get_or walk.paths.now number []) ≡ suc (length at) → IsNoted walk.page.now (found_by found number) at
 
--- each known front is there that a step gives behind that one which selects such a child
-abbrev pub LeadsBy : Walk → List ℕ → ℕ → ℕ → List ℕ → List (List ℕ) → Type 0
-LeadsBy walk name same elements front further = (step : Step) → IsPicked name same elements step
-    → IsSome (known_front walk.fronts.now (front ++ 47 ∷ step_text step))
-    → Contains further (front ++ 47 ∷ step_text step)
-
--- each text is behind one of these fronts
-abbrev pub ComesFrom : List ℕ → ℕ → ℕ → List (List ℕ) → List (List ℕ) → Type 0
-ComesFrom name same elements fronts further = (text : List ℕ) → Contains further text
-    → (front : List ℕ) × Contains fronts front × StepsOn name same elements front text
-
--- below a place, each was noted where a path leads that goes on from one of these fronts
-pub record FindsAll (walk : Walk) (fronts : List (List ℕ)) (at : List ℕ) (old new : Findings) : Type 0 where
+-- at and below a place, each was noted where a path of the set goes on
+pub record FindsAll (walk : Walk) (alive at : List ℕ) (old new : Findings) : Type 0 where
   pub grows : Grows walk.page.now walk.paths.now old new
-  pub every : (front : List ℕ) (number : ℕ) (steps : List Step) (positions : List ℕ) → Contains fronts front
-      → number < length walk.paths.now → path_text (get_or walk.paths.now number []) ≡ front ++ path_text steps
-      → LeadsOn walk.page.now at steps positions
+  pub every : (number : ℕ) (positions : List ℕ) → Has alive number
+      → LeadsOn walk.page.now at (drop (suc (length at)) (get_or walk.paths.now number [])) positions
       → IsNoted walk.page.now (found_by new number) (at ++ positions)

@@ -5,12 +5,15 @@
 //! caller's beside the law that they keep (`Closures`), and two sites parted by a prefix of the address (`Fork`).
 #![tactic(auto)]
 
+mod changes;
 mod closures;
 mod findings;
 mod fork;
-mod fronts;
 mod hooks;
 mod law;
+mod levels;
+mod noting;
+mod number_set;
 mod setting_up;
 mod siblings;
 mod site_page;

@@ -10,6 +10,9 @@ use std::alloc::Global;
 use std::collections::BTreeMap;
 use xpath_child::Path;
 
+/// How many findings of watched paths a table keeps at the most, 8 bytes each.
+const MOST_FINDINGS: usize = 1_048_576;
+
 impl Table {
     /// A site without pages that watches nothing. It takes no memory.
     pub fn new(alloc: Global) -> Table
@@ -29,7 +32,8 @@ impl Table {
         ensures err { OnErr result ((other : List ℕ) → table_page self.new other ≡ table_page self.old other) }
         ensures watched { watched_in self.new ≡ watched_in self.old }
     {
-        let site_page = SitePage::new(page, &self.list)?;
+        let is_kept = self.pages.len() < MOST_FINDINGS / self.list.len().max(1);
+        let site_page = SitePage::new(page, &self.list, is_kept)?;
         self.pages.insert(address.into_string(), site_page)?;
         Ok(())
     }

@@ -7,20 +7,24 @@ use crate::watch_list::WatchList;
 use page_tree::{NoMemory, Page};
 use std::fmt;
 
-/// A page, and what the paths find on it that were watched when it was added, so many.
+/// A page, and what the paths find on it that were watched when it was added, so many; none where that isn't kept.
 #[derive(Drop)]
 pub(crate) struct SitePage {
     pub(crate) page: Page,
-    pub(crate) found: Findings,
+    pub(crate) found: Option<Findings>,
     pub(crate) watched: usize,
 }
 
 impl SitePage {
-    pub(crate) fn new(page: Page, watched: &WatchList) -> Result<SitePage, NoMemory>
+    pub(crate) fn new(page: Page, watched: &WatchList, is_kept: bool) -> Result<SitePage, NoMemory>
         ensures page { IfOk result (λ site_page. site_page.page ≡ page) }
         ensures kept { IfOk result (λ site_page. IsOfFirst watched.now site_page) }
     {
-        let found = watched.find(&page)?;
+        let found = if is_kept {
+            Some(watched.find(&page)?)
+        } else {
+            None
+        };
         Ok(SitePage {
             page,
             found,

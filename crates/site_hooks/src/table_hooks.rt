@@ -10,13 +10,14 @@ use crate::table::Table;
 use page_tree::{NoMemory, Page};
 
 impl Table {
-    // What the watched paths find on a page, where it is the one at that address, and no path came since it was added.
+    // What the watched paths find on a page, where it is kept, the page is the one at that address, and no path came since it was added.
     fn found(&self, address: &str, page: &Page) -> Option<&Findings>
         ensures { IfSome result (λ found. AreFound page.now self.now.list found.now) }
     {
         let site_page = self.pages.get(address)?;
+        let found = site_page.found.as_ref()?;
         if site_page.watched == self.list.len() && site_page.page.same(page) {
-            Some(&site_page.found)
+            Some(found)
         } else {
             None
         }

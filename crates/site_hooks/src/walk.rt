@@ -1,95 +1,79 @@
 //! A walk over a page that finds what any of many paths reaches.
-ghost use Rattle.std.specs.Prelude.{◌≡◌, ◌⊎◌, ◌+◌, ◌^◌, ◌<◌, ◌++◌, ◌∷◌, ℕ, List, IsTrue, IsSome, IfOk, OnOk};
-ghost use Rattle.std.specs.List.{Contains};
+ghost use Rattle.std.specs.Prelude.{◌≡◌, ◌↔◌, ◌+◌, ◌^◌, ◌<◌, [], ℕ, length, get_or, IsTrue, IfOk, OnOk};
 ghost use Rattle.page_tree.specs.Limits.{nodes};
 ghost use Rattle.page_tree.specs.Name.{is_name};
 ghost use Rattle.page_tree.specs.Number.{place_numbered};
-ghost use Rattle.xpath_child.specs.Path.{max_index_digits, index_text};
+ghost use Rattle.xpath_child.specs.Path.{max_index_digits};
 ghost use Rattle.site_hooks.specs.Findings.{AreFound, Grows};
-ghost use Rattle.site_hooks.specs.Fronts.{known_front, AreFronts};
-ghost use Rattle.site_hooks.specs.Walk.{StepsOn, IsRoute, EndsFound, LeadsBy, ComesFrom, FindsAll};
+ghost use Rattle.site_hooks.specs.Levels.{AreLevels};
+ghost use Rattle.site_hooks.specs.Sets.{Has};
+ghost use Rattle.site_hooks.specs.Walk.{PicksAt, AreAlive, EndsFound, FindsAll};
 
 use crate::findings::Findings;
-use crate::fronts::{Fronts, text_behind};
+use crate::levels::Level;
+use crate::number_set::{all_numbers, clear, has_none, no_numbers, word_count};
 use crate::siblings::Siblings;
-use page_tree::{NoMemory, Page, Text};
-use std::alloc::{AllocError, AllocFailed, Global};
+use page_tree::{NoMemory, Page};
+use std::alloc::Global;
 use xpath_child::Path;
 
-/// Why a walk has no end.
-#[derive(Clone, Copy, Debug, PartialEq, Eq)]
-pub(crate) enum WalkFault {
-    NoMemory,
-    /// It would take more steps than it was given.
-    TooLong,
-}
-
-impl From<AllocError> for WalkFault {
-    fn from(_e: AllocError) -> WalkFault {
-        WalkFault::NoMemory
-    }
-}
-
-impl<T: Drop> From<AllocFailed<T>> for WalkFault {
-    fn from(_e: AllocFailed<T>) -> WalkFault {
-        WalkFault::NoMemory
-    }
-}
-
-/// A walk over a page, by the fronts of these paths.
+/// A walk over a page, by the steps of these paths.
 #[derive(Drop)]
 pub(crate) struct Walk<'a> {
     pub(crate) alloc: Global,
     pub(crate) paths: &'a [Path],
-    pub(crate) fronts: &'a Fronts,
+    pub(crate) levels: &'a [Level],
     pub(crate) page: &'a Page,
 }
 
 impl<'a> Walk<'a> {
-    /// What each path finds; it takes at most so many steps.
-    pub(crate) fn find(&self, steps: usize) -> Result<Findings, WalkFault>
-        requires { AreFronts self.now.fronts.now self.now.paths.now }
+    /// What each path finds.
+    pub(crate) fn find(&self) -> Result<Findings, NoMemory>
+        requires { AreLevels self.now.levels.now self.now.paths.now }
         ensures { IfOk result (λ found. AreFound self.now.page.now self.now.paths.now found) }
     {
-        let mut found = Findings::new(self.alloc);
+        let mut found = Findings::new(self.alloc, self.paths.len())?;
         let Some(name) = self.page.name_of(0) else {
             return Ok(found);
         };
         self.page.within_limits();
-        let mut left = steps;
-        let start = [Text::from_str(self.alloc, "")?];
-        let fronts = self.behind(&start, name, 0, 0)?;
-        self.visit(0, fronts.as_slice(), &mut found, &mut left)?;
+        let all = all_numbers(self.alloc, word_count(self.paths.len()))?;
+        let mut alive = no_numbers(self.alloc, all.len())?;
+        self.lead(0, name, 0, 0, &all, &mut alive)?;
+        self.visit(0, 0, &alive, &mut found)?;
         Ok(found)
     }
 
-    // Notes the node for the paths that have one of these fronts for their text, which all lead to it, and goes on below.
+    // Notes the node for the paths in the set that end there, which all lead to it, and goes on below.
     #[inline(never)]
     fn visit(
         &self,
         at: u32,
-        fronts: &[Text],
+        level: usize,
+        alive: &[u64],
         found: &mut Findings,
-        left: &mut usize,
-    ) -> Result<(), WalkFault>
-        requires fronts { AreFronts self.now.fronts.now self.now.paths.now }
+    ) -> Result<(), NoMemory>
+        requires levels { AreLevels self.now.levels.now self.now.paths.now }
         requires inside { at < nodes self.now.page.now }
-        requires routes { (front : List ℕ) → Contains fronts.now front
-            → IsRoute self.now.page.now (place_numbered at self.now.page.now) front }
-        ensures { OnOk result (FindsAll self.now fronts.now (place_numbered at self.now.page.now) found.old found.new) }
+        requires level { level ≡ length (place_numbered at self.now.page.now) }
+        requires alive { AreAlive self.now (place_numbered at self.now.page.now) alive.now }
+        requires found { length found.old.found.items ≡ length self.now.paths.now }
+        ensures len { length found.new.found.items ≡ length self.now.paths.now }
+        ensures finds { OnOk result (FindsAll self.now alive.now (place_numbered at self.now.page.now) found.old found.new) }
     {
-        if fronts.is_empty() {
+        if level >= self.levels.len() || has_none(alive) {
             return Ok(());
         }
         self.page.within_limits();
-        self.note(at, fronts, found)?;
+        self.note(at, level, alive, found);
+        let mut below = no_numbers(self.alloc, alive.len())?;
         let mut siblings = Siblings::new(self.alloc);
         let mut child = self.page.nodes_under(at).start;
         for i in 0..self.page.children_of(at) {
             if let Some(name) = self.page.name_of(child) {
-                spend(left, fronts.len())?;
-                let further = self.behind(fronts, name, siblings.named(name), siblings.elements)?;
-                self.visit(child, further.as_slice(), found, left)?;
+                let (same, elements) = (siblings.named(name), siblings.elements);
+                self.lead(level + 1, name, same, elements, alive, &mut below)?;
+                self.visit(child, level + 1, &below, found)?;
                 siblings.count(name)?;
             }
             child = self.page.nodes_under(child).end;
@@ -97,108 +81,54 @@ impl<'a> Walk<'a> {
         Ok(())
     }
 
-    // Notes a node for the paths that have one of these texts.
-    fn note(&self, at: u32, texts: &[Text], found: &mut Findings) -> Result<(), NoMemory>
-        requires fronts { AreFronts self.now.fronts.now self.now.paths.now }
+    // Notes a node for the paths in the set that end at this level.
+    fn note(&self, at: u32, level: usize, alive: &[u64], found: &mut Findings)
+        requires levels { AreLevels self.now.levels.now self.now.paths.now }
         requires inside { at < nodes self.now.page.now }
-        requires routes { (text : List ℕ) → Contains texts.now text
-            → IsRoute self.now.page.now (place_numbered at self.now.page.now) text }
-        ensures grows { OnOk result (Grows self.now.page.now self.now.paths.now found.old found.new) }
-        ensures ends { OnOk result ((text : List ℕ) → Contains texts.now text
-            → EndsFound self.now text (place_numbered at self.now.page.now) found.new) }
+        requires level { level ≡ length (place_numbered at self.now.page.now) }
+        requires alive { AreAlive self.now (place_numbered at self.now.page.now) alive.now }
+        requires found { length found.old.found.items ≡ length self.now.paths.now }
+        ensures len { length found.new.found.items ≡ length self.now.paths.now }
+        ensures grows { Grows self.now.page.now self.now.paths.now found.old found.new }
+        ensures ends { EndsFound self.now alive.now (place_numbered at self.now.page.now) found.new }
     {
-        for text in texts {
-            self.note_one(at, text.as_str(), found)?;
-        }
-        Ok(())
-    }
-
-    fn note_one(&self, at: u32, text: &str, found: &mut Findings) -> Result<(), NoMemory>
-        requires fronts { AreFronts self.now.fronts.now self.now.paths.now }
-        requires inside { at < nodes self.now.page.now }
-        requires route { IsRoute self.now.page.now (place_numbered at self.now.page.now) text.now }
-        ensures grows { OnOk result (Grows self.now.page.now self.now.paths.now found.old found.new) }
-        ensures ends { OnOk result (EndsFound self.now text.now (place_numbered at self.now.page.now) found.new) }
-    {
-        match self.fronts.number(text) {
-            Some(number) if self.paths[number].is_of(text) => found.note(number, at),
-            _ => Ok(()),
+        let Some(level) = self.levels.get(level) else {
+            return;
+        };
+        let words = level.ends.words();
+        for word in words {
+            if let Some(others) = alive.get(word.index) {
+                found.note_each(word.index, *others & word.bits, at);
+            }
         }
     }
 
-    // The fronts by one step more that such a child has, before which so many of its name stand, and so many elements.
-    fn behind(
+    // Of the paths that lead to a node, those that lead to such a child, before which so many of its name stand, and so many elements.
+    fn lead(
         &self,
-        fronts: &[Text],
+        level: usize,
         name: &str,
         same: u32,
         elements: u32,
-    ) -> Result<Vec<Text>, NoMemory>
+        alive: &[u64],
+        below: &mut [u64],
+    ) -> Result<(), NoMemory>
+        requires levels { AreLevels self.now.levels.now self.now.paths.now }
         requires name { IsTrue (is_name name.now) }
         requires few_named { same + 1 < 10 ^ max_index_digits }
         requires few_elements { elements + 1 < 10 ^ max_index_digits }
-        ensures leads { IfOk result (λ further. (front : List ℕ) → Contains fronts.now front
-            → LeadsBy self.now name.now same elements front further.items) }
-        ensures only { IfOk result (λ further. ComesFrom name.now same elements fronts.now further.items) }
+        requires len { length below.old ≡ length alive.now }
+        ensures len { length below.new ≡ length alive.now }
+        ensures leads { OnOk result ((number : ℕ) → Has below.new number ↔ (Has alive.now number
+            × PicksAt (get_or self.now.paths.now number []) level name.now same elements)) }
     {
-        let mut further = Vec::new(self.alloc);
-        for front in fronts {
-            self.add_behind(front, name, same, elements, &mut further)?;
-        }
-        Ok(further)
-    }
-
-    // Likewise, of one front.
-    fn add_behind(
-        &self,
-        front: &Text,
-        name: &str,
-        same: u32,
-        elements: u32,
-        further: &mut Vec<Text>,
-    ) -> Result<(), NoMemory>
-        requires name { IsTrue (is_name name.now) }
-        requires few_named { same + 1 < 10 ^ max_index_digits }
-        requires few_elements { elements + 1 < 10 ^ max_index_digits }
-        ensures kept { OnOk result ((text : List ℕ) → Contains further.old.items text → Contains further.new.items text) }
-        ensures added { OnOk result (LeadsBy self.now name.now same elements front.now further.new.items) }
-        ensures only { OnOk result ((text : List ℕ) → Contains further.new.items text
-            → Contains further.old.items text ⊎ StepsOn name.now same elements front.now text) }
-    {
-        self.add_one(front, name, None, further)?;
-        self.add_one(front, name, Some(same + 1), further)?;
-        self.add_one(front, "*", None, further)?;
-        self.add_one(front, "*", Some(elements + 1), further)?;
-        Ok(())
-    }
-
-    fn add_one(
-        &self,
-        front: &Text,
-        test: &str,
-        index: Option<u32>,
-        further: &mut Vec<Text>,
-    ) -> Result<(), NoMemory>
-        ensures kept { OnOk result ((text : List ℕ) → Contains further.old.items text → Contains further.new.items text) }
-        ensures added { OnOk result (IsSome (known_front self.now.fronts.now (front.now ++ 47 ∷ (test.now ++ index_text index)))
-            → Contains further.new.items (front.now ++ 47 ∷ (test.now ++ index_text index))) }
-        ensures only { OnOk result ((text : List ℕ) → Contains further.new.items text
-            → Contains further.old.items text ⊎ (text ≡ front.now ++ 47 ∷ (test.now ++ index_text index))) }
-    {
-        let text = text_behind(self.alloc, front.as_str(), test, index)?;
-        if self.fronts.has(text.as_str()) {
-            further.push(text)?;
-        }
-        Ok(())
-    }
-}
-
-fn spend(left: &mut usize, steps: usize) -> Result<(), WalkFault> {
-    match left.checked_sub(steps) {
-        None => Err(WalkFault::TooLong),
-        Some(rest) => {
-            *left = rest;
-            Ok(())
-        }
+        clear(below);
+        let Some(level) = self.levels.get(level) else {
+            return Ok(());
+        };
+        level.add_common(self.alloc, name, None, alive, below)?;
+        level.add_common(self.alloc, name, Some(same + 1), alive, below)?;
+        level.add_common(self.alloc, "*", None, alive, below)?;
+        level.add_common(self.alloc, "*", Some(elements + 1), alive, below)
     }
 }

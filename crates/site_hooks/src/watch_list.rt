@@ -1,16 +1,19 @@
 //! The paths that a site watches, each of them once.
-ghost use Rattle.std.specs.Prelude.{◌≡◌, ◌≢◌, [], ℕ, length, false, Some, IsTrue, IfOk, IfSome, OnOk, OnErr};
+ghost use Rattle.std.specs.Prelude.{◌≡◌, ◌≢◌, ◌<◌, [], ℕ, length, get_or, false, IsTrue, IfOk, IfSome, OnOk, OnErr};
 ghost use Rattle.std.specs.List.{list_any, Contains};
 ghost use Rattle.xpath_child.specs.Path.{path_text};
 ghost use Rattle.site_hooks.specs.Table.{is_changed};
 ghost use Rattle.site_hooks.specs.Findings.{AreFound};
-ghost use Rattle.site_hooks.specs.Fronts.{known_front, AreFronts, AddsPath};
+ghost use Rattle.site_hooks.specs.Kept.{HaveNumbers, AddsPath};
 
-use crate::findings::{Findings, differ, differ_one_by_one, find_one_by_one};
-use crate::fronts::Fronts;
-use crate::walk::{Walk, WalkFault};
+use crate::changes::{differ, differ_one_by_one};
+use crate::findings::Findings;
+use crate::levels::{Level, add_path};
+use crate::noting::find_one_by_one;
+use crate::walk::Walk;
 use page_tree::{NoMemory, Page};
-use std::alloc::{AllocError, Global};
+use std::alloc::Global;
+use std::collections::BTreeMap;
 use std::marker::Model;
 use xpath_child::Path;
 
@@ -21,19 +24,24 @@ const FEW: usize = 32;
 #[derive(Drop)]
 pub(crate) struct WatchList {
     paths: Vec<Path>,
-    fronts: Fronts,
+    // their numbers, by their texts
+    numbers: BTreeMap<String, usize>,
+    levels: Vec<Level>,
+    // whether the levels are those of the paths; no more, once memory was wanting halfway
+    is_whole: bool,
 }
 
 impl Model for WatchList {
-    ghost use Rattle.std.specs.Prelude.{List};
+    ghost use Rattle.std.specs.Prelude.{List, IsTrue};
     ghost use Rattle.xpath_child.specs.Path.{Step};
-    ghost use Rattle.site_hooks.specs.Fronts.{AreFronts};
+    ghost use Rattle.site_hooks.specs.Kept.{HaveNumbers};
+    ghost use Rattle.site_hooks.specs.Levels.{AreLevels};
 
     ghost Value = { List (List Step) };
 
     ghost view = { λ l. l.paths.items };
 
-    ghost invariant = { λ l. AreFronts l.fronts l.paths.items };
+    ghost invariant = { λ l. HaveNumbers l.numbers l.paths.items × (IsTrue l.is_whole → AreLevels l.levels.items l.paths.items) };
 }
 
 impl WatchList {
@@ -43,7 +51,9 @@ impl WatchList {
     {
         WatchList {
             paths: Vec::new(alloc),
-            fronts: Fronts::new(alloc),
+            numbers: BTreeMap::new(alloc),
+            levels: Vec::new(alloc),
+            is_whole: true,
         }
     }
 
@@ -60,13 +70,18 @@ impl WatchList {
         ensures err { OnErr result (self.new ≡ self.old) }
     {
         let text = path.write()?;
-        if is_among(&self.paths, &self.fronts, &path, text.as_str()) {
+        if is_among(&self.paths, &self.numbers, &path, text.as_str()) {
             return Ok(());
         }
         let number = self.paths.len();
-        self.fronts.add(*self.paths.allocator(), text.as_str())?;
+        let alloc = *self.paths.allocator();
+        let was_whole = self.is_whole && path.is_of(text.as_str());
+        self.is_whole = false;
+        add_path(alloc, &mut self.levels, text.as_str(), number)?;
+        self.numbers.insert(text.into_string(), number)?;
         self.paths.push(path)?;
-        self.fronts.end(text, number)
+        self.is_whole = was_whole;
+        Ok(())
     }
 
     /// What each of them finds on a page.
@@ -98,36 +113,33 @@ impl WatchList {
         }
     }
 
-    // What each of them finds, by one walk over the page. None where they are few, or too many lead on from one node.
+    // What each of them finds, by one walk over the page. None where they are few, or memory was wanting as they came.
     fn walk(&self, page: &Page) -> Result<Option<Findings>, NoMemory>
         ensures { IfOk result (λ found. IfSome found (λ findings. AreFound page.now self.now findings)) }
     {
-        if self.paths.len() <= FEW {
+        if self.paths.len() <= FEW || !self.is_whole {
             return Ok(None);
         }
         let walk = Walk {
             alloc: *self.paths.allocator(),
             paths: &self.paths,
-            fronts: &self.fronts,
+            levels: &self.levels,
             page,
         };
-        match walk.find(page.node_count() as usize * 4) {
-            Ok(found) => Ok(Some(found)),
-            Err(WalkFault::TooLong) => Ok(None),
-            Err(WalkFault::NoMemory) => Err(AllocError),
-        }
+        Ok(Some(walk.find()?))
     }
 }
 
 // Whether a path, which has that text, is one of these.
-fn is_among(paths: &[Path], fronts: &Fronts, path: &Path, text: &str) -> bool
-    requires fronts { AreFronts fronts.now paths.now }
+fn is_among(paths: &[Path], numbers: &BTreeMap<String, usize>, path: &Path, text: &str) -> bool
+    requires numbers { HaveNumbers numbers.now paths.now }
     requires text { path_text path.now ≡ text.now }
     ensures yes { IsTrue result → Contains paths.now path.now }
-    ensures no { result ≡ false → (number : ℕ) → known_front fronts.now text.now ≢ Some (Some number) }
+    ensures no { result ≡ false → (number : ℕ) → number < length paths.now
+        → path_text (get_or paths.now number []) ≢ text.now }
 {
-    match fronts.number(text) {
-        None => false,
-        Some(number) => paths[number].is_of(text) && path.is_of(text),
+    match numbers.get(text) {
+        Some(number) if *number < paths.len() => paths[*number].is_of(text) && path.is_of(text),
+        _ => false,
     }
 }

@@ -12,13 +12,13 @@ use Rattle.upload_reader.specs.Upload.{UploadState, EndsBy}
 use Rattle.upload_reader.specs.declared.ending.Ending.{Ending}
 use Rattle.lanes_in_turn.specs.Lane.{Continues, EndsWith, IsTaken}
 use Rattle.lanes_in_turn.specs.Taking.{GaveFewMore}
-use Rattle.upload_lanes.specs.inside.Sent.{bodies, sent_messages, ending_behind, is_last, IsMarked, IsPut}
+use Rattle.upload_lanes.specs.inside.Sent.{bodies, sent_messages, AreNext, ending_behind, is_last, IsMarked, IsPut}
 use Rattle.upload_lanes.specs.inside.Party.{TellsUpload}
 use Rattle.upload_lanes.specs.inside.Recording.{IsLaneRecorded}
 use Rattle.lanes_in_turn.specs.declared.gathered.LaneResult.{LaneResult}
 use Rattle.upload_lanes.specs.declared.sent.Sent.{Sent}
 use Rattle.upload_lanes.specs.declared.sent.Sent.TheVariants.{One, Last}
-use Rattle.upload_lanes.proofs.UploaderLaws.{sent_items}
+use Rattle.upload_lanes.proofs.UploaderLaws.{sent_items, next_first}
 
 abbrev pub ends_in : Option Ending → ℕ
 ends_in end = if is_some end then 1 else 0
@@ -112,8 +112,9 @@ module _ {R : Type 0} where
     lane_ends : IfSome lane.end (EndsWith upload lane.taken)
     lane_ends = subst (λ end. IfSome end (EndsWith upload lane.taken)) (sym recorded.end) (ended_with (ending_behind None (bodies items)) is_front.ended)
 
-    pub lane_taken : IsTaken first.log begun (record lane { upload = Some upload })
-    lane_taken = record {
+    -- the log's session is that behind which the upload began
+    pub lane_taken : begun.lane.earlier ≡ first.log.session → IsTaken first.log begun (record lane { upload = Some upload })
+    lane_taken behind = record {
       now = upload;
       upload_is = refl;
       own = told.0.own;
@@ -121,7 +122,9 @@ module _ {R : Type 0} where
       few = told.0.few;
       some = subst (λ n. n ≤ length upload.given) (sym recorded.taken) is_front.some;
       goes_on =
-          subst (λ messages. Continues first.log lane.log messages) (is_front.messages ∙ ap (λ n. take n upload.given) (sym recorded.taken)) recorded.goes_on;
+          subst (λ messages. Continues first.log lane.log messages) (is_front.messages ∙ ap (λ n. take n upload.given) (sym recorded.taken))
+          (recorded.goes_on (subst (AreNext first.log.session) (sym is_front.messages) (next_first first.log.session (length (sent_messages (bodies items))) upload.given
+          (subst (λ earlier. AreNext earlier upload.given) (ap (λ lane. lane.earlier) told.0.own.lane ∙ behind) told.0.lawful))));
       ends = lane_ends;
     }
 

@@ -17,7 +17,7 @@ use Rattle.upload_lanes.proofs.SpreadLaws.{all_front, last_of, of_spread}
 use Rattle.upload_lanes.proofs.Zips.{mapped_at, zip_at}
 use Rattle.lanes_in_turn.specs.Lane.{IsTaken}
 use Rattle.lanes_in_turn.specs.Round.{have_ended}
-use Rattle.lanes_in_turn.specs.Taking.{is_ended, items_in, GaveFewMore, items_taken, refused_by, GaveMore, Stops, TakesLane}
+use Rattle.lanes_in_turn.specs.Taking.{is_ended, items_in, GaveFewMore, items_taken, refused_by, GaveMore, Stops, TakesLane, IsFreshLane}
 use Rattle.upload_lanes.specs.inside.Party.{Fits, TellsUpload, IsJoined, AreJoined, TakesByOne, without_upload}
 use Rattle.upload_lanes.specs.inside.Sent.{is_last, spread, IsPut}
 use Rattle.upload_lanes.specs.inside.Recording as Recorder
@@ -100,11 +100,11 @@ module _ {R : Type 0} where
       same_end : lane.1.end ≡ here.recorded.1.end
       same_end = ap (λ l. l.1.end) here.is_joined.lane_is
 
-      taken : IsTaken here.first.1.log here.is_joined.promise.upload.value lane.1
-      taken =
+      taken : here.is_joined.promise.upload.value.lane.earlier ≡ here.first.1.log.session → IsTaken here.first.1.log here.is_joined.promise.upload.value lane.1
+      taken together =
           let was = recording.lanes_are.each k here.first here.recorded here.first_at here.recorded_at in
           subst (λ l. IsTaken here.first.1.log here.is_joined.promise.upload.value l.1) (sym here.is_joined.lane_is)
-          (lane_taken here.first.1 here.recorded.1 here.is_joined.promise.upload.value here.is_joined.upload (of_lane k recording.done) was.1 (room + 1 + refused_by stop) told)
+          (lane_taken here.first.1 here.recorded.1 here.is_joined.promise.upload.value here.is_joined.upload (of_lane k recording.done) was.1 (room + 1 + refused_by stop) told together)
 
       ahead : GaveFewMore (room + 1 + refused_by stop) lane.1
       ahead =
@@ -189,7 +189,7 @@ module _ {R : Type 0} where
       refused = λ is. let (item, rest, one) = subst (λ s. IsUnrecorded s recording.rest) is recording.refused in unrecorded item rest one;
     }
 
-    module _ (fresh : List (List ℕ × LaneResult R)) (firsts_are : firsts ≡ map without_upload fresh)
+    module _ (fresh : List (List ℕ × LaneResult R)) (firsts_are : firsts ≡ map without_upload fresh) (all_fresh : AllByRecursion IsFreshLane fresh)
         (given : map (λ promise. Some promise.upload.value) promises ≡ map own_upload fresh) where
       takes_lane : (k : ℕ) (whole lane : List ℕ × LaneResult R) → slice_get fresh k ≡ Some whole → slice_get joined_lanes k ≡ Some lane → TakesLane (room + 1 + refused_by stop) whole lane
       takes_lane k whole lane whole_at lane_at =
@@ -199,12 +199,17 @@ module _ {R : Type 0} where
           let promise = here.is_joined.promise in
           let there : Some (Some promise.upload.value) ≡ Some whole.1.upload =
           sym (mapped_at (λ p. Some p.upload.value) promises (map own_upload fresh) k promise (sym given) here.is_joined.promise_at) ∙ mapped_at own_upload fresh (map own_upload fresh) k whole refl whole_at in
+          let began = all_at IsFreshLane fresh k whole all_fresh whole_at in
+          let whole_is : whole.1.upload ≡ Some promise.upload.value = cc in
+          let one : Some began.upload ≡ Some promise.upload.value = sym began.upload_is ∙ whole_is in
+          let own : began.upload ≡ promise.upload.value = cc in
+          let together = ap (λ upload. upload.lane.earlier) (sym own) ∙ began.behind ∙ ap (λ f. f.1.log.session) (sym same) in
           record {
             client = client k lane here ∙ ap (λ f. f.0) same;
             ahead = ahead k lane here;
             is_taken = λ begun is.
                 let of : promise.upload.value ≡ begun = cc in
-                subst (λ f. IsTaken f.1.log begun lane.1) same (subst (λ b. IsTaken here.first.1.log b lane.1) of (taken k lane here));
+                subst (λ f. IsTaken f.1.log begun lane.1) same (subst (λ b. IsTaken here.first.1.log b lane.1) of (taken k lane here together));
           }
 
       pub takes_by_one : IsHalted allows stop items → TakesByOne allows (room + 1) fresh joined_lanes stop

@@ -1,5 +1,5 @@
 -- What an uploader's steps keep.
-use Rattle.std.proofs.Common.{◌≡◌, ℕ, suc, ◌+◌, ◌≤◌, ◌<◌, ◌^◌, List, [], ◌∷◌, ◌++◌, length, map, take, Bool, true, false, Option, Some, None, refl, sym, ap, subst, ◌∙◌, arith, append_assoc, append-nil}
+use Rattle.std.proofs.Common.{◌≡◌, ℕ, zero, suc, ◌+◌, ◌≤◌, ◌<◌, ◌^◌, List, [], ◌∷◌, ◌++◌, length, map, take, Bool, true, false, Option, Some, None, refl, sym, ap, subst, ◌∙◌, arith, append_assoc, append-nil}
 use Rattle.std.proofs.lemmas.List.{length-append, map-append, length-map}
 use Rattle.std.specs.Option.{option_to_list}
 use Rattle.std.specs.Prelude.{IfSome}
@@ -12,16 +12,18 @@ use Rattle.lane_queue.specs.Items.{next_item}
 use Rattle.lane_queue.specs.declared.item.Item.{Item}
 use Rattle.lane_queue.specs.declared.view.QueueView.{QueueView}
 use Rattle.upload_reader.specs.Limits.{max_messages}
-use Rattle.upload_reader.specs.Next.{given_by, ending_by, next_of, IfOver}
-use Rattle.upload_reader.specs.Stream.{Costed}
+use Rattle.upload_reader.specs.Next.{given_by, ending_by, next_of, IfGot, IfOver}
+use Rattle.upload_reader.specs.Stream.{Costed, MayFollow, messages_of}
 use Rattle.upload_reader.specs.Upload.{UploadState, IsUntouched, GivesFirst, EndsBy, NothingMore}
 use Rattle.upload_reader.specs.declared.ending.Ending.{Ending}
+use Rattle.upload_reader.specs.declared.message.Message.{Message}
 use Rattle.upload_reader.specs.declared.next.Next.{Next}
+use Rattle.upload_reader.specs.Session.{session_fault}
 use Rattle.upload_reader.specs.declared.next.Next.TheVariants.{Got, Over, GaveUp}
 use Rattle.lanes_in_turn.proofs.LaneSteps.{read_on}
 use Rattle.lanes_in_turn.proofs.RoundLaws.{nothing_first}
 use Rattle.lanes_in_turn.specs.Lane.{NotOver}
-use Rattle.upload_lanes.specs.inside.Sent.{bodies, is_last, IsMarked, parts, apart, spread, AreSmall, IsReadOn, IsPutting, GivesRead, IsHeld, HasPut, Sends}
+use Rattle.upload_lanes.specs.inside.Sent.{bodies, is_last, AreNext, IsMarked, parts, apart, spread, AreSmall, IsReadOn, IsPutting, GivesRead, IsHeld, HasPut, Sends}
 use Rattle.upload_lanes.proofs.SpreadLaws.{bodies_each, marked_each, some_each, spread_more}
 use Rattle.upload_lanes.specs.declared.sent.Parcel.{Parcel}
 use Rattle.upload_lanes.specs.declared.sent.Sent.{Sent}
@@ -70,6 +72,32 @@ module _ (v w : QueueView Parcel) (last : Bool) (parcel : Parcel) (after : w.put
   put_small : (size : ℕ) → AreSmall size v.put → length (parts parcel) ≤ size → AreSmall size w.put
   put_small size small fits = subst (AreSmall size) (sym after) (all_append (λ item. length (parts item.body) ≤ size) v.put (next_item v.lane v.put last parcel ∷ []) small (fits, tt))
 
+-- ---- messages that may follow
+
+-- one more
+next_more : (earlier : List Message) (messages : List Costed) (one : Costed) → AreNext earlier messages → session_fault (earlier ++ messages_of messages) one.0 ≡ None → AreNext earlier (messages ++ one ∷ [])
+next_more earlier [] one are is = (ap (λ e. session_fault e one.0) (sym (append-nil earlier)) ∙ is, tt)
+next_more earlier (first ∷ messages) one are is =
+    (are.0, next_more (earlier ++ first.0 ∷ []) messages one are.1 (ap (λ e. session_fault e one.0) (append_assoc earlier (first.0 ∷ []) (messages_of messages)) ∙ is))
+
+-- and what that says of the last one
+pub next_last : (earlier : List Message) (messages : List Costed) (one : Costed) → AreNext earlier (messages ++ one ∷ []) → AreNext earlier messages × (session_fault (earlier ++ messages_of messages) one.0 ≡ None)
+next_last earlier [] one are = (tt, ap (λ e. session_fault e one.0) (append-nil earlier) ∙ are.0)
+next_last earlier (first ∷ messages) one are =
+    let rest = next_last (earlier ++ first.0 ∷ []) messages one are.1 in
+    ((are.0, rest.0), ap (λ e. session_fault e one.0) (sym (append_assoc earlier (first.0 ∷ []) (messages_of messages))) ∙ rest.1)
+
+-- the first ones of them
+pub next_first : (earlier : List Message) (n : ℕ) (messages : List Costed) → AreNext earlier messages → AreNext earlier (take n messages)
+next_first earlier zero messages are = tt
+next_first earlier (suc n) [] are = tt
+next_first earlier (suc n) (one ∷ messages) are = (are.0, next_first (earlier ++ one.0 ∷ []) n messages are.1)
+
+next_given : (earlier : List Message) (given : List Costed) (next : Next) → IfGot next (λ message cost. session_fault (earlier ++ messages_of given) message ≡ None) → AreNext earlier given → AreNext earlier (given ++ given_by next)
+next_given earlier given (Got message cost) lawful are = next_more earlier given (message, cost) are lawful
+next_given earlier given (Over end) lawful are = subst (AreNext earlier) (sym (append-nil given)) are
+next_given earlier given GaveUp lawful are = subst (AreNext earlier) (sym (append-nil given)) are
+
 module _ {R : Type 0} where
   -- ---- what was read
 
@@ -79,12 +107,13 @@ module _ {R : Type 0} where
   ended_so v GaveUp over = tt
 
   pub read_next : (begun u v : UploadState R) (next : Next) → v ≡ record u { lines = v.lines; given = u.given ++ given_by next; ending = ending_by next }
-      → ReadsWhile (NothingMore u) u.lines v.lines → GivesFirst v → length v.given ≤ max_messages → IfOver next (EndsBy v) → IsReadOn begun u → IsReadOn begun v
-  read_next begun u v next is reads first few over before = record {
+      → ReadsWhile (NothingMore u) u.lines v.lines → GivesFirst v → length v.given ≤ max_messages → IfOver next (EndsBy v) → IfGot next (λ message cost. MayFollow u.lane u.given message) → IsReadOn begun u → IsReadOn begun v
+  read_next begun u v next is reads first few over lawful before = record {
     own = read_on begun u v (u.given ++ given_by next) (ending_by next) before.own is reads;
     first = first;
     few = few;
     over = subst (λ e. IfSome e (λ ending. IfOver (next_of ending) (EndsBy v))) (sym (ap (λ upload. upload.ending) is)) (ended_so v next over);
+    lawful = subst (λ upload. AreNext upload.lane.earlier upload.given) (sym is) (next_given u.lane.earlier u.given next lawful before.lawful);
   }
 
   pub read_none : (upload : UploadState R) → IsUntouched upload → IsReadOn upload upload
@@ -95,6 +124,7 @@ module _ {R : Type 0} where
         first = nothing_first upload untouched.given;
         few = omega (arith, none);
         over = subst (λ e. IfSome e (λ ending. IfOver (next_of ending) (EndsBy upload))) (sym untouched.ending) tt;
+        lawful = subst (AreNext upload.lane.earlier) (sym untouched.given) tt;
       }
 
   -- ---- what was put
@@ -196,10 +226,10 @@ module _ {R : Type 0} where
 
   -- the next answer was read already
   pub gives_read : (u v : UploadState R) (next : Next) → v ≡ record u { lines = v.lines; given = u.given ++ given_by next; ending = ending_by next }
-      → ReadsWhile (NothingMore u) u.lines v.lines → ¬ NothingMore u u.lines.answers → GivesFirst v → length v.given ≤ max_messages → IfOver next (EndsBy v) → GivesRead u v
-  gives_read u v next is reads there first few over = record {
+      → ReadsWhile (NothingMore u) u.lines v.lines → ¬ NothingMore u u.lines.answers → GivesFirst v → length v.given ≤ max_messages → IfOver next (EndsBy v) → IfGot next (λ message cost. MayFollow u.lane u.given message) → GivesRead u v
+  gives_read u v next is reads there first few over lawful = record {
     unread = not_read u v.lines reads there;
-    read = λ begun before. read_next begun u v next is reads first few over before;
+    read = λ begun before. read_next begun u v next is reads first few over lawful before;
     few = few;
   }
 

@@ -7,10 +7,10 @@ use Rattle.std.proofs.Math.Seq.{take-length}
 use Rattle.indexmap.specs.IndexMap.{values}
 use Rattle.byte_streams.specs.Answers.{Answer}
 use Rattle.byte_streams.specs.Cutting.{ending_of, StopsAtEnd}
-use Rattle.byte_streams.specs.Reading.{input}
+use Rattle.byte_streams.specs.Reading.{ReadsWhile, input}
 use Rattle.byte_streams.specs.Writing.{CallWrites}
 use Rattle.byte_streams.specs.declared.fault.LineFault.{LineFault}
-use Rattle.upload_reader.specs.Stream.{Costed, Stream, IsStreamOf, BeginsWith}
+use Rattle.upload_reader.specs.Stream.{Costed, Stream, StreamStart, IsStreamOf, BeginsWith}
 use Rattle.upload_reader.specs.Upload.{UploadState}
 use Rattle.upload_reader.specs.declared.ending.Ending.{Ending}
 use Rattle.upload_reader.specs.declared.ending.Ending.TheVariants.{Over, GaveUp}
@@ -29,7 +29,8 @@ use Rattle.visit_replay.specs.RepairedSite.{RepairedSite}
 use Rattle.site_line.specs.Site.{Site as PlainSite}
 use Rattle.site_line.specs.Reading.{AnswersAs, site_quota, site_decisions}
 use Rattle.site_line.specs.declared.site.Site.{Site}
-use Rattle.lanes_in_turn.specs.Lane.{EndsWith}
+use Rattle.lanes_in_turn.specs.Lane.{EndsWith, NotOver}
+use Rattle.lanes_in_turn.specs.Round.{resumed_upload}
 use Rattle.lanes_in_turn.specs.declared.gathered.Gathered.{Gathered}
 use Rattle.lanes_in_turn.specs.declared.gathered.LaneResult.{LaneResult}
 use Rattle.lanes_in_turn.specs.declared.gathered.Stop.{Stop}
@@ -114,6 +115,12 @@ module _ {R : Type 0} (site : Site) (upload : UploadState R) (opened : IsOpened 
   abbrev begun : Opening read ending (Ok upload.client)
   begun = opening opened.at site opened.behind upload opened.begins now.lines.answers whole.is_taken.own.reads.more ending whole.is_taken.own.reads.answers
 
+  -- a lane with nothing said before it is that of a new client
+  same_upload : resumed_upload upload None ≡ upload
+  same_upload =
+      let early : upload.lane.earlier ≡ [] = ap {A = StreamStart} (λ l. l.earlier) opened.begins.lane in
+      ap (λ earlier. record upload { lane = record upload.lane { earlier = earlier } }) (sym early)
+
   repaired_is : (stop : Stop) (end : Option Ending) → gathered.stop ≡ stop → lane.end ≡ end
       → site_settled site gathered ≡ repaired_by opened.behind.plain stop upload.client messages end
   repaired_is stop end stops ends =
@@ -127,7 +134,7 @@ module _ {R : Type 0} (site : Site) (upload : UploadState R) (opened : IsOpened 
   -- what the lane says of itself it says behind the opening
   said : (bytes : List ℕ) (last : Option LineFault) (stream : Stream) → IsStreamOf now.lane (drop now.start bytes) last stream → LaneSays begun bytes last stream
   said bytes last stream says =
-      let lane_is = whole.is_taken.own.lane ∙ opened.begins.lane in
+      let lane_is = whole.is_taken.own.lane ∙ ap (λ u. u.lane) same_upload ∙ opened.begins.lane in
       let start = start_is opened.at site opened.behind upload opened.begins now.lines.answers whole.is_taken.own.reads.more ending whole.is_taken.own.reads.answers in
       subst (λ place. IsStreamOf (record { earlier = []; lines = upload.lane.lines; fault = None }) (drop place bytes) last stream)
       (whole.is_taken.own.start ∙ start) (subst (λ l. IsStreamOf l (drop now.start bytes) last stream) lane_is says)
@@ -180,7 +187,7 @@ module _ {R : Type 0} (site : Site) (upload : UploadState R) (opened : IsOpened 
   module _ (was_read : List Answer → Type 0) (told : was_read now.lines.answers) (ends : StopsAtEnd now.lines.answers) (writes : CallWrites) where
     given : (P : List ℕ → Option LineFault → Type 0) → P read ending → Reads was_read ReadWhileUndecided P
     given = given_back was_read now.lines told
-        (lane_needed opened.at site opened.behind upload opened.begins now.lines opened.needed whole.is_taken.own.reads) ends
+        (lane_needed opened.at site opened.behind upload opened.begins now.lines opened.needed (subst (λ u. ReadsWhile (NotOver u) upload.lines now.lines) same_upload whole.is_taken.own.reads)) ends
 
     met_by : (report : Result (Unit {0}) ReportFault) → WritesReport writes text report → HasText → Meets was_read writes (written_status (status_of gathered) report)
     met_by (Ok done) takes (inl (is, has)) = subst (Meets was_read writes) (sym is) (given (Writes writes HasReport) (text, has, takes))

@@ -19,7 +19,7 @@ use Rattle.upload_reader.specs.Upload.{UploadState}
 use Rattle.client_log.specs.Client.{OfClient}
 use Rattle.client_log.specs.Log.{kept_log}
 use Rattle.lanes_in_turn.specs.Lane.{IsTaken}
-use Rattle.lanes_in_turn.specs.Round.{behind_log, new_log, log_before, resumed_upload, without_lane, clients_of}
+use Rattle.lanes_in_turn.specs.Round.{new_log, log_before, resumed_upload, without_lane, clients_of}
 use Rattle.upload_lanes.proofs.TakenLaws.{IsLaneOf, lanes_of}
 use Rattle.lanes_in_turn.specs.declared.gathered.Gathered.{Gathered}
 use Rattle.lanes_in_turn.specs.declared.gathered.LaneResult.{LaneResult}
@@ -291,10 +291,8 @@ module _ {R : Type 0} where
           let Other : UploadState R → Type 0 = λ other. bytes_eq upload.client other.client ≡ false in
           let none = none_of_rounds upload.client before (all_weaker (AllByRecursion Had) (AllByRecursion Other)
           (all_weaker Had Other (λ other. other_than upload.client other.client keys (bytes_eq upload.client other.client) refl absent)) before knows.has) in
-          let same : upload ≡ behind_log begun upload = ap (λ session. record upload { lane = record upload.lane { earlier = session } }) fresh in
-          let now = subst (λ u. IsTaken begun u lane) same taken in
           let empty = subst (λ us. IsLogAfter quota upload.client us [] begun) (sym none) (refl, refl) in
-          ([] ++ take lane.taken now.now.given, ([], begun, empty, lane, now, refl, refl))
+          ([] ++ take lane.taken taken.now.given, ([], begun, empty, lane, taken, refl, refl))
       log_on upload lane (Some known) is fresh taken =
           let has = found_has (HasLog quota before) upload.client known earlier.clients.entries had is in
           (has.messages ++ take lane.taken taken.now.given, (has.messages, known.log, has.is_log, lane, taken, refl, refl))

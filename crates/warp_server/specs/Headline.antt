@@ -4,7 +4,7 @@
 -- order, and all of them once the uploader's end is taken; each kept visit to a patched page has the outcome that
 -- replaying its kept events on the repaired page gives, whatever workers replay it; each client's conflicts leave its
 -- queue once, in visit order.
-use Rattle.std.specs.Prelude.{◌≡◌, ℕ, List, map, IsSome, bytes_eq}
+use Rattle.std.specs.Prelude.{◌≡◌, ℕ, List, map, None, IsSome, bytes_eq}
 use Rattle.std.specs.List.{AllZip, AllByRecursion}
 use Rattle.indexmap.specs.IndexMap.{get}
 use Rattle.upload_reader.specs.Upload.{UploadState}
@@ -13,7 +13,7 @@ use Rattle.conflict_desk.specs.Book.{Book}
 use Rattle.conflict_desk.specs.Laws.{AllLeaveInOrder}
 use Rattle.conflict_desk.specs.declared.docket.Docket.{Docket}
 use Rattle.lanes_in_turn.specs.Lane.{IsTaken}
-use Rattle.lanes_in_turn.specs.Round.{new_log}
+use Rattle.lanes_in_turn.specs.Round.{new_log, resumed_upload}
 use Rattle.lanes_in_turn.specs.declared.gathered.Gathered.{Gathered}
 use Rattle.lanes_in_turn.specs.declared.gathered.LaneResult.{LaneResult}
 use Rattle.warp_run.specs.Repair.{docket_for}
@@ -32,7 +32,7 @@ AreReplayed site gathered repaired = map docket_of repaired.desk ≡ map (docket
 -- them where its end is taken.
 pub record HasPrefix {R : Type 0} (quota : ℕ) (upload : UploadState R) (entry : List ℕ × LaneResult R) : Type 0 where
   pub client : entry.0 ≡ upload.client
-  pub is_taken : IsTaken (new_log quota upload.client) upload entry.1
+  pub is_taken : IsTaken (new_log quota upload.client) (resumed_upload upload None) entry.1
 
 module _ {R : Type 0} (site : RepairedSite) (quota : ℕ) where
   -- Of these uploads that was gathered, and it was so replayed on the repaired site, and decided.

@@ -59,6 +59,7 @@ module _ {R : Type 0} where
   pub record IsRunning {H : Type 0} (party : Party H R) : Type 0 where
     pub of : party.recorder.promise.queue.value ≡ arc_value party.queue
     pub lanes_are : party.recorder.promise.duty.value.lanes.items ≡ map without_upload party.fresh.value.items
+    pub fresh : AllByRecursion IsFreshLane party.fresh.value.items
     pub sending : AreSending (arc_value party.queue) party.size party.fresh.value.items
         (map (λ handle. handle.promise) party.uploads.items)
     pub fits : Fits party.room (arc_value party.queue).room party.size

@@ -12,9 +12,11 @@ use Rattle.lane_queue.specs.declared.item.Item.{Item}
 use Rattle.lane_queue.specs.declared.view.QueueView.{QueueView}
 use Rattle.upload_reader.specs.Limits.{max_messages}
 use Rattle.upload_reader.specs.Next.{next_of, IfOver}
+use Rattle.upload_reader.specs.Session.{session_fault}
 use Rattle.upload_reader.specs.Stream.{Costed}
 use Rattle.upload_reader.specs.Upload.{UploadState, GivesFirst, EndsBy}
 use Rattle.upload_reader.specs.declared.ending.Ending.{Ending}
+use Rattle.upload_reader.specs.declared.message.Message.{Message}
 use Rattle.lanes_in_turn.specs.Lane.{ReadsBeforeEnd}
 use Rattle.upload_lanes.specs.declared.uploader.Uploaded.{Uploaded}
 use Rattle.upload_lanes.specs.declared.sent.Parcel.{Parcel}
@@ -65,6 +67,11 @@ spread (item ∷ items) = apart item ++ spread items
 abbrev pub AreSmall : ℕ → List (Item Parcel) → Type 0
 AreSmall size items = AllByRecursion (λ item. length (parts item.body) ≤ size) items
 
+-- each of these messages may follow those before it, the first one these
+abbrev pub AreNext : List Message → List Costed → Type 0
+AreNext earlier [] = Unit {0}
+AreNext earlier (one ∷ messages) = (session_fault earlier one.0 ≡ None) × AreNext (earlier ++ one.0 ∷ []) messages
+
 -- ---- an uploader
 
 -- the body was put as the next item of the lane, or nothing was
@@ -77,13 +84,14 @@ is_done Done = true
 is_done other = false
 
 module _ {R : Type 0} where
-  -- The upload was read on, each read before its end. What it gave is the front of its stream, and its end is the
-  -- stream's.
+  -- The upload was read on, each read before its end. What it gave is the front of its stream, where each message may
+  -- follow those before it, and its end is the stream's.
   pub record IsReadOn (begun now : UploadState R) : Type 0 where
     pub own : ReadsBeforeEnd begun now
     pub first : GivesFirst now
     pub few : length now.given ≤ max_messages
     pub over : IfSome now.ending (λ ending. IfOver (next_of ending) (EndsBy now))
+    pub lawful : AreNext now.lane.earlier now.given
 
   -- whatever upload it was read on from
   abbrev pub ReadsOn : UploadState R → UploadState R → Type 0

@@ -1,12 +1,13 @@
 use Rattle.std.proofs.Common.{arith, ◌≡◌, true, false, subst, sym, ◌∙◌}
 use Rattle.std.specs.Result.{is_err}
 use Rattle.lanes_in_turn.proofs.AloneLaws.{few, few_items, goes_on, has_upload, sets_out, stops_asked, stops_none, stops_refused, takes_so}
+use Rattle.lanes_in_turn.proofs.FreshLaws.{together_begun}
 use Rattle.lanes_in_turn.proofs.LaneSteps.{when_err, when_ok}
 use Rattle.lanes_in_turn.proofs.Counts.{fits_more}
 use Rattle.lanes_in_turn.proofs.alone.take_alone.Goals as goal
 
 pub loop-init : goal.loop-init
-loop-init g c = (tt, tt, sets_out (g.H.Halt.allows c.args.halt.now) c.args.lane.now c.requires.fresh)
+loop-init g c = (tt, tt, sets_out (g.H.Halt.allows c.args.halt.now) c.args.lane.now c.requires.fresh, together_begun c.args.lane.now c.requires.fresh)
 
 pub returns-then-is_some-clause-taken : goal.returns-then-is_some-clause-taken
 returns-then-is_some-clause-taken g c =
@@ -31,6 +32,9 @@ returns-then-ask-clause-stops g c =
 
 pub take_next-requires-clause-few : goal.take_next-requires-clause-few
 take_next-requires-clause-few g c = λ κs within. few (g.H.Halt.allows c.args.halt.now) c.args.lane.now c.loop.lane c.loop.items c.loop.invariant.2
+
+pub take_next-requires-clause-together : goal.take_next-requires-clause-together
+take_next-requires-clause-together g c = λ κs within. c.loop.invariant.3
 
 pub returns-then-is_err-clause-taken : goal.returns-then-is_err-clause-taken
 returns-then-is_err-clause-taken g c =
@@ -62,4 +66,4 @@ loop-preserved g c =
     let turn = when_ok c.take_next.result _ ok (c.take_next.ensures.goes c.args.lane.now.1.log way.begun c.loop.items way.in_turn) in
     let going = sym c.is_some.ensures ∙ c.if-is_some.false in
     let count = when_ok c.take_next.result _ ok (c.take_next.ensures.count (has_upload allows c.args.lane.now c.loop.lane c.loop.items way) going) in
-    (tt, tt, goes_on allows c.args.lane.now c.loop.lane c.loop.items way c.take_next.new.self turn count (subst (allows c.loop.items) c.if-ask.false c.ask.ensures))
+    (tt, tt, goes_on allows c.args.lane.now c.loop.lane c.loop.items way c.take_next.new.self turn count (subst (allows c.loop.items) c.if-ask.false c.ask.ensures), when_ok c.take_next.result _ ok c.take_next.ensures.together)

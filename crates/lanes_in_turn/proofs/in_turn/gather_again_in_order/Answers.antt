@@ -3,14 +3,18 @@ use Rattle.std.proofs.lemmas.List.{length-map}
 use Rattle.indexmap.specs.IndexMap.{get, insert_all, spare}
 use Rattle.lanes_in_turn.specs.Round.{without_lanes, IsFollowed}
 use Rattle.lanes_in_turn.specs.Taking.{begun_lane}
-use Rattle.lanes_in_turn.specs.inside.{HaveFewTaken}
-use Rattle.lanes_in_turn.proofs.FreshLaws.{few_fresh}
+use Rattle.lanes_in_turn.specs.inside.{HaveFewTaken, AreTogether}
+use Rattle.lanes_in_turn.proofs.FreshLaws.{few_fresh, together_fresh}
 use Rattle.lanes_in_turn.proofs.RoundLaws.{written}
 use Rattle.lanes_in_turn.proofs.in_turn.gather_again_in_order.Goals as goal
 
 pub take_all-stop-requires-clause-few : goal.take_all-stop-requires-clause-few
 take_all-stop-requires-clause-few g c = λ κs within.
     subst HaveFewTaken (sym c.as_mut_slice.ensures.value) (few_fresh c.in_ok-earlier.field-0.lanes.items c.in_ok-earlier.ensures.fresh)
+
+pub take_all-stop-requires-clause-together : goal.take_all-stop-requires-clause-together
+take_all-stop-requires-clause-together g c = λ κs within.
+    subst AreTogether (sym c.as_mut_slice.ensures.value) (together_fresh c.in_ok-earlier.field-0.lanes.items c.in_ok-earlier.ensures.fresh)
 
 pub end_round-requires-clause-room : goal.end_round-requires-clause-room
 end_round-requires-clause-room g c = λ κs within.

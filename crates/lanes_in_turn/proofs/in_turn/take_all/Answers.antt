@@ -7,7 +7,7 @@ use Rattle.lanes_in_turn.proofs.LaneSteps.{when_ok, when_err}
 use Rattle.lanes_in_turn.proofs.in_turn.take_all.Goals as goal
 
 pub loop-k-init : goal.loop-k-init
-loop-k-init g c = record { few = c.requires.few; lanes = λ known quota uploads untouched is. lanes_begun known quota uploads c.args.lanes.now untouched is }
+loop-k-init g c = record { few = c.requires.few; together = c.requires.together; lanes = λ known quota uploads untouched is. lanes_begun known quota uploads c.args.lanes.now untouched is }
 
 pub returns-then-is_err : goal.returns-then-is_err
 returns-then-is_err g c = λ known quota uploads untouched is. record {
@@ -24,6 +24,7 @@ returns-then-is_err g c = λ known quota uploads untouched is. record {
 pub loop-k-preserved : goal.loop-k-preserved
 loop-k-preserved g c = record {
   few = c.take_at.ensures.few;
+  together = when_ok c.take_at.result _ (sym c.is_err.ensures.value ∙ c.if-is_err.false) c.take_at.ensures.together;
   lanes = λ known quota uploads untouched is.
       lanes_asked known quota uploads _ (entries_of (take (c.loop-k.k-index + 1) c.args.schedule.now)) none none c.take_at.new.lanes (entries_more c.args.schedule.now c.loop-k.k-index c.loop-k-test.true) (λ j. refl)
       (when_ok c.take_at.result _ (sym c.is_err.ensures.value ∙ c.if-is_err.false) c.take_at.ensures.goes known quota uploads _ (c.loop-k.invariant.lanes known quota uploads untouched is));

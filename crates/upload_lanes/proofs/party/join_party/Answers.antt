@@ -24,7 +24,7 @@ returns g c =
     subst (λ lanes. TakesByOne allows (c.args.party.room + 1) fresh lanes recorded.stop) (sym same)
     (takes_by_one allows c.args.party.room places firsts recorded.lanes.items new promises got recorded.stop recorded.items
     (λ k promise at. fits_at c.args.party.room places c.args.party.size promises c.requires.fits c.requires.sending.sizes k promise at) c.join-taker.ensures.0.recording joined
-    fresh c.requires.lanes_are c.requires.sending.same c.join-taker.ensures.1)
+    fresh c.requires.lanes_are c.requires.fresh c.requires.sending.same c.join-taker.ensures.1)
 
 pub join_uploads-requires-clause-uploads : goal.join_uploads-requires-clause-uploads
 join_uploads-requires-clause-uploads g c κs within =

@@ -1,5 +1,7 @@
 use Rattle.std.proofs.Common.{◌≡◌, ap, arith, refl, length, map, subst, sym, ◌∙◌}
 use Rattle.std.specs.Arc.{arc_value}
+use Rattle.std.specs.List.{AllByRecursion}
+use Rattle.lanes_in_turn.specs.Taking.{IsFreshLane}
 use Rattle.lane_queue.specs.Opened.{IsOpenedQueue}
 use Rattle.upload_lanes.proofs.PartyLaws.{duty_is, ends_are, putters_count}
 use Rattle.upload_lanes.specs.inside.Party.{Fits, AreEnds, AreSending, without_upload}
@@ -31,6 +33,7 @@ returns-in_ok-recorder-in-Ok-clause-runs g c =
       running = record {
         of = c.in_ok-recorder-in-Ok.ensures.queue ∙ c.in_ok-clone-in-Ok.ensures.cases;
         lanes_are = ap (λ duty. duty.lanes.items) c.in_ok-recorder-in-Ok.ensures.duty ∙ c.in_ok-lanes-in-Ok.ensures.lanes ∙ ap (λ lanes. map without_upload lanes.items) fresh;
+        fresh = subst (λ lanes. AllByRecursion IsFreshLane lanes.items) fresh c.requires.fresh.fresh;
         sending = subst (λ lanes. AreSending (arc_value c.in_ok-queue-in-Ok.queue) c.of-size.result.size lanes.items (map (λ handle. handle.promise) c.in_ok-lanes-in-Ok.field-0.uploads.items)) fresh
             c.in_ok-lanes-in-Ok.ensures.sending;
         fits = subst (λ places. Fits c.args.room places c.of-size.result.size) (sym (ap (λ queue. queue.room) c.in_ok-queue-in-Ok.ensures.ok ∙ c.in-Ok.ensures.opened.1.room_is)) c.of-size.ensures;

@@ -17,14 +17,14 @@ put_filled-requires-clause-putting g c κs within =
 pub returns-in-Got-clause-read : goal.returns-in-Got-clause-read
 returns-in-Got-clause-read g c = λ begun before.
     c.put_filled.ensures.gives.read begun
-    (read_next begun c.args.upload.now c.next.new.self (next.Got c.in-Got.message c.in-Got.cost) c.in-Got.ensures.given c.next.ensures.reads c.next.ensures.first c.next.ensures.few tt before)
+    (read_next begun c.args.upload.now c.next.new.self (next.Got c.in-Got.message c.in-Got.cost) c.in-Got.ensures.given c.next.ensures.reads c.next.ensures.first c.next.ensures.few tt c.in-Got.ensures.lawful before)
 
 pub end_lane-requires-clause-few : goal.end_lane-requires-clause-few
 end_lane-requires-clause-few g c = few_put c.args.size (view c.args.putter.now).put [] c.args.upload.now c.requires.putting
 
 pub returns-in-Over-clause-read : goal.returns-in-Over-clause-read
 returns-in-Over-clause-read g c = λ begun before.
-    read_next begun c.args.upload.now c.next.new.self (next.Over c.in-Over.end) c.in-Over.ensures.given c.next.ensures.reads c.next.ensures.first c.next.ensures.few c.in-Over.ensures.over before
+    read_next begun c.args.upload.now c.next.new.self (next.Over c.in-Over.end) c.in-Over.ensures.given c.next.ensures.reads c.next.ensures.first c.next.ensures.few c.in-Over.ensures.over tt before
 
 pub returns-in-Over-clause-put : goal.returns-in-Over-clause-put
 returns-in-Over-clause-put g c =
@@ -38,7 +38,7 @@ end_lane-requires-in-GaveUp-clause-few g c = few_put c.args.size (view c.args.pu
 
 pub returns-in-GaveUp-clause-read : goal.returns-in-GaveUp-clause-read
 returns-in-GaveUp-clause-read g c = λ begun before.
-    read_next begun c.args.upload.now c.next.new.self next.GaveUp c.in-GaveUp.ensures.given c.next.ensures.reads c.next.ensures.first c.next.ensures.few tt before
+    read_next begun c.args.upload.now c.next.new.self next.GaveUp c.in-GaveUp.ensures.given c.next.ensures.reads c.next.ensures.first c.next.ensures.few tt tt before
 
 pub returns-in-GaveUp-clause-put : goal.returns-in-GaveUp-clause-put
 returns-in-GaveUp-clause-put g c =

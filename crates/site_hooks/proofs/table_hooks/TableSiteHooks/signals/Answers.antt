@@ -1,7 +1,7 @@
 use Rattle.std.proofs.Common.{sym, ◌∙◌, ap, arith}
 use Rattle.std.specs.List.{list_any}
 use Rattle.site_hooks.specs.Table.{is_changed, watched_in}
-use Rattle.site_hooks.proofs.Changes.{none_watched, unchanged}
+use Rattle.site_hooks.proofs.ChangeLaws.{none_watched, unchanged}
 use Rattle.site_hooks.proofs.table_hooks.TableSiteHooks.signals.Goals as goal
 use Rattle.site_hooks.proofs.table_hooks.TableSiteHooks.signals.Goals.{then-len-eq0-via-then-len-eq0, then-len-eq0-via-else-len-eq0+then-same}
 

@@ -1,5 +1,4 @@
-use Rattle.std.proofs.Common.{◌≡◌, ◌-◌, ◌+◌, ◌<◌, ◌++◌, ◌∷◌, [], ℕ, List}
-use Rattle.std.specs.List.{Contains}
+use Rattle.std.proofs.Common.{◌≡◌, ◌-◌, ◌+◌, ◌<◌, ◌++◌, ◌∷◌, [], length}
 use Rattle.page_tree.specs.Limits.{nodes}
 use Rattle.page_tree.specs.Look.{child_count_at}
 use Rattle.page_tree.specs.Number.{place_numbered}
@@ -20,7 +19,9 @@ invariant-loop-i l =
       child : l.i < child_count_at at page → place_numbered l.child page ≡ at ++ l.i ∷ [];
       after : l.at + l.i < l.child;
       before : AreBefore page at l.i l.siblings;
+      len : length l.below.items ≡ length l.alive;
+      found : length l.found.found.items ≡ length l.self.paths.now;
       grows : Grows page l.self.paths.now l.fn.found l.found;
-      ends : (front : List ℕ) → Contains l.fronts front → EndsFound l.self front at l.found;
-      through : FindsThrough l.self l.fronts at l.i l.found;
+      ends : EndsFound l.self l.alive at l.found;
+      through : FindsThrough l.self l.alive at l.i l.found;
     }
