@@ -11,10 +11,15 @@
 #   radios      1,000 submits of a form of 4,000 radio buttons
 #   texts       1,000 submits of a text of 64,999 bytes, each of which the report writes as three
 #   children    2,800 visits that one visit opened, by as many submits of eight such texts, which the repaired page drops
+# With `same` in the site line, so by elements:
+#   alike       5,000 clicks on the last of 2,500 links that look alike, none of which has an anchor
+#   hidden      9,900 inputs on 1,700 hidden fields in turn
+#   tokens      9,900 clicks on ten links in turn, each of 3,000 pairs of a query, of which one is fresh
 #   awk -v input=pages -f make_costly.awk > upload.jsonl
 function times(n, text,   all) { all = ""; for (i = 1; i <= n; i++) all = all (i > 1 ? "," : "") text; return all }
-function site(page, watch) { print "{\"patched\":[\"/a\"],\"quota\":4294967295,\"watch\":[" watch "],\"pages\":{\"/a\":" page "}}"; print "{\"t\":\"hello\",\"client\":\"bench\"}" }
+function site(page, watch) { print "{\"patched\":[\"/a\"]," same "\"quota\":4294967295,\"watch\":[" watch "],\"pages\":{\"/a\":" page "}}"; print "{\"t\":\"hello\",\"client\":\"bench\"}" }
 function load(visit, page) { print "{\"t\":\"load\",\"visit\":" visit ",\"at\":0,\"path\":\"/a\",\"page\":" page "}" }
+function link(token,   i, query) { for (i = 0; i < 3000; i++) query = query "&m"; return "{\"n\":\"a\",\"a\":{\"href\":\"?t=" token query "\"}}" }
 function ends(visit) { print "{\"t\":\"end\",\"visit\":" visit ",\"at\":0}" }
 function visits(n,   visit) { for (visit = 1; visit <= n; visit++) { load(visit, "{\"n\":\"html\"}"); ends(visit) } }
 function submits(n,   k) { for (k = 1; k <= n; k++) print "{\"t\":\"submit\",\"visit\":1,\"at\":0,\"target\":\"/html/form\",\"req\":" k "}" }
@@ -93,6 +98,27 @@ BEGIN {
             print "{\"t\":\"load\",\"visit\":" k + 1 ",\"at\":0,\"parent\":1,\"from\":" k ",\"path\":\"/a\",\"page\":{\"n\":\"html\"}}"
             ends(k + 1)
         }
+        ends(1)
+    } else if (input == "alike") {
+        same = "\"same\":[],"
+        links = times(2500, "{\"n\":\"a\",\"a\":{\"href\":\"\"}}")
+        site("{\"n\":\"html\",\"c\":[\"x\"," links "]}", "")
+        load(1, "{\"n\":\"html\",\"c\":[" links "]}")
+        for (k = 1; k <= 5000; k++) print "{\"t\":\"click\",\"visit\":1,\"at\":0,\"target\":\"/html/a[2500]\",\"req\":" k "}"
+        ends(1)
+    } else if (input == "hidden") {
+        same = "\"same\":[],"
+        page = "{\"n\":\"html\",\"c\":[" times(1700, "{\"n\":\"input\",\"a\":{\"type\":\"hidden\"}}") "]}"
+        site(page, "")
+        load(1, page)
+        for (k = 1; k <= 9900; k++) print "{\"t\":\"input\",\"visit\":1,\"at\":0,\"target\":\"/html/input[" k % 1700 + 1 "]\",\"value\":\"x\"}"
+        ends(1)
+    } else if (input == "tokens") {
+        same = "\"same\":[\"t\"],"
+        for (i = 0; i < 10; i++) { before = before (i ? "," : "") link(1); now = now (i ? "," : "") link(2) }
+        site("{\"n\":\"html\",\"c\":[" now "]}", "")
+        load(1, "{\"n\":\"html\",\"c\":[" before "]}")
+        for (k = 1; k <= 9900; k++) print "{\"t\":\"click\",\"visit\":1,\"at\":0,\"target\":\"/html/a[" k % 10 + 1 "]\",\"req\":" k "}"
         ends(1)
     } else { print "make_costly: no such input" > "/dev/stderr"; exit 1 }
     print "{\"t\":\"bye\"}"

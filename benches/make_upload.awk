@@ -1,6 +1,7 @@
 # Makes a site line and an upload of at least `size` bytes: visits of a form with typed texts, a checkbox and a submit, a third of them to a page that
 # was patched. The same size gives the same upload. With `siblings` so many other elements stand beside the form, and with `inputs` each visit has so
 # many typed texts. With `workers` the site has so many. With `changing` each visit's page has an attribute of its own, so that no two are equal.
+# With `same` events go by their elements.
 #   awk -v size=600000 -f make_upload.awk > upload.jsonl
 #   awk -v size=6000000 -v siblings=4000 -v inputs=1000 -f make_upload.awk > upload.jsonl
 function chance(n) { seed = (seed * 16807) % 2147483647; return seed % n }
@@ -12,7 +13,7 @@ BEGIN {
     page = "{\"n\":\"html\",\"c\":[{\"n\":\"body\",\"c\":[{\"n\":\"p\",\"c\":[\"Write to us\"]}," others "{\"n\":\"form\",\"a\":{\"action\":\"/send\",\"method\":\"post\"},\"c\":[{\"n\":\"input\",\"a\":{\"name\":\"subject\"}},{\"n\":\"textarea\",\"a\":{\"name\":\"text\"}},{\"n\":\"input\",\"a\":{\"name\":\"copy\",\"type\":\"checkbox\"}},{\"n\":\"button\",\"a\":{\"name\":\"go\",\"value\":\"1\"},\"c\":[\"Send\"]}]}]}]}"
     split("/a /b /c", address, " ")
     if (!workers) workers = 1
-    print "{\"patched\":[\"/a\"],\"workers\":" workers ",\"quota\":4294967295,\"watch\":[\"/html/body/p\"],\"pages\":{\"/a\":" page "}}"
+    print "{\"patched\":[\"/a\"]," (same ? "\"same\":[]," : "") "\"workers\":" workers ",\"quota\":4294967295,\"watch\":[\"/html/body/p\"],\"pages\":{\"/a\":" page "}}"
     say("{\"t\":\"hello\",\"client\":\"bench\"}")
     for (visit = 1; bytes < size; visit++) {
         at = visit * 1000

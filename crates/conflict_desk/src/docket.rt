@@ -9,7 +9,7 @@ use page_tree::NoMemory;
 use std::alloc::Global;
 use std::marker::Model;
 use upload_reader::Client;
-use visit_replay::{Outcome, Request};
+use visit_replay::{Difference, Outcome, Request};
 
 /// A visit and what became of it: the visit's number and its parent's stand in the client's log, and `visit_replay` gives the outcome.
 #[derive(Debug, Drop)]
@@ -19,6 +19,8 @@ pub struct Case {
     /// doesn't have, counts for none too.
     pub parent: u64,
     pub outcome: Outcome,
+    /// What its requests were on its own page, where they differ.
+    pub difference: Difference,
 }
 
 impl Case {

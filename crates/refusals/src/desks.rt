@@ -4,7 +4,7 @@ use conflict_desk::{Case, Cases, Choice, Decision, Desk, Docket, Standing, are_d
 use std::alloc::Global;
 use upload_lanes::Stop;
 use upload_reader::Client;
-use visit_replay::{ConflictKind, Outcome, Requests};
+use visit_replay::{ConflictKind, Difference, Outcome, Requests};
 use warp_run::{Listed, Repaired, settle};
 
 /// Decisions behind one that was put before.
@@ -99,6 +99,7 @@ fn conflict(alloc: Global, visit: u64) -> Case {
             at: 1,
             kind: ConflictKind::NoTarget,
         },
+        difference: Difference::none(),
     }
 }
 

@@ -3,7 +3,7 @@ use crate::fixtures::{log, page, text};
 use crate::marks::{WHOLE, answer, begin, end};
 use page_tree::{Attributes, Page, PageFault, Place, Tree};
 use std::alloc::Global;
-use visit_replay::{Method, Outcome, Request, Requests, moved};
+use visit_replay::{Finding, Method, Outcome, Request, Requests, moved};
 use xpath_child::Path;
 
 const LINK: &str = "/html/body/a";
@@ -86,7 +86,7 @@ pub(crate) fn leads_elsewhere<T: AllocGlobal + Eprint>(rt: &T) -> Option<&'stati
     let visit = log.visits().first()?;
     let outcome = outcome(rt.alloc())?;
     begin(rt);
-    let told = moved(rt.alloc(), visit, &outcome, 1);
+    let told = moved(rt.alloc(), &Finding::by_path(), visit, &outcome, 1);
     end(rt);
     match told {
         Ok(elsewhere) => answer(elsewhere, WHOLE),

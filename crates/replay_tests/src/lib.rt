@@ -11,6 +11,8 @@ mod path_tests;
 #[cfg(test)]
 mod pool_tests;
 #[cfg(test)]
+mod same_tests;
+#[cfg(test)]
 mod site_tests;
 #[cfg(test)]
 mod visit_tests;

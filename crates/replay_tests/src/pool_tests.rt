@@ -4,14 +4,14 @@ ghost use Rattle.std.specs.Prelude.{◌≡◌, length};
 use crate::made::{FIRST, MISSING, NEW, Was, patch, site, told, told_all, visits};
 use client_log::Visit;
 use page_tree::{NoMemory, Page};
-use replay_workers::{Claims, Done, Share, replay_all, work};
+use replay_workers::{Claims, Done, Share, SiteLooks, replay_all, work};
 use site_hooks::{SiteHooks, SiteLaw, Table};
 use std::alloc::{AllocError, Global};
 use std::sync::atomic::{AtomicBool, AtomicU64, Ordering};
 use std::test::Fail;
 use std::thread;
 use std::thread::Threads;
-use visit_replay::{Outcome, Patch};
+use visit_replay::{Finding, Outcome, Patch};
 
 // What so many workers give of these clients' visits, each client's told and then a line's end; or the fault's code.
 fn told_by<H: SiteHooks, R: AllocGlobal + Threads + Sync>(
@@ -21,7 +21,7 @@ fn told_by<H: SiteHooks, R: AllocGlobal + Threads + Sync>(
     patch: &Patch,
     clients: &[&[Visit]],
 ) -> Result<String, Fail> {
-    match replay_all(rt, workers, hooks, patch, clients) {
+    match replay_all(rt, workers, hooks, patch, &Finding::by_path(), clients) {
         Ok(all) => told_clients(rt.alloc(), all.as_slice()),
         Err(fault) => Ok(format!(in rt.alloc(); "{fault}")?),
     }
@@ -131,14 +131,20 @@ fn two_shares<H: SiteHooks>(
 ) -> Result<(String, String, u64), Fail>
     requires { length visits.now ≡ 2 }
 {
+    let by_path = Finding::by_path();
+    let looks = SiteLooks::none(alloc);
     let (claims, mut seats) = Claims::open(alloc, 2, 2)?;
     let (Some(first), Some(second)) = (seats.pop(), seats.pop()) else {
         return Err(Fail::from("no seats"));
     };
-    let Share { seat, done } = work(alloc, hooks, patch, visits, &claims, first);
+    let Share { seat, done } = work(
+        alloc, hooks, patch, &by_path, &looks, visits, &claims, first,
+    );
     let first_told = told_share(alloc, done?.as_slice())?;
     seats.push_reserved(seat);
-    let Share { seat, done } = work(alloc, hooks, patch, visits, &claims, second);
+    let Share { seat, done } = work(
+        alloc, hooks, patch, &by_path, &looks, visits, &claims, second,
+    );
     let second_told = told_share(alloc, done?.as_slice())?;
     seats.push_reserved(seat);
     Ok((first_told, second_told, claims.close(seats)))

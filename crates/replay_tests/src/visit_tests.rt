@@ -11,7 +11,9 @@ use std::alloc::{AllocError, Global};
 use std::process::Abort;
 use std::test::Fail;
 use upload_reader::Event;
-use visit_replay::{Method, Outcome, Request, Requests, affected, follow_parents, moved, replay};
+use visit_replay::{
+    Finding, Method, Outcome, Request, Requests, affected, follow_parents, moved, replay,
+};
 use xpath_child::Path;
 
 // ---- a visit by itself
@@ -41,7 +43,7 @@ fn typed(alloc: Global) -> Result<Visit, Fail> {
 
 fn form_outcome(alloc: Global) -> Result<Outcome, Fail> {
     let (site, patch) = (site(alloc, &["/f"], FORM)?, patch(alloc, &["/f"])?);
-    Ok(replay(alloc, &site, &patch, &typed(alloc)?)?)
+    Ok(replay(alloc, &site, &patch, &Finding::by_path(), &typed(alloc)?)?)
 }
 
 // The number, the method, the address and the pairs of each.
@@ -117,14 +119,26 @@ const BAD: Clicked = (MISSING, 0);
 
 // What a visit to `/p` gives there.
 fn answered(alloc: Global, hooks: &Wanting, visit: &Visit) -> Result<String, Fail> {
-    match replay(alloc, hooks, &patch(alloc, &["/p"])?, visit) {
+    match replay(
+        alloc,
+        hooks,
+        &patch(alloc, &["/p"])?,
+        &Finding::by_path(),
+        visit,
+    ) {
         Ok(outcome) => told(alloc, &outcome),
         Err(_) => Ok(String::from_str(alloc, "refused")?),
     }
 }
 
 fn is_untouched(alloc: Global, hooks: &Wanting, visit: &Visit) -> Result<bool, Fail> {
-    let elsewhere = replay(alloc, hooks, &patch(alloc, &["/q"])?, visit)?;
+    let elsewhere = replay(
+        alloc,
+        hooks,
+        &patch(alloc, &["/q"])?,
+        &Finding::by_path(),
+        visit,
+    )?;
     Ok(matches!(elsewhere, Outcome::Untouched))
 }
 
@@ -196,12 +210,12 @@ fn followed(alloc: Global, list: &[Was]) -> Result<String, Fail> {
     );
     let mut own = Vec::new(alloc);
     for visit in &visits {
-        own.push(replay(alloc, &site, &patch, visit)?)?;
+        own.push(replay(alloc, &site, &patch, &Finding::by_path(), visit)?)?;
     }
     if own.len() != visits.len() {
         return Err(Fail::new("as many outcomes as visits"));
     }
-    let all = follow_parents(alloc, visits.as_slice(), own)?;
+    let all = follow_parents(alloc, &Finding::by_path(), visits.as_slice(), own)?;
     told_all(alloc, all.as_slice())
 }
 
@@ -253,8 +267,8 @@ const NAMED: &str =
 fn has_moved(alloc: Global, old: &str, clicks: &'static [Clicked]) -> Result<bool, Fail> {
     let visit = visit_on(alloc, old, ((1, 0, 0), "/f", false, clicks))?;
     let (site, patch) = (site(alloc, &["/f"], NEW)?, patch(alloc, &["/f"])?);
-    let outcome = replay(alloc, &site, &patch, &visit)?;
-    Ok(moved(alloc, &visit, &outcome, 1)?)
+    let outcome = replay(alloc, &site, &patch, &Finding::by_path(), &visit)?;
+    Ok(moved(alloc, &Finding::by_path(), &visit, &outcome, 1)?)
 }
 
 fn moves(rt: &impl Abort, alloc: Global, clicks: &'static [Clicked]) -> Result<(), Fail> {

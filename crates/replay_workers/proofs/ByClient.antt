@@ -1,5 +1,5 @@
 -- What all visits give, given back client by client.
-use Rattle.std.proofs.Common.{◌≡◌, ℕ, ◌+◌, ◌<◌, List, [], ◌∷◌, ◌++◌, length, map, zip, drop, get_or, Some, slice_get, refl, sym, ap, ◌∙◌, arith, append_assoc}
+use Rattle.std.proofs.Common.{◌≡◌, ℕ, ◌+◌, ◌<◌, List, [], ◌∷◌, ◌++◌, Option, length, map, zip, drop, get_or, Some, slice_get, refl, sym, ap, ◌∙◌, arith, append_assoc}
 use Rattle.std.proofs.lemmas.List.{map-append, length-map, drop_more}
 use Rattle.std.proofs.lemmas.Option.{slice_get-get_or}
 use Rattle.std.specs.Borrow.{Bor}
@@ -23,8 +23,8 @@ own_at site visits n visit below is =
     (map_at (λ visit. visit.now) visits n visit (slice_get-get_or visits n visit below ∙ ap (λ v. Some v) (sym is)))
 
 -- the first clients have what is defined, and for the others there is what each of their visits gives by itself
-abbrev pub IsGivenTo : List (Bor (List Visit)) → List (Bor (List Visit)) → List Outcome → List Outcome → List (List Outcome) → Type 0
-IsGivenTo clients others own rest all = (site : RepairedSite) → own ≡ own_outcomes site (visits_of_all clients)
+abbrev pub IsGivenTo : Option (List (List ℕ)) → List (Bor (List Visit)) → List (Bor (List Visit)) → List Outcome → List Outcome → List (List Outcome) → Type 0
+IsGivenTo same clients others own rest all = (site : RepairedSite) → site.same ≡ same → own ≡ own_outcomes site (visits_of_all clients)
     → (all ++ map (λ visits. outcomes site visits.now) others ≡ map (λ visits. outcomes site visits.now) clients)
     × (rest ≡ own_outcomes site (visits_of_all others))
 
@@ -42,15 +42,15 @@ same_front (x ∷ xs) ys (z ∷ front) back size is =
     (rw (here, rest.0) refl, rest.1)
 
 -- one client more
-pub one_given : (clients others : List (Bor (List Visit))) (visits : Bor (List Visit)) (own front rest next one : List Outcome) (all : List (List Outcome))
-    → IsGivenTo clients (visits ∷ others) own rest all → length front ≡ length visits.now → front ++ next ≡ rest
-    → one ≡ map (λ pair. pair.1) (behind_parents (zip visits.now front)) → IsGivenTo clients others own next (all ++ one ∷ [])
-one_given clients others visits own front rest next one all before size split followed site is =
-    let were = before site is in
+pub one_given : (same : Option (List (List ℕ))) (clients others : List (Bor (List Visit))) (visits : Bor (List Visit)) (own front rest next one : List Outcome) (all : List (List Outcome))
+    → IsGivenTo same clients (visits ∷ others) own rest all → length front ≡ length visits.now → front ++ next ≡ rest
+    → one ≡ map (λ pair. pair.1) (behind_parents same (zip visits.now front)) → IsGivenTo same clients others own next (all ++ one ∷ [])
+one_given same clients others visits own front rest next one all before size split followed site named is =
+    let were = before site named is in
     let cut = same_front front next (own_outcomes site visits.now) (own_outcomes site (visits_of_all others))
     (size ∙ sym (length-map visits.now (outcome site))) (split ∙ were.1 ∙ map-append (outcome site) visits.now (visits_of_all others)) in
     let one_is : one ≡ outcomes site visits.now =
-    followed ∙ ap (λ pairs. map (λ pair. pair.1) (behind_parents pairs)) (ap (zip visits.now) cut.0 ∙ zip_own (outcome site) visits.now) in (
+    followed ∙ ap (λ names. map (λ pair. pair.1) (behind_parents names (zip visits.now front))) (sym named) ∙ ap (λ pairs. map (λ pair. pair.1) (behind_parents site.same pairs)) (ap (zip visits.now) cut.0 ∙ zip_own (outcome site) visits.now) in (
       append_assoc all (one ∷ []) (map (λ v. outcomes site v.now) others)
           ∙ ap (λ o. all ++ o ∷ map (λ v. outcomes site v.now) others) one_is ∙ were.0,
       cut.1,

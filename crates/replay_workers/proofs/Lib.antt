@@ -5,3 +5,4 @@ pub mod Divided
 pub mod Working
 pub mod Placing
 pub mod ByClient
+pub mod Named

@@ -1,4 +1,5 @@
 pub mod Fault
 pub mod Draws
 pub mod Work
+pub mod SiteLooks
 pub mod inside

@@ -6,7 +6,7 @@ ghost use Rattle.replay_workers.specs.inside.Clients.{visits_of_all, FollowByCli
 use client_log::Visit;
 use std::alloc::{AllocError, Global};
 use std::vec::IntoIter;
-use visit_replay::{Outcome, follow_parents};
+use visit_replay::{Finding, Outcome, follow_parents};
 
 /// All clients' visits, client after client.
 pub(crate) fn in_one_list<'a>(
@@ -36,17 +36,18 @@ fn add_visits<'a>(all: &mut Vec<&'a Visit>, visits: &'a [Visit]) -> Result<(), A
 /// What each client's visits give behind their parents, by what all give by themselves.
 pub(crate) fn follow_each(
     alloc: Global,
+    finding: &Finding,
     clients: &[&[Visit]],
     own: Vec<Outcome>,
 ) -> Result<Vec<Vec<Outcome>>, AllocError>
     requires { length own.items ≡ length (visits_of_all clients.now) }
-    ensures { IfOk result (λ all. FollowByClient clients.now own.items (map (λ one. one.items) all.items)) }
+    ensures { IfOk result (λ all. FollowByClient finding.now clients.now own.items (map (λ one. one.items) all.items)) }
 {
     let mut all = Vec::with_capacity(alloc, clients.len())?;
     let mut rest = own.into_iter();
     for visits in clients {
         let own = take_front(alloc, &mut rest, visits.len())?;
-        all.push_reserved(follow_parents(alloc, visits, own)?);
+        all.push_reserved(follow_parents(alloc, finding, visits, own)?);
     }
     Ok(all)
 }

@@ -11,6 +11,7 @@ mod pool;
 mod rule;
 mod seat;
 mod share;
+mod site_looks;
 mod view;
 
 pub use claims::Claims;
@@ -18,4 +19,5 @@ pub use fault::PoolFault;
 pub use pool::replay_all;
 pub use seat::Seat;
 pub use share::{Done, Share, work};
+pub use site_looks::{PageAt, SiteLooks, pages_of};
 pub use visit_replay::MAX_WORKERS;

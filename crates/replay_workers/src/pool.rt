@@ -9,6 +9,7 @@ ghost use Rattle.replay_workers.specs.Draws.{fresh_seat};
 ghost use Rattle.visit_replay.specs.Limits.{AreWorkers};
 ghost use Rattle.replay_workers.specs.Work.{own_outcomes, IsShare};
 ghost use Rattle.replay_workers.specs.inside.Shares.{PlacesAll, PlacesThese};
+ghost use Rattle.replay_workers.specs.SiteLooks.{AreSiteLooks};
 ghost use Rattle.replay_workers.specs.declared.fault.PoolFault.TheVariants.{BadWorkers, NoMemory};
 
 use crate::by_client::{follow_each, in_one_list};
@@ -16,13 +17,14 @@ use crate::claims::Claims;
 use crate::fault::PoolFault;
 use crate::seat::Seat;
 use crate::share::{Done, Share, work};
+use crate::site_looks::{SiteLooks, pages_of};
 use crate::view::Terms;
 use client_log::Visit;
 use site_hooks::SiteHooks;
 use std::alloc::{AllocError, Global};
 use std::thread;
 use std::thread::Threads;
-use visit_replay::{MAX_WORKERS, Outcome, Patch};
+use visit_replay::{Finding, MAX_WORKERS, Outcome, Patch};
 
 /// The outcomes of each client's visits in their order, each behind its parent's among these, by one pool of so many workers for
 /// all clients, 1 to `MAX_WORKERS`: the thread that calls is one, and the others have threads of their own, unless there are no
@@ -32,11 +34,12 @@ pub fn replay_all<H: SiteHooks, R: AllocGlobal + Threads + Sync>(
     workers: u32,
     hooks: &H,
     patch: &Patch,
+    finding: &Finding,
     clients: &[&[Visit]],
 ) -> Result<Vec<Vec<Outcome>>, PoolFault>
     ensures workers { IfOk result (λ _. AreWorkers workers) }
     ensures ok { IfOk result (λ all. map (λ own. own.items) all.items ≡
-        map (λ visits. outcomes (site_by H.page_of H.signals hooks.now patch.now) visits.now) clients.now) }
+        map (λ visits. outcomes (site_by H.page_of H.signals hooks.now patch.now finding.now) visits.now) clients.now) }
     ensures refused { IfErr result (λ fault. fault ≢ NoMemory → (fault ≡ BadWorkers) × ¬ AreWorkers workers) }
     ensures memory { IfErr result (λ fault. fault ≡ NoMemory → AreWorkers workers) }
 {
@@ -44,8 +47,16 @@ pub fn replay_all<H: SiteHooks, R: AllocGlobal + Threads + Sync>(
         return Err(PoolFault::BadWorkers);
     }
     let visits = in_one_list(rt.alloc(), clients)?;
-    let own = replay_listed(rt, rt.alloc(), workers, hooks, patch, visits.as_slice())?;
-    Ok(follow_each(rt.alloc(), clients, own)?)
+    let own = replay_listed(
+        rt,
+        rt.alloc(),
+        workers,
+        hooks,
+        patch,
+        finding,
+        visits.as_slice(),
+    )?;
+    Ok(follow_each(rt.alloc(), finding, clients, own)?)
 }
 
 // What each visit gives by itself. No thread is started where there are none.
@@ -55,18 +66,23 @@ fn replay_listed<H: SiteHooks, R: Threads + Sync>(
     workers: u32,
     hooks: &H,
     patch: &Patch,
+    finding: &Finding,
     visits: &[&Visit],
 ) -> Result<Vec<Outcome>, AllocError>
     requires { AreWorkers workers }
     ensures { IfOk result (λ own. own.items ≡
-        own_outcomes (site_by H.page_of H.signals hooks.now patch.now) (map (λ visit. visit.now) visits.now)) }
+        own_outcomes (site_by H.page_of H.signals hooks.now patch.now finding.now) (map (λ visit. visit.now) visits.now)) }
 {
     if visits.is_empty() {
         return Ok(Vec::new(alloc));
     }
+    let pages = pages_of(alloc, hooks, patch, finding, visits)?;
+    let looks = SiteLooks::of(alloc, pages.as_slice(), finding)?;
     let count = visits.len() as u64;
     let (claims, seats) = Claims::under(alloc, Terms { count, workers })?;
-    replay_each(rt, alloc, hooks, patch, visits, claims, seats)
+    replay_each(
+        rt, alloc, hooks, patch, finding, &looks, visits, claims, seats,
+    )
 }
 
 // The same by the workers with these seats.
@@ -75,15 +91,18 @@ fn replay_each<H: SiteHooks, R: Threads + Sync>(
     alloc: Global,
     hooks: &H,
     patch: &Patch,
+    finding: &Finding,
+    looks: &SiteLooks<'_>,
     visits: &[&Visit],
     claims: Claims,
     seats: Vec<Seat>,
 ) -> Result<Vec<Outcome>, AllocError>
+    requires known { AreSiteLooks (H.page_of hooks.now) finding.now looks.now.all.items }
     requires fresh { seats.items ≡ replicate claims.workers (fresh_seat claims) }
     requires some { 1 ≤ claims.workers }
     requires count { claims.count ≡ length visits.now }
     ensures { IfOk result (λ own. own.items ≡
-        own_outcomes (site_by H.page_of H.signals hooks.now patch.now) (map (λ visit. visit.now) visits.now)) }
+        own_outcomes (site_by H.page_of H.signals hooks.now patch.now finding.now) (map (λ visit. visit.now) visits.now)) }
 {
     let mut own = untouched(alloc, visits.len())?;
     let room = Vec::with_capacity(alloc, seats.len())?;
@@ -92,12 +111,13 @@ fn replay_each<H: SiteHooks, R: Threads + Sync>(
         rt,
         seats,
         &|seat| -> Share
-            requires { (seat ≡ fresh_seat lent.now) × (lent.now.count ≡ length visits.now) }
+            requires { (seat ≡ fresh_seat lent.now) × (lent.now.count ≡ length visits.now)
+                × AreSiteLooks (H.page_of hooks.now) finding.now looks.now.all.items }
             ensures { IsShare
-                (own_outcomes (site_by H.page_of H.signals hooks.entry.now patch.entry.now)
+                (own_outcomes (site_by H.page_of H.signals hooks.entry.now patch.entry.now finding.entry.now)
                 (map (λ visit. visit.now) visits.entry.now))
                 lent.entry.now (fresh_seat lent.entry.now) result }
-        { work(alloc, hooks, patch, visits, lent, seat) },
+        { work(alloc, hooks, patch, finding, looks, visits, lent, seat) },
     )?;
     let seats = place_all(shares, own.as_mut_slice(), room)?;
     let _drawn = claims.close(seats);

@@ -7,7 +7,7 @@ use std::alloc::Global;
 use std::test::Fail;
 use stream_fakes::Sips;
 use upload_reader::{Client, Ending, LaneEnd};
-use visit_replay::{ConflictKind, Method, Outcome, Request, Requests};
+use visit_replay::{ConflictKind, Difference, Method, Outcome, Request, Requests};
 use warp_run::{ClientSummary, Listed, PutDecision, Repaired, report};
 
 // ---- what was repaired
@@ -90,6 +90,7 @@ pub(crate) fn docket(alloc: Global, lane: Lane<'_>) -> Result<Docket, Fail> {
             visit,
             parent,
             outcome,
+            difference: Difference::none(),
         })?;
     }
     let client = Client::read(alloc, lane.client)?;

@@ -31,7 +31,14 @@ fn repaired(
     gathered: &Gathered<Reader>,
 ) -> Result<Result<Repaired, PoolFault>, Fail> {
     let site = Site::read(rt.alloc(), MOVED_SITE.as_bytes())?;
-    Ok(repair(rt, workers, site.table(), site.patch(), gathered))
+    Ok(repair(
+        rt,
+        workers,
+        site.table(),
+        site.patch(),
+        site.finding(),
+        gathered,
+    ))
 }
 
 // So many workers end so.

@@ -10,6 +10,7 @@ one_site line d e site plain other json also is are answers = record {
   patched = λ address. cc (answers.patched address);
   pages = λ address. cc (answers.pages address);
   watched = cc;
+  same = cc;
   quota = cc;
   workers = cc;
   decisions = cc;

@@ -1,5 +1,5 @@
 -- What clauses see of a site that was read, and which site it answers as.
-use Rattle.std.specs.Prelude.{◌≡◌, ℕ, List}
+use Rattle.std.specs.Prelude.{◌≡◌, ℕ, List, Option}
 use Rattle.site_hooks.specs.Table.{table_page as page_at, watched_in}
 use Rattle.site_hooks.specs.declared.table.Table.{Table}
 use Rattle.visit_replay.specs.Outcome.{is_listed}
@@ -12,6 +12,9 @@ site_patch site = site.patch
 
 abbrev pub site_table : Site → Table
 site_table site = site.table
+
+abbrev pub site_same : Site → Option (List (List ℕ))
+site_same site = site.finding
 
 abbrev pub site_quota : Site → ℕ
 site_quota site = site.quota
@@ -27,6 +30,7 @@ pub record AnswersAs (site : Site) (plain : PlainSite) : Type 0 where
   pub patched : (address : List ℕ) → is_listed (site_patch site) address ≡ is_listed plain.patched address
   pub pages : (address : List ℕ) → page_at (site_table site) address ≡ page_among plain.pages address
   pub watched : watched_in (site_table site) ≡ plain.watched
+  pub same : site_same site ≡ plain.same
   pub quota : site_quota site ≡ plain.quota
   pub workers : site_workers site ≡ plain.workers
   pub decisions : site_decisions site ≡ plain.decisions

@@ -1,11 +1,11 @@
 -- What a site line says: this project's own format, in JSON (RFC 8259).
-use Rattle.std.specs.Prelude.{◌≡◌, ℕ, List, [], ◌∷◌, fold, Bool, true, if◌then◌else◌, Option, Some, None, is_some, option_map, option_and_then, codes, IsUtf8}
+use Rattle.std.specs.Prelude.{◌≡◌, ◌≤◌, ℕ, List, [], ◌∷◌, length, fold, Bool, true, if◌then◌else◌, Option, Some, None, IfSome, is_some, option_map, option_and_then, codes, IsUtf8}
 use Rattle.std.specs.List.{list_any}
 use Rattle.std.specs.Option.{option_map_or}
 use Rattle.std.specs.Result.{result_ok}
 use Rattle.std.specs.Str.{bytes_eq}
 use Rattle.serde_json.specs.Data.{Data, Members, no_members, member}
-use Rattle.serde_json.specs.Find.{get, as_str, as_object}
+use Rattle.serde_json.specs.Find.{get, as_str, as_array, as_object}
 use Rattle.serde_json.specs.Read.{read}
 use Rattle.page_tree.specs.Tree.{Tree}
 use Rattle.page_tree.specs.Fault.{page_in}
@@ -14,7 +14,7 @@ use Rattle.xpath_child.specs.Fault.{path_in}
 use Rattle.client_log.specs.Quota.{IsQuota}
 use Rattle.site_hooks.specs.Table.{is_changed}
 use Rattle.visit_replay.specs.Limits.{AreWorkers}
-use Rattle.site_line.specs.Members.{number_or, list_by}
+use Rattle.site_line.specs.Members.{number_or, items_by, list_by}
 use Rattle.site_line.specs.Decision.{decision_in}
 use Rattle.conflict_desk.specs.declared.decision.Decision.{Decision}
 
@@ -23,12 +23,13 @@ abbrev pub Entry : Type 0
 Entry = List ℕ × Tree
 
 -- The addresses whose visits are replayed, the pages of the repaired site, the paths to texts that must not have
--- changed, how much is kept of each client, how many workers replay its visits, and what the administrator decided so
--- far, in that order.
+-- changed, how events find their places there (by their paths, or by their elements with these fresh names), how much
+-- is kept of each client, how many workers replay its visits, and what the administrator decided so far, in that order.
 pub record Site : Type 0 where
   pub patched : List (List ℕ)
   pub pages : List Entry
   pub watched : List (List Step)
+  pub same : Option (List (List ℕ))
   pub quota : ℕ
   pub workers : ℕ
   pub decisions : List Decision
@@ -49,6 +50,18 @@ pages_among (member address d ms) =
 abbrev pub pages_in : Data → Option (List Entry)
 pages_in d = option_and_then pages_among (option_map_or as_object (get (codes "pages") d) (Some no_members))
 
+-- the member `same`, an array of names; events go by their paths where it is absent
+abbrev pub same_in : Data → Option (Option (List (List ℕ)))
+same_in d = option_map_or (λ names. option_map Some (option_and_then (items_by as_str) (as_array names)))
+    (get (codes "same") d) (Some None)
+
+-- how many names may be fresh: each pair of a query is compared with all of them
+abbrev pub max_fresh : ℕ
+max_fresh = 16
+
+abbrev pub AreFewNames : Option (List (List ℕ)) → Type 0
+AreFewNames same = IfSome same (λ names. length names ≤ max_fresh)
+
 -- 1 MiB, in bytes: what is kept of a client where the site doesn't say; any quota would do
 abbrev pub default_quota : ℕ
 default_quota = 1048576
@@ -67,6 +80,7 @@ pub record IsSiteOf (d : Data) (site : Site) : Type 0 where
   pub patched : list_by as_str (codes "patched") d ≡ Some site.patched
   pub pages : pages_in d ≡ Some site.pages
   pub watched : list_by path_by_text (codes "watch") d ≡ Some site.watched
+  pub same : (same_in d ≡ Some site.same) × AreFewNames site.same
   pub quota : (quota_in d ≡ Some site.quota) × IsQuota site.quota
   pub workers : (workers_in d ≡ Some site.workers) × AreWorkers site.workers
   pub decisions : list_by decision_in (codes "decide") d ≡ Some site.decisions

@@ -1,5 +1,5 @@
 //! The members of a site line.
-ghost use Rattle.std.specs.Prelude.{◌≡◌, List, ℕ, None, Some, IfOk, IfErr, IsErrOf, option_map, codes};
+ghost use Rattle.std.specs.Prelude.{◌≡◌, List, ℕ, Option, None, Some, IfOk, IfErr, IsErrOf, option_map, codes};
 ghost use Rattle.serde_json.specs.Data.{Data};
 ghost use Rattle.serde_json.specs.View.{view, items_view, members_view};
 ghost use Rattle.serde_json.specs.Find.{as_str, as_array, as_object};
@@ -7,9 +7,9 @@ ghost use Rattle.page_tree.specs.Fault.{page_in};
 ghost use Rattle.client_log.specs.Quota.{IsQuota};
 ghost use Rattle.site_hooks.specs.Table.{table_page, watched_in};
 ghost use Rattle.visit_replay.specs.Limits.{AreWorkers};
-ghost use Rattle.site_line.specs.Members.{whole_number, number_or, array_or_none, list_by};
+ghost use Rattle.site_line.specs.Members.{whole_number, number_or, items_by, array_or_none, list_by};
 ghost use Rattle.site_line.specs.Decision.{decision_in};
-ghost use Rattle.site_line.specs.Site.{IsJsonOf, path_by_text, pages_in, page_among, quota_in, workers_in};
+ghost use Rattle.site_line.specs.Site.{IsJsonOf, path_by_text, pages_in, page_among, same_in, quota_in, workers_in, AreFewNames};
 ghost use Rattle.site_line.specs.inside.{FailsWhere, GivesSite};
 ghost use Rattle.site_line.specs.declared.fault.SiteFault.TheVariants.{NotJson, BadMember};
 
@@ -21,7 +21,7 @@ use page_tree::{Page, Text};
 use serde_json::{Category, Map, Value};
 use site_hooks::Table;
 use std::alloc::Global;
-use visit_replay::MAX_WORKERS;
+use visit_replay::{Finding, MAX_WORKERS};
 use xpath_child::{Path, PathFaultKind};
 
 /// What is kept of a client in bytes, where the site doesn't say.
@@ -29,6 +29,9 @@ const DEFAULT_QUOTA: u64 = 1_048_576;
 
 /// How many workers there are, where the site doesn't say.
 const DEFAULT_WORKERS: u64 = 1;
+
+/// How many names may be fresh.
+const MAX_FRESH: usize = 16;
 
 /// The JSON value of a line; Z1 where it has none.
 pub(crate) fn read_line(alloc: Global, line: &[u8]) -> Result<Value, SiteFault>
@@ -99,8 +102,32 @@ fn read_number(absent: u64, name: &str, value: &Value) -> Result<u64, SiteFault>
 pub(crate) fn read_patched(alloc: Global, value: &Value) -> Result<Vec<Text>, SiteFault>
     ensures { GivesSite (λ texts. texts.items) result (list_by as_str (codes "patched") (view value.now)) }
 {
+    let items = items_at(value, "patched")?;
+    read_texts(alloc, items)
+}
+
+/// How events find their places: by their elements, where the names of fresh values are given.
+pub(crate) fn read_same(alloc: Global, value: &Value) -> Result<Finding, SiteFault>
+    ensures ok { IfOk result (λ finding. (same_in (view value.now) ≡ Some finding) × AreFewNames finding) }
+    ensures fails { IfErr result
+        (FailsWhere ((names : Option (List (List ℕ))) → same_in (view value.now) ≡ Some names → ¬ AreFewNames names)) }
+{
+    let Some(given) = value.get("same") else {
+        return Ok(Finding::by_path());
+    };
+    let items = read_items(given)?;
+    let names = read_texts(alloc, items)?;
+    if names.len() > MAX_FRESH {
+        return Err(SiteFault::BadMember);
+    }
+    Ok(Finding::by_element(names))
+}
+
+fn read_texts(alloc: Global, items: &[Value]) -> Result<Vec<Text>, SiteFault>
+    ensures { GivesSite (λ texts. texts.items) result (items_by as_str (items_view items.now)) }
+{
     let mut texts = Vec::new(alloc);
-    for item in items_at(value, "patched")? {
+    for item in items {
         texts.push(Text::from_str(alloc, read_text(item)?)?)?;
     }
     Ok(texts)

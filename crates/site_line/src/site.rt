@@ -8,22 +8,23 @@ ghost use Rattle.site_line.specs.declared.fault.SiteFault.TheVariants.{NotJson, 
 
 use crate::fault::SiteFault;
 use crate::reading::{
-    read_decisions, read_line, read_members, read_pages, read_patched, read_quota, read_watched,
-    read_workers,
+    read_decisions, read_line, read_members, read_pages, read_patched, read_quota, read_same,
+    read_watched, read_workers,
 };
 use client_log::Quota;
 use conflict_desk::Decision;
 use serde_json::Value;
 use site_hooks::Table;
 use std::alloc::Global;
-use visit_replay::Patch;
+use visit_replay::{Finding, Patch};
 
-/// What was repaired, the pages that the site shows now, which texts of them must not have changed, how much is kept of each client, how many workers
-/// replay its visits, and what was decided on conflicts so far.
+/// What was repaired, the pages that the site shows now, which texts of them must not have changed, how events find their places there, how much is kept of
+/// each client, how many workers replay its visits, and what was decided on conflicts so far.
 #[derive(Drop)]
 pub struct Site {
     patch: Patch,
     table: Table,
+    finding: Finding,
     quota: Quota,
     workers: u32,
     decisions: Vec<Decision>,
@@ -31,12 +32,13 @@ pub struct Site {
 }
 
 impl Site {
-    ghost use Rattle.site_line.specs.Reading.{site_patch, site_table, site_quota, site_workers, site_decisions, AnswersAs};
+    ghost use Rattle.site_line.specs.Reading.{site_patch, site_table, site_same, site_quota, site_workers, site_decisions, AnswersAs};
     ghost use Rattle.site_line.specs.inside.{FailsWhere};
 
     /// The site that a line says: a JSON object with `patched` (an array of address texts), `pages` (an object, from address to page), `watch` (an
-    /// array of path texts), `quota` (1 to 4,294,967,295 bytes, else 1,048,576), `workers` (1 to 32, else 1) and `decide` (an array of decisions, each an
-    /// array of client, visit and choice), all optional. Unknown members are ignored.
+    /// array of path texts), `same` (an array of 16 names at most; without it events go by their paths), `quota` (1 to 4,294,967,295 bytes, else 1,048,576),
+    /// `workers` (1 to 32, else 1) and `decide` (an array of decisions, each an array of client, visit and choice), all optional. Unknown members are
+    /// ignored.
     pub fn read(alloc: Global, line: &[u8]) -> Result<Site, SiteFault>
         ensures ok { IfOk result (λ site. (plain : PlainSite) × IsSiteLine line.now plain × AnswersAs site plain) }
         ensures only { IfOk result (λ site. (plain : PlainSite) → IsSiteLine line.now plain → AnswersAs site plain) }
@@ -56,12 +58,14 @@ impl Site {
         let patch = Patch::new(read_patched(alloc, value)?);
         let mut table = read_watched(alloc, value)?;
         read_pages(alloc, value, &mut table)?;
+        let finding = read_same(alloc, value)?;
         let quota = read_quota(value)?;
         let workers = read_workers(value)?;
         let decisions = read_decisions(alloc, value)?;
         Ok(Site {
             patch,
             table,
+            finding,
             quota,
             workers,
             decisions,
@@ -80,6 +84,13 @@ impl Site {
         ensures { result.now ≡ site_table self.now }
     {
         &self.table
+    }
+
+    /// How events find their places on its pages.
+    pub fn finding(&self) -> &Finding
+        ensures { result.now ≡ site_same self.now }
+    {
+        &self.finding
     }
 
     /// How much is kept of each client.

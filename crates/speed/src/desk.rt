@@ -4,7 +4,7 @@ use conflict_desk::{Case, Cases, Choice, Desk, Docket, Standing, are_dockets};
 use std::alloc::Global;
 use std::time::{Clock, Duration};
 use upload_reader::Client;
-use visit_replay::{ConflictKind, Outcome, Requests};
+use visit_replay::{ConflictKind, Difference, Outcome, Requests};
 
 /// On dockets of 10,000 and of 100,000 conflicts, with the times.
 pub(crate) fn print_desks<T: AllocGlobal + Clock + Print>(rt: &T) {
@@ -143,5 +143,6 @@ fn conflict(alloc: Global, visit: u64, parent: u64) -> Case {
             at: 1,
             kind: ConflictKind::NoTarget,
         },
+        difference: Difference::none(),
     }
 }

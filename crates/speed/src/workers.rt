@@ -9,7 +9,7 @@ use std::alloc::Global;
 use std::thread::Threads;
 use std::time::{Clock, Duration};
 use upload_lanes::{Gathered, gather_in_order};
-use visit_replay::{Outcome, Patch};
+use visit_replay::{Finding, Outcome, Patch};
 
 /// A run has one figure, so that none finds the memory that another left: that of 1,000 visits of 500 events.
 pub(crate) fn print_workers<T: AllocGlobal + Threads + Clock + Print + Sync>(rt: &T, word: &str) {
@@ -70,7 +70,7 @@ fn time_replay<T: AllocGlobal + Threads + Clock + Sync>(
     let visits = gathered.clients.values().next()?.log.visits();
     let site = site(rt.alloc(), visits.first()?)?;
     let start = now(rt);
-    let outcomes = replay_all(rt, workers, &site, &patch, &[visits]).ok()?;
+    let outcomes = replay_all(rt, workers, &site, &patch, &Finding::by_path(), &[visits]).ok()?;
     let time = between(start, now(rt))?;
     Some((count_done(outcomes.first()?.as_slice()), time))
 }

@@ -13,21 +13,17 @@ use std::alloc::Global;
 
 /// Reads lines as JSON documents, and keeps the room that this takes from line to line. Before the first line it has none.
 #[derive(Drop)]
-pub(crate) struct Documents {
+pub struct Documents {
     scratch: Option<Box<Scratch>>,
 }
 
 impl Documents {
-    pub(crate) fn new() -> Documents {
+    pub fn new() -> Documents {
         Documents { scratch: None }
     }
 
     /// The document that a line is; else E5.
-    pub(crate) fn read<'a>(
-        &'a mut self,
-        alloc: Global,
-        line: &'a [u8],
-    ) -> Result<Document<'a>, Unread>
+    pub fn read<'a>(&'a mut self, alloc: Global, line: &'a [u8]) -> Result<Document<'a>, Unread>
         ensures { ReadsAs data_of result (json_said line.now) }
     {
         let scratch = self.scratch(alloc)?;

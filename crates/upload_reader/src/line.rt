@@ -2,7 +2,7 @@ use crate::message::Message;
 
 /// What a line of an upload says that isn't blank.
 #[derive(Debug, Drop)]
-pub(crate) enum Line {
+pub enum Line {
     Says(Message),
     Bye,
 }

@@ -17,7 +17,7 @@ const MAX_PATHS: usize = 8;
 
 /// The last paths of a lane, and its last page. At first there are none.
 #[derive(Drop)]
-pub(crate) struct Recent {
+pub struct Recent {
     paths: Vec<Path>,
     // the place of the one that was kept first
     oldest: usize,
@@ -26,7 +26,7 @@ pub(crate) struct Recent {
 
 impl Recent {
     /// It takes no memory.
-    pub(crate) fn new(alloc: Global) -> Recent {
+    pub fn new(alloc: Global) -> Recent {
         Recent {
             paths: Vec::new(alloc),
             oldest: 0,

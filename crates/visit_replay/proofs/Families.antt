@@ -20,36 +20,36 @@ use Rattle.visit_replay.specs.declared.outcome.Outcome.{Outcome}
 -- ---- from visit to visit
 
 -- the first k visits with their outcomes, from what they give by themselves
-abbrev pub behind : List Visit → List Outcome → ℕ → List Replayed
-behind visits own k = behind_parents (take k (zip visits own))
+abbrev pub behind : Option (List (List ℕ)) → List Visit → List Outcome → ℕ → List Replayed
+behind finding visits own k = behind_parents finding (take k (zip visits own))
 
-pub record IsOnItsWay (visits : List Visit) (own : List Outcome) (k : ℕ) (outcomes : List Outcome) (places : ℕ → Option ℕ) (asked : List Asked) : Type 0 where
+pub record IsOnItsWay (finding : Option (List (List ℕ))) (visits : List Visit) (own : List Outcome) (k : ℕ) (outcomes : List Outcome) (places : ℕ → Option ℕ) (asked : List Asked) : Type 0 where
   pub count : length outcomes ≡ length visits
   pub many : length own ≡ length visits
   pub asked_many : length asked ≡ length visits
   pub few : k ≤ length visits
   pub left : (j : ℕ) → k ≤ j → slice_get outcomes j ≡ slice_get own j
-  pub stands : Stands visits outcomes places (behind visits own k)
-  pub size : length (behind visits own k) ≡ k
-  pub known : AreKnown visits outcomes k asked
+  pub stands : Stands visits outcomes places (behind finding visits own k)
+  pub size : length (behind finding visits own k) ≡ k
+  pub known : AreKnown finding visits outcomes k asked
 
-module _ (visits : List Visit) (own : List Outcome) (k : ℕ) (outcomes : List Outcome) (places : ℕ → Option ℕ) (asked : List Asked)
-    (way : IsOnItsWay visits own k outcomes places asked) (visit : Visit) (mine : Outcome) (at : slice_get visits k ≡ Some visit) (given : slice_get outcomes k ≡ Some mine) where
+module _ (finding : Option (List (List ℕ))) (visits : List Visit) (own : List Outcome) (k : ℕ) (outcomes : List Outcome) (places : ℕ → Option ℕ) (asked : List Asked)
+    (way : IsOnItsWay finding visits own k outcomes places asked) (visit : Visit) (mine : Outcome) (at : slice_get visits k ≡ Some visit) (given : slice_get outcomes k ≡ Some mine) where
   abbrev before : List Replayed
-  before = behind visits own k
+  before = behind finding visits own k
 
   abbrev one : Replayed
-  one = (visit, outcome_behind (behind visits own k) visit mine)
+  one = (visit, outcome_behind finding (behind finding visits own k) visit mine)
 
   abbrev more : List Replayed
   more = before ++ one ∷ []
 
-  one_more : behind visits own (k + 1) ≡ more
+  one_more : behind finding visits own (k + 1) ≡ more
   one_more =
       let next : k + 1 ≡ suc k = omega arith in
-      ap (λ n. behind_parents (take n (zip visits own))) next
-      ∙ ap behind_parents (take_suc (zip visits own) k (visit, mine) (zip_at visits own k visit mine at (sym (way.left k (omega arith)) ∙ given)))
-      ∙ fold-append with_next [] (take k (zip visits own)) ((visit, mine) ∷ [])
+      ap (λ n. behind_parents finding (take n (zip visits own))) next
+      ∙ ap (behind_parents finding) (take_suc (zip visits own) k (visit, mine) (zip_at visits own k visit mine at (sym (way.left k (omega arith)) ∙ given)))
+      ∙ fold-append (with_next finding) [] (take k (zip visits own)) ((visit, mine) ∷ [])
 
   more_size : length more ≡ k + 1
   more_size = length-append before (one ∷ []) ∙ omega (arith, way.size)
@@ -111,19 +111,19 @@ module _ (visits : List Visit) (own : List Outcome) (k : ℕ) (outcomes : List O
 
   -- ---- what is known
 
-  next_known : (outcomes' : List Outcome) (asked' : List Asked) → AreKnown visits outcomes' k asked' → AreKnown visits outcomes' (k + 1) asked'
+  next_known : (outcomes' : List Outcome) (asked' : List Asked) → AreKnown finding visits outcomes' k asked' → AreKnown finding visits outcomes' (k + 1) asked'
   next_known outcomes' asked' known = record {
     right = λ j v o one below v_at o_at one_at. elim (eqb_tells j k) [
-      | inl same ↦ fresh_right v o one (known.fresh j one (omega (arith, same.1)) one_at)
+      | inl same ↦ fresh_right finding v o one (known.fresh j one (omega (arith, same.1)) one_at)
       | inr other ↦ known.right j v o one (omega (arith, below, other.1)) v_at o_at one_at
     ];
     fresh = λ j one past one_at. known.fresh j one (omega (arith, past)) one_at;
   }
 
   pub goes_on : (outcomes' : List Outcome) (places' : ℕ → Option ℕ) (asked' : List Asked) → length outcomes' ≡ length outcomes
-      → ((j : ℕ) → j ≢ k → slice_get outcomes' j ≡ slice_get outcomes j) → slice_get outcomes' k ≡ Some (outcome_behind (behind visits own k) visit mine)
-      → ((number : ℕ) → places' number ≡ (if visit.number == number then Some k else places number)) → length asked' ≡ length asked → AreKnown visits outcomes' k asked'
-      → IsOnItsWay visits own (k + 1) outcomes' places' asked'
+      → ((j : ℕ) → j ≢ k → slice_get outcomes' j ≡ slice_get outcomes j) → slice_get outcomes' k ≡ Some (outcome_behind finding (behind finding visits own k) visit mine)
+      → ((number : ℕ) → places' number ≡ (if visit.number == number then Some k else places number)) → length asked' ≡ length asked → AreKnown finding visits outcomes' k asked'
+      → IsOnItsWay finding visits own (k + 1) outcomes' places' asked'
   goes_on outcomes' places' asked' size others new put many known = record {
     count = size ∙ way.count;
     many = way.many;
@@ -135,16 +135,16 @@ module _ (visits : List Visit) (own : List Outcome) (k : ℕ) (outcomes : List O
     known = next_known outcomes' asked' known;
   }
 
-pub same_lists : (visits : List Visit) (own : List Outcome) (k : ℕ) (places : ℕ → Option ℕ) (outcomes outcomes' : List Outcome) (asked asked' : List Asked) → outcomes ≡ outcomes' → asked ≡ asked'
-    → IsOnItsWay visits own k outcomes' places asked' → IsOnItsWay visits own k outcomes places asked
-same_lists visits own k places outcomes outcomes' asked asked' same same_asked way =
-    subst (λ them. IsOnItsWay visits own k them places asked) (sym same) (subst (IsOnItsWay visits own k outcomes' places) (sym same_asked) way)
+pub same_lists : (finding : Option (List (List ℕ))) (visits : List Visit) (own : List Outcome) (k : ℕ) (places : ℕ → Option ℕ) (outcomes outcomes' : List Outcome) (asked asked' : List Asked) → outcomes ≡ outcomes' → asked ≡ asked'
+    → IsOnItsWay finding visits own k outcomes' places asked' → IsOnItsWay finding visits own k outcomes places asked
+same_lists finding visits own k places outcomes outcomes' asked asked' same same_asked way =
+    subst (λ them. IsOnItsWay finding visits own k them places asked) (sym same) (subst (IsOnItsWay finding visits own k outcomes' places) (sym same_asked) way)
 
 -- ---- whether the parent leads elsewhere
 
-module _ (visits : List Visit) (outcomes : List Outcome) (places : ℕ → Option ℕ) (before : List Replayed) (stands : Stands visits outcomes places before) (visit : Visit) where
+module _ (finding : Option (List (List ℕ))) (visits : List Visit) (outcomes : List Outcome) (places : ℕ → Option ℕ) (before : List Replayed) (stands : Stands visits outcomes places before) (visit : Visit) where
   pub elsewhere_some : (place : ℕ) (v : Visit) (o : Outcome) (answer : Bool) → parent_place places visit ≡ Some place → slice_get visits place ≡ Some v → slice_get outcomes place ≡ Some o
-      → answer ≡ is_moved v o visit.from → answer ≡ is_elsewhere visit (parent_among before visit)
+      → answer ≡ is_moved finding v o visit.from → answer ≡ is_elsewhere finding visit (parent_among before visit)
   elsewhere_some place v o answer is v_at o_at told = go (nat_lt visit.parent visit.number) refl (not (visit.from == 0)) is
     where
       found : places visit.parent ≡ Some place → last_numbered visit.parent before ≡ Some (v, o)
@@ -153,24 +153,24 @@ module _ (visits : List Visit) (outcomes : List Outcome) (places : ℕ → Optio
           sym (stands.places_are visit.parent) ∙ ap (option_and_then (slice_get before)) at ∙ stands.pairs place below
           ∙ ap (option_and_then (λ w. option_map (λ p. (w, p)) (slice_get outcomes place))) v_at ∙ ap (option_map (λ p. (v, p))) o_at
 
-      go : (less : Bool) → nat_lt visit.parent visit.number ≡ less → (some : Bool) → (if less && some then places visit.parent else None) ≡ Some place → answer ≡ is_elsewhere visit (parent_among before visit)
-      go true less true at = told ∙ sym (ap (is_elsewhere visit) (ap (λ b. if b then last_numbered visit.parent before else None) less ∙ found at))
+      go : (less : Bool) → nat_lt visit.parent visit.number ≡ less → (some : Bool) → (if less && some then places visit.parent else None) ≡ Some place → answer ≡ is_elsewhere finding visit (parent_among before visit)
+      go true less true at = told ∙ sym (ap (is_elsewhere finding visit) (ap (λ b. if b then last_numbered visit.parent before else None) less ∙ found at))
       go true less false at = cc
       go false less some at = cc
 
-  pub elsewhere_none : parent_place places visit ≡ None → false ≡ is_elsewhere visit (parent_among before visit)
+  pub elsewhere_none : parent_place places visit ≡ None → false ≡ is_elsewhere finding visit (parent_among before visit)
   elsewhere_none is = go (nat_lt visit.parent visit.number) refl (visit.from == 0) refl is
     where
-      none_stays : (visit.from == 0) ≡ true → (parent : Option Replayed) → false ≡ is_elsewhere visit parent
+      none_stays : (visit.from == 0) ≡ true → (parent : Option Replayed) → false ≡ is_elsewhere finding visit parent
       none_stays no_link None = refl
       none_stays no_link (Some them) = rw no_link refl
 
       go : (less : Bool) → nat_lt visit.parent visit.number ≡ less → (no_link : Bool) → (visit.from == 0) ≡ no_link → (if less && not no_link then places visit.parent else None) ≡ None
-          → false ≡ is_elsewhere visit (parent_among before visit)
+          → false ≡ is_elsewhere finding visit (parent_among before visit)
       go true less true is_none at = none_stays is_none (parent_among before visit)
       go true less false is_none at =
-          sym (ap (is_elsewhere visit) (ap (λ b. if b then last_numbered visit.parent before else None) less ∙ sym (stands.places_are visit.parent) ∙ ap (option_and_then (slice_get before)) at))
-      go false less no_link is_none at = sym (ap (is_elsewhere visit) (ap (λ b. if b then last_numbered visit.parent before else None) less))
+          sym (ap (is_elsewhere finding visit) (ap (λ b. if b then last_numbered visit.parent before else None) less ∙ sym (stands.places_are visit.parent) ∙ ap (option_and_then (slice_get before)) at))
+      go false less no_link is_none at = sym (ap (is_elsewhere finding visit) (ap (λ b. if b then last_numbered visit.parent before else None) less))
 
 -- the parent stands before it
 pub parent_within : (places : ℕ → Option ℕ) (visit : Visit) (place k : ℕ) → ((number : ℕ) → IfSome (places number) (λ j. j < k)) → parent_place places visit ≡ Some place → place < k
@@ -194,12 +194,12 @@ set_there (x ∷ xs) (suc i) zero a other = refl
 set_there (x ∷ xs) (suc i) (suc j) a other = set_there xs i j a (λ same. other (ap suc same))
 
 -- what is known of one visit changed
-pub known_set : (visits : List Visit) (outcomes : List Outcome) (k place : ℕ) (asked : List Asked) (one : Asked) → place < k → AreKnown visits outcomes k asked
-    → ((v : Visit) (o : Outcome) → slice_get visits place ≡ Some v → slice_get outcomes place ≡ Some o → IsRight v o one) → AreKnown visits outcomes k (slice_set asked place one)
-known_set visits outcomes k place asked one below known right = record {
+pub known_set : (finding : Option (List (List ℕ))) (visits : List Visit) (outcomes : List Outcome) (k place : ℕ) (asked : List Asked) (one : Asked) → place < k → AreKnown finding visits outcomes k asked
+    → ((v : Visit) (o : Outcome) → slice_get visits place ≡ Some v → slice_get outcomes place ≡ Some o → IsRight finding v o one) → AreKnown finding visits outcomes k (slice_set asked place one)
+known_set finding visits outcomes k place asked one below known right = record {
   right = λ j v o other less v_at o_at at. elim (eqb_tells j place) [
     | inl same ↦
-        subst (IsRight v o) (set_here asked place one other (ap (slice_get (slice_set asked place one)) (sym same.1) ∙ at)) (right v o (ap (slice_get visits) (sym same.1) ∙ v_at) (ap (slice_get outcomes) (sym same.1) ∙ o_at))
+        subst (IsRight finding v o) (set_here asked place one other (ap (slice_get (slice_set asked place one)) (sym same.1) ∙ at)) (right v o (ap (slice_get visits) (sym same.1) ∙ v_at) (ap (slice_get outcomes) (sym same.1) ∙ o_at))
     | inr apart ↦ known.right j v o other less v_at o_at (sym (set_there asked place j one apart.1) ∙ at)
   ];
   fresh = λ j other past at. known.fresh j other past (sym (set_there asked place j one (λ same. omega (arith, same, past, below))) ∙ at);
@@ -240,11 +240,11 @@ followed_at visits outcomes before size many pairs = same_places outcomes (map (
     let pair = pairs j (omega (arith, below, size)) ∙ ap (option_and_then (λ v. option_map (λ o. (v, o)) (slice_get outcomes j))) at ∙ ap (option_map (λ o. (visit, o))) given in
     given ∙ sym (map_at (λ one. one.1) before j (visit, outcome) pair))
 
-pub all_followed : (visits : List Visit) (own : List Outcome) (outcomes : List Outcome) (places : ℕ → Option ℕ) (asked : List Asked) (k : ℕ)
-    → IsOnItsWay visits own k outcomes places asked → k ≡ length visits → outcomes ≡ map (λ one. one.1) (behind_parents (zip visits own))
-all_followed visits own outcomes places asked k way whole =
-    followed_at visits outcomes (behind visits own k) (way.size ∙ whole ∙ sym way.count) way.count way.stands.pairs
-    ∙ ap (λ pairs. map (λ one. one.1) (behind_parents pairs)) (take_all (zip visits own) k (zip_many visits own k way.many whole))
+pub all_followed : (finding : Option (List (List ℕ))) (visits : List Visit) (own : List Outcome) (outcomes : List Outcome) (places : ℕ → Option ℕ) (asked : List Asked) (k : ℕ)
+    → IsOnItsWay finding visits own k outcomes places asked → k ≡ length visits → outcomes ≡ map (λ one. one.1) (behind_parents finding (zip visits own))
+all_followed finding visits own outcomes places asked k way whole =
+    followed_at visits outcomes (behind finding visits own k) (way.size ∙ whole ∙ sym way.count) way.count way.stands.pairs
+    ∙ ap (λ pairs. map (λ one. one.1) (behind_parents finding pairs)) (take_all (zip visits own) k (zip_many visits own k way.many whole))
   where
     take_all : {A : Type 0} (xs : List A) (n : ℕ) → length xs ≡ n → take n xs ≡ xs
     take_all xs n is = ap (λ m. take m xs) (sym is) ∙ take-length xs

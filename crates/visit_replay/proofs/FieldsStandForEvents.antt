@@ -11,12 +11,11 @@ use Rattle.page_tree.specs.Under.{places_under}
 use Rattle.page_tree.specs.declared.control.Control.{Control}
 use Rattle.page_tree.specs.declared.control.Control.TheVariants as control
 use Rattle.upload_reader.specs.declared.message.Event.{Event}
-use Rattle.xpath_child.specs.Path.{Step}
+use Rattle.visit_replay.specs.Aim.{Aim}
 use Rattle.visit_replay.specs.Field.{is_there, value_before, is_on_before}
 use Rattle.visit_replay.specs.Form.{Pair, sent_name, sent_value, sent_pair, value_or, pairs_of, encoded_pairs}
 use Rattle.visit_replay.specs.inside.KeptFields.{Keeps, text_now, is_on_now}
 use Rattle.visit_replay.specs.inside.FieldsNow.{pair_now, pairs_now}
-use Rattle.visit_replay.specs.inside.OneEvent.{IsButton}
 use Rattle.visit_replay.specs.declared.forms.Filled.{Filled}
 use Rattle.visit_replay.proofs.Numbered.{same_place}
 
@@ -33,12 +32,12 @@ is_button new None number within there = refl
 is_button new (Some pressed) number within there = sym (same_place pressed number new within there)
 
 -- what the node at a place sends behind those events, where the button at that place was pressed
-abbrev pair_after : Tree → List Event → Option (List ℕ) → List ℕ → Option Pair
-pair_after new before by place = sent_pair (value_before new before place) (is_on_before new before place) (is_there place by) new place
+abbrev pair_after : (Event → Aim) → Tree → List Event → Option (List ℕ) → List ℕ → Option Pair
+pair_after aim new before by place = sent_pair (value_before aim new before place) (is_on_before aim new before place) (is_there place by) new place
 
-same_pair : (filled : Filled) (before : List Event) → Keeps filled.fields.now filled.page.now before → IfSome filled.button (λ n. n < nodes filled.page.now) → (number : ℕ) → number < nodes filled.page.now
-    → pair_now filled number ≡ pair_after filled.page.now before (option_map (λ n. place_numbered n filled.page.now) filled.button) (place_numbered number filled.page.now)
-same_pair filled before kept within number there =
+same_pair : (filled : Filled) (aim : Event → Aim) (before : List Event) → Keeps aim filled.fields.now filled.page.now before → IfSome filled.button (λ n. n < nodes filled.page.now) → (number : ℕ) → number < nodes filled.page.now
+    → pair_now filled number ≡ pair_after aim filled.page.now before (option_map (λ n. place_numbered n filled.page.now) filled.button) (place_numbered number filled.page.now)
+same_pair filled aim before kept within number there =
     let new = filled.page.now in
     let fields = filled.fields.now in
     let place = place_numbered number new in
@@ -54,19 +53,17 @@ same_pairs f g new start (suc many) same within =
     ∙ ap (cons_option (f (place_numbered start new))) (same_pairs f g new (start + 1) many same (omega (arith, within)))
 
 -- of the nodes under the form, whose numbers are those from start up to end
-pub same_sent : (filled : Filled) (before : List Event) (form : List ℕ) (start end : ℕ) → Keeps filled.fields.now filled.page.now before → IfSome filled.button (λ n. n < nodes filled.page.now)
+pub same_sent : (filled : Filled) (aim : Event → Aim) (before : List Event) (form : List ℕ) (start end : ℕ) → Keeps aim filled.fields.now filled.page.now before → IfSome filled.button (λ n. n < nodes filled.page.now)
     → places_under form filled.page.now ≡ map (λ k. place_numbered k filled.page.now) (range_with_len start (end - start)) → start ≤ end → end ≤ nodes filled.page.now
-    → pairs_now filled start end ≡ pairs_of filled.page.now before (option_map (λ n. place_numbered n filled.page.now) filled.button) form
-same_sent filled before form start end kept within under some few =
-    let pair = pair_after filled.page.now before (option_map (λ n. place_numbered n filled.page.now) filled.button) in
-    same_pairs pair (pair_now filled) filled.page.now start (end - start) (same_pair filled before kept within) (omega (arith, some, few))
+    → pairs_now filled start end ≡ pairs_of aim filled.page.now before (option_map (λ n. place_numbered n filled.page.now) filled.button) form
+same_sent filled aim before form start end kept within under some few =
+    let pair = pair_after aim filled.page.now before (option_map (λ n. place_numbered n filled.page.now) filled.button) in
+    same_pairs pair (pair_now filled) filled.page.now start (end - start) (same_pair filled aim before kept within) (omega (arith, some, few))
     ∙ ap (filter_map pair) (sym under)
 
 -- and they are encoded alike
-pub same_encoded : (filled : Filled) (before : List Event) (by : Option (List Step)) (form start end : ℕ) → Keeps filled.fields.now filled.page.now before → IsButton filled.page.now by filled.button
+pub same_encoded : (filled : Filled) (aim : Event → Aim) (before : List Event) (form start end : ℕ) → Keeps aim filled.fields.now filled.page.now before → IfSome filled.button (λ n. n < nodes filled.page.now)
     → places_under (place_numbered form filled.page.now) filled.page.now ≡ map (λ k. place_numbered k filled.page.now) (range_with_len start (end - start)) → start ≤ end → end ≤ nodes filled.page.now
-    → extend_pairs [] (pairs_now filled start end) ≡ encoded_pairs filled.page.now before by (place_numbered form filled.page.now)
-same_encoded filled before by form start end kept pressed under some few =
-    let place = place_numbered form filled.page.now in
-    ap (extend_pairs []) (same_sent filled before place start end kept pressed.0 under some few)
-    ∙ ap (λ button. extend_pairs [] (pairs_of filled.page.now before button place)) pressed.1
+    → extend_pairs [] (pairs_now filled start end) ≡ encoded_pairs aim filled.page.now before (option_map (λ n. place_numbered n filled.page.now) filled.button) (place_numbered form filled.page.now)
+same_encoded filled aim before form start end kept within under some few =
+    ap (extend_pairs []) (same_sent filled aim before (place_numbered form filled.page.now) start end kept within under some few)

@@ -16,7 +16,7 @@ use Rattle.visit_replay.proofs.Places.{taken_here}
 abbrev pub next_if : {X : Type 0} → Bool → X → Option X
 next_if passes x = if passes then Some x else None
 
-find_one : {X : Type 0} (p : X → Bool) (x : X) (b : Bool) → b ≡ p x → find p (x ∷ []) ≡ next_if b x
+pub find_one : {X : Type 0} (p : X → Bool) (x : X) (b : Bool) → b ≡ p x → find p (x ∷ []) ≡ next_if b x
 find_one p x true is = rw (← is) refl
 find_one p x false is = rw (← is) refl
 

@@ -8,5 +8,11 @@ pub mod Stepping
 pub mod FirstOfNumber
 pub mod Families
 pub mod Looking
+pub mod FormsAround
+pub mod HiddenTwins
+pub mod SentKinds
+pub mod AskedAlike
+pub mod Judged
+pub mod Asking
 pub mod LeftBehind
 pub mod Places

@@ -19,8 +19,8 @@ use Rattle.visit_replay.proofs.FirstOfNumber.{next_if, event_more}
 none_some : {A P : Type 0} (a : A) (o : Option A) → o ≡ None → o ≡ Some a → P
 none_some a o none some = absurd (cc)
 
-pub fresh_right : (visit : Visit) (outcome : Outcome) (asked : Asked) → IsFresh asked → IsRight visit outcome asked
-fresh_right visit outcome asked fresh = record {
+pub fresh_right : (finding : Option (List (List ℕ))) (visit : Visit) (outcome : Outcome) (asked : Asked) → IsFresh asked → IsRight finding visit outcome asked
+fresh_right finding visit outcome asked fresh = record {
   found = λ number answer other at. let none = fresh.unfound number (Some answer) at in cc;
   missing = λ looked. let unlooked = fresh.unlooked in cc;
 }
@@ -44,23 +44,23 @@ first_in_all events n number k is =
 
 -- ---- whether it goes elsewhere
 
-pub moved_at : (visit : Visit) (outcome : Outcome) (number k : ℕ) → number ≢ 0 → event_numbered visit.events number ≡ Some k
-    → is_moved visit outcome number ≡ are_apart (own_request visit k) (address_now outcome number)
-moved_at visit outcome number k other is = elim (eqb_tells number 0) [
+pub moved_at : (finding : Option (List (List ℕ))) (visit : Visit) (outcome : Outcome) (number k : ℕ) → number ≢ 0 → event_numbered visit.events number ≡ Some k
+    → is_moved finding visit outcome number ≡ are_apart finding (own_request visit k) (address_now outcome number)
+moved_at finding visit outcome number k other is = elim (eqb_tells number 0) [
   | inl same ↦ absurd (other same.1)
   | inr apart ↦ rw (apart.0, is) refl
 ]
 
-pub not_moved : (visit : Visit) (outcome : Outcome) (number : ℕ) → number ≢ 0 → event_numbered visit.events number ≡ None → is_moved visit outcome number ≡ false
-not_moved visit outcome number other is = elim (eqb_tells number 0) [
+pub not_moved : (finding : Option (List (List ℕ))) (visit : Visit) (outcome : Outcome) (number : ℕ) → number ≢ 0 → event_numbered visit.events number ≡ None → is_moved finding visit outcome number ≡ false
+not_moved finding visit outcome number other is = elim (eqb_tells number 0) [
   | inl same ↦ absurd (other same.1)
   | inr apart ↦ rw (apart.0, is) refl
 ]
 
-pub none_apart : (visit : Visit) (k : ℕ) → are_apart (own_request visit k) None ≡ false
-none_apart visit k = go (own_request visit k)
+pub none_apart : (finding : Option (List (List ℕ))) (visit : Visit) (k : ℕ) → are_apart finding (own_request visit k) None ≡ false
+none_apart finding visit k = go (own_request visit k)
   where
-    go : (o : Option _) → are_apart o None ≡ false
+    go : (o : Option _) → are_apart finding o None ≡ false
     go None = refl
     go (Some before) = refl
 
@@ -73,8 +73,8 @@ module _ (asked : Asked) (n : ℕ) (numbers : Numbers) (put : (m : ℕ) → get 
   there : (m : ℕ) → (n == m) ≡ false → get nat_cmp numbers m ≡ get nat_cmp asked.numbers m
   there m is = put m ∙ ap (λ b. if b then Some None else get nat_cmp asked.numbers m) is
 
-  pub right_more : (visit : Visit) (outcome : Outcome) → IsRight visit outcome asked → IsRight visit outcome (record { numbers = numbers; looked = false })
-  right_more visit outcome right = record {
+  pub right_more : (finding : Option (List (List ℕ))) (visit : Visit) (outcome : Outcome) → IsRight finding visit outcome asked → IsRight finding visit outcome (record { numbers = numbers; looked = false })
+  right_more finding visit outcome right = record {
     found = λ m answer other at. elim (eqb_tells n m) [
       | inl same ↦ let pending = here m same.0 in cc
       | inr apart ↦ right.found m answer other (sym (there m apart.0) ∙ at)
@@ -98,7 +98,7 @@ pending_is None is = cc
 pending_is (Some None) is = refl
 pending_is (Some (Some answer)) is = cc
 
-module _ (visit : Visit) (outcome : Outcome) (k : ℕ) (event : Event) (n : ℕ) (below : k < length visit.events) (is : event ≡ get_or visit.events k event) (number_is : n ≡ request_of event) (old : Numbers) where
+module _ (finding : Option (List (List ℕ))) (visit : Visit) (outcome : Outcome) (k : ℕ) (event : Event) (n : ℕ) (below : k < length visit.events) (is : event ≡ get_or visit.events k event) (number_is : n ≡ request_of event) (old : Numbers) where
   no_more : (m : ℕ) → (n == m) ≡ false → event_numbered (take k visit.events) m ≡ None → event_numbered (take (k + 1) visit.events) m ≡ None
   no_more m apart none =
       event_more visit.events k event below is m ∙ ap (λ o. option_or o (next_if (request_of event == m) k)) none ∙ ap (λ b. next_if b k) (ap (λ r. r == m) (sym number_is) ∙ apart)
@@ -108,7 +108,7 @@ module _ (visit : Visit) (outcome : Outcome) (k : ℕ) (event : Event) (n : ℕ)
       first_in_all visit.events (k + 1) m k (event_more visit.events k event below is m ∙ ap (λ o. option_or o (next_if (request_of event == m) k)) none
       ∙ ap (λ b. next_if b k) (ap (λ r. r == m) (sym number_is) ∙ same))
 
-  pub met_not : is_pending (get nat_cmp old n) ≡ false → IsMet visit outcome k old → IsMet visit outcome (k + 1) old
+  pub met_not : is_pending (get nat_cmp old n) ≡ false → IsMet finding visit outcome k old → IsMet finding visit outcome (k + 1) old
   met_not other met = record {
     found = met.found;
     pending = λ m some at. elim (eqb_tells n m) [
@@ -117,7 +117,7 @@ module _ (visit : Visit) (outcome : Outcome) (k : ℕ) (event : Event) (n : ℕ)
     ];
   }
 
-  module _ (new : Numbers) (apart : Bool) (pending : is_pending (get nat_cmp old n) ≡ true) (answer_is : apart ≡ are_apart (own_request visit k) (address_now outcome n))
+  module _ (new : Numbers) (apart : Bool) (pending : is_pending (get nat_cmp old n) ≡ true) (answer_is : apart ≡ are_apart finding (own_request visit k) (address_now outcome n))
       (put : (m : ℕ) → get nat_cmp new m ≡ (if n == m then Some (Some apart) else get nat_cmp old m)) where
     here_now : (m : ℕ) → (n == m) ≡ true → get nat_cmp new m ≡ Some (Some apart)
     here_now m same = put m ∙ ap (λ b. if b then Some (Some apart) else get nat_cmp old m) same
@@ -125,15 +125,15 @@ module _ (visit : Visit) (outcome : Outcome) (k : ℕ) (event : Event) (n : ℕ)
     there_still : (m : ℕ) → (n == m) ≡ false → get nat_cmp new m ≡ get nat_cmp old m
     there_still m other = put m ∙ ap (λ b. if b then Some (Some apart) else get nat_cmp old m) other
 
-    pub met_one : IsMet visit outcome k old → IsMet visit outcome (k + 1) new
+    pub met_one : IsMet finding visit outcome k old → IsMet finding visit outcome (k + 1) new
     met_one met = record {
       found = λ m answer some at. elim (eqb_tells n m) [
         | inl same ↦
             let told : Some (Some apart) ≡ Some (Some answer) = sym (here_now m same.0) ∙ at in
             let was : get nat_cmp old m ≡ Some None = ap (get nat_cmp old) (sym same.1) ∙ pending_is (get nat_cmp old n) pending in
-            let moved = moved_at visit outcome m k some (comes_here m same.0 (met.pending m some was)) in
+            let moved = moved_at finding visit outcome m k some (comes_here m same.0 (met.pending m some was)) in
             let mine : answer ≡ apart = cc in
-            mine ∙ answer_is ∙ ap (λ x. are_apart (own_request visit k) (address_now outcome x)) same.1 ∙ sym moved
+            mine ∙ answer_is ∙ ap (λ x. are_apart finding (own_request visit k) (address_now outcome x)) same.1 ∙ sym moved
         | inr other ↦ met.found m answer some (sym (there_still m other.0) ∙ at)
       ];
       pending = λ m some at. elim (eqb_tells n m) [
@@ -152,18 +152,18 @@ same_keys old new n answer pending put m = elim (eqb_tells n m) [
 
 -- ---- all events were looked at
 
-pub none_met : (visit : Visit) (outcome : Outcome) (asked : Asked) (old : Numbers) → IsRight visit outcome asked → asked.numbers ≡ old → IsMet visit outcome 0 old
-none_met visit outcome asked old right same = record {
+pub none_met : (finding : Option (List (List ℕ))) (visit : Visit) (outcome : Outcome) (asked : Asked) (old : Numbers) → IsRight finding visit outcome asked → asked.numbers ≡ old → IsMet finding visit outcome 0 old
+none_met finding visit outcome asked old right same = record {
   found = λ m answer some at. right.found m answer some (ap (λ numbers. get nat_cmp numbers m) same ∙ at);
   pending = λ m some at. refl;
 }
 
-pub all_met : (visit : Visit) (outcome : Outcome) (count : ℕ) (old new : Numbers) → ((m : ℕ) → is_some (get nat_cmp old m) ≡ true → event_numbered visit.events m ≡ event_numbered (take count visit.events) m)
-    → ((m : ℕ) → is_some (get nat_cmp new m) ≡ is_some (get nat_cmp old m)) → IsMet visit outcome count new → IsRight visit outcome (record { numbers = new; looked = true })
-all_met visit outcome count old new last same met = record {
+pub all_met : (finding : Option (List (List ℕ))) (visit : Visit) (outcome : Outcome) (count : ℕ) (old new : Numbers) → ((m : ℕ) → is_some (get nat_cmp old m) ≡ true → event_numbered visit.events m ≡ event_numbered (take count visit.events) m)
+    → ((m : ℕ) → is_some (get nat_cmp new m) ≡ is_some (get nat_cmp old m)) → IsMet finding visit outcome count new → IsRight finding visit outcome (record { numbers = new; looked = true })
+all_met finding visit outcome count old new last same met = record {
   found = met.found;
   missing = λ looked m some at.
-      not_moved visit outcome m some (last m (sym (same m) ∙ ap is_some at) ∙ met.pending m some at);
+      not_moved finding visit outcome m some (last m (sym (same m) ∙ ap is_some at) ∙ met.pending m some at);
 }
 
 -- ---- up to the last that is asked for
@@ -186,11 +186,11 @@ fewer events numbers count event some within is unasked m asked =
 
 -- ---- once all were looked for
 
-pub answer_is : (visit : Visit) (outcome : Outcome) (asked : Asked) (number : ℕ) → number ≢ 0 → IsRight visit outcome asked → asked.looked ≡ true → is_some (get nat_cmp asked.numbers number) ≡ true
-    → answer_in (get nat_cmp asked.numbers number) ≡ is_moved visit outcome number
-answer_is visit outcome asked number some right looked there = go (get nat_cmp asked.numbers number) refl there
+pub answer_is : (finding : Option (List (List ℕ))) (visit : Visit) (outcome : Outcome) (asked : Asked) (number : ℕ) → number ≢ 0 → IsRight finding visit outcome asked → asked.looked ≡ true → is_some (get nat_cmp asked.numbers number) ≡ true
+    → answer_in (get nat_cmp asked.numbers number) ≡ is_moved finding visit outcome number
+answer_is finding visit outcome asked number some right looked there = go (get nat_cmp asked.numbers number) refl there
   where
-    go : (o : Option (Option Bool)) → get nat_cmp asked.numbers number ≡ o → is_some o ≡ true → answer_in o ≡ is_moved visit outcome number
+    go : (o : Option (Option Bool)) → get nat_cmp asked.numbers number ≡ o → is_some o ≡ true → answer_in o ≡ is_moved finding visit outcome number
     go None is here = cc
     go (Some None) is here = sym (right.missing looked number some is)
     go (Some (Some answer)) is here = right.found number answer some is

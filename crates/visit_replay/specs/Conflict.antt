@@ -1,5 +1,5 @@
--- Why one event can't be replayed: from the page that it was made on, the page that stands there now, and the event
--- alone (this project's own rules). Each rule has the code that reports show for it.
+-- Why one event can't be replayed: from the page that it was made on, the page that stands there now, the event, and
+-- where it acts there (this project's own rules). Each rule has the code that reports show for it.
 use Rattle.std.specs.Prelude.{ℕ, List, Bool, true, false, not, ◌&&◌, ◌==◌, if◌then◌else◌, Option, Some, None, is_some, option_and_then, codes}
 use Rattle.std.specs.Option.{option_map_or}
 use Rattle.std.specs.Str.{bytes_eq}
@@ -11,15 +11,14 @@ use Rattle.page_tree.specs.declared.control.Control.{Control}
 use Rattle.page_tree.specs.declared.control.Control.TheVariants as control
 use Rattle.xpath_child.specs.Path.{Step}
 use Rattle.xpath_child.specs.Targets.{target_in, only_place}
-use Rattle.xpath_child.specs.declared.path.Target.{Target}
-use Rattle.xpath_child.specs.declared.path.Target.TheVariants.{Missing, One, Several}
 use Rattle.upload_reader.specs.declared.message.Event.{Event}
 use Rattle.upload_reader.specs.declared.message.Event.TheVariants.{Input, Click, Submit}
+use Rattle.visit_replay.specs.Aim.{Aim, acts, nowhere, lost}
 use Rattle.visit_replay.specs.declared.outcome.ConflictKind.{ConflictKind}
-use Rattle.visit_replay.specs.declared.outcome.ConflictKind.TheVariants.{NoPage, NoTarget, ManyTargets, NotAField, BaseChanged, NotALink, NotAForm, LogCut, Ui, Moved}
+use Rattle.visit_replay.specs.declared.outcome.ConflictKind.TheVariants.{NoPage, NoTarget, ManyTargets, NotAField, BaseChanged, NotALink, NotAForm, LogCut, Ui, Moved, Changed}
 
--- K2 to K7 are of one event, and their rules stand below; K1, K8 and K9 are of a whole visit (`Outcome`), and K10 is of
--- a visit behind another (`Following`)
+-- K2, K3 and K11 say why it isn't known where an event acts (`Aim`), K4 to K7 why it can't act there: their rules stand
+-- below. K1, K8 and K9 are of a whole visit (`Outcome`), and K10 is of a visit behind another (`Following`)
 abbrev pub conflict_code : ConflictKind → List ℕ
 conflict_code NoPage = codes "K1"
 conflict_code NoTarget = codes "K2"
@@ -31,11 +30,7 @@ conflict_code NotAForm = codes "K7"
 conflict_code LogCut = codes "K8"
 conflict_code Ui = codes "K9"
 conflict_code Moved = codes "K10"
-
-abbrev pub path_of : Event → List Step
-path_of (Input at target value) = target
-path_of (Click at target req) = target
-path_of (Submit at target by req) = target
+conflict_code Changed = codes "K11"
 
 -- "disabled" means that the node itself has the attribute, whatever its value
 abbrev pub is_disabled : List ℕ → Tree → Bool
@@ -77,10 +72,10 @@ is_enabled_submit _ disabled = false
 abbrev pub is_button_of : Tree → List ℕ → List ℕ → Bool
 is_button_of new form place = is_under form place && is_enabled_submit (control_at place new) (is_disabled place new)
 
--- none was pressed, or the only place that its path selects is an enabled one under the form; else K7
-abbrev pub has_button : Tree → List ℕ → Option (List Step) → Bool
-has_button new form None = true
-has_button new form (Some path) = option_map_or (is_button_of new form) (only_place (target_in path new)) false
+-- none was pressed, or the one that was found is an enabled one under the form; else K7
+abbrev pub has_button : Tree → List ℕ → Option (List Step) → Option (List ℕ) → Bool
+has_button new form None button = true
+has_button new form (Some path) button = option_map_or (is_button_of new form) button false
 
 -- K7 where it is no form, or the button none of it
 unfoldable pub submit_conflict : Control → Bool → Option ConflictKind
@@ -89,17 +84,19 @@ submit_conflict _ button = Some NotAForm
 
 -- ---- any event
 
-abbrev pub conflict_at : Tree → Tree → Event → List ℕ → Option ConflictKind
-conflict_at old new (Input at target value) place =
+abbrev pub conflict_at : Tree → Tree → Event → List ℕ → Option (List ℕ) → Option ConflictKind
+conflict_at old new (Input at target value) place button =
     input_conflict (control_at place new) (is_disabled place new) (is_unchanged old new target place)
-conflict_at old new (Click at target req) place = click_conflict (control_at place new) (is_disabled place new) req
-conflict_at old new (Submit at target by req) place = submit_conflict (control_at place new) (has_button new place by)
+conflict_at old new (Click at target req) place button =
+    click_conflict (control_at place new) (is_disabled place new) req
+conflict_at old new (Submit at target by req) place button =
+    submit_conflict (control_at place new) (has_button new place by button)
 
--- a target must be a place (K2), and one alone (K3)
-abbrev pub on_target : Target → (List ℕ → Option ConflictKind) → Option ConflictKind
-on_target Missing found = Some NoTarget
-on_target (One place) found = found place
-on_target Several found = Some ManyTargets
+-- where it isn't lost (K2, K3, K11), and acts somewhere
+abbrev pub conflict_by : Aim → (List ℕ → Option (List ℕ) → Option ConflictKind) → Option ConflictKind
+conflict_by (acts place button) found = found place button
+conflict_by nowhere found = None
+conflict_by (lost kind) found = Some kind
 
-abbrev pub conflict : Tree → Tree → Event → Option ConflictKind
-conflict old new event = on_target (target_in (path_of event) new) (conflict_at old new event)
+abbrev pub conflict : (Event → Aim) → Tree → Tree → Event → Option ConflictKind
+conflict aim old new event = conflict_by (aim event) (conflict_at old new event)

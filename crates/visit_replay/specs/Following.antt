@@ -24,8 +24,8 @@ abbrev pub parent_among : List Replayed → Visit → Option Replayed
 parent_among before visit = if nat_lt visit.parent visit.number then last_numbered visit.parent before else None
 
 -- whether the request that opened it goes elsewhere by its parent's outcome
-abbrev pub is_elsewhere : Visit → Option Replayed → Bool
-is_elsewhere visit parent = option_map_or (λ one. is_moved one.0 one.1 visit.from) parent false
+abbrev pub is_elsewhere : Option (List (List ℕ)) → Visit → Option Replayed → Bool
+is_elsewhere same visit parent = option_map_or (λ one. is_moved same one.0 one.1 visit.from) parent false
 
 abbrev pub is_untouched : Outcome → Bool
 is_untouched Untouched = true
@@ -33,18 +33,18 @@ is_untouched other = false
 
 -- what the visit gives behind these, by what it gives by itself: a visit that is untouched stays so; any other is a
 -- conflict at its load where its parent leads elsewhere now (K10)
-abbrev pub outcome_behind : List Replayed → Visit → Outcome → Outcome
-outcome_behind before visit own =
+abbrev pub outcome_behind : Option (List (List ℕ)) → List Replayed → Visit → Outcome → Outcome
+outcome_behind same before visit own =
     if is_untouched own then Untouched else
-    (if is_elsewhere visit (parent_among before visit) then Conflict [] 0 Moved else own)
+    (if is_elsewhere same visit (parent_among before visit) then Conflict [] 0 Moved else own)
 
-abbrev pub with_next : List Replayed → Replayed → List Replayed
-with_next before one = before ++ (one.0, outcome_behind before one.0 one.1) ∷ []
+abbrev pub with_next : Option (List (List ℕ)) → List Replayed → Replayed → List Replayed
+with_next same before one = before ++ (one.0, outcome_behind same before one.0 one.1) ∷ []
 
 -- visits with their outcomes, from the same with what they give by themselves
-abbrev pub behind_parents : List Replayed → List Replayed
-behind_parents visits = fold with_next [] visits
+abbrev pub behind_parents : Option (List (List ℕ)) → List Replayed → List Replayed
+behind_parents same visits = fold (with_next same) [] visits
 
 -- of these visits, each behind its parent
 abbrev pub outcomes : RepairedSite → List Visit → List Outcome
-outcomes site visits = map (λ one. one.1) (behind_parents (map (λ visit. (visit, outcome site visit)) visits))
+outcomes site visits = map (λ one. one.1) (behind_parents site.same (map (λ visit. (visit, outcome site visit)) visits))

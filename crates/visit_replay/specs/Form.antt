@@ -12,9 +12,8 @@ use Rattle.page_tree.specs.Control.{control_at, start_checked_at}
 use Rattle.page_tree.specs.Under.{places_under}
 use Rattle.page_tree.specs.declared.control.Control.{Control}
 use Rattle.page_tree.specs.declared.control.Control.TheVariants as control
-use Rattle.xpath_child.specs.Path.{Step}
-use Rattle.xpath_child.specs.Targets.{target_in, only_place}
 use Rattle.upload_reader.specs.declared.message.Event.{Event}
+use Rattle.visit_replay.specs.Aim.{Aim}
 use Rattle.visit_replay.specs.Conflict.{is_disabled}
 use Rattle.visit_replay.specs.Field.{is_there, value_before, is_on_before}
 use Rattle.visit_replay.specs.declared.requests.Method.TheVariants.{Get, Post}
@@ -53,18 +52,14 @@ sent_pair text on pressed new place =
     option_and_then (λ name. option_map (λ v. (name, v)) value) (sent_name place new)
 
 -- of all nodes under the form, in document order, where `by` is the place of the pressed button
-abbrev pub pairs_of : Tree → List Event → Option (List ℕ) → List ℕ → List Pair
-pairs_of new before by form =
-    filter_map (λ place. sent_pair (value_before new before place) (is_on_before new before place)
+abbrev pub pairs_of : (Event → Aim) → Tree → List Event → Option (List ℕ) → List ℕ → List Pair
+pairs_of aim new before by form =
+    filter_map (λ place. sent_pair (value_before aim new before place) (is_on_before aim new before place)
     (is_there place by) new place) (places_under form new)
 
--- the place of the pressed button, where one was pressed and its path selects one place
-abbrev pub button_of : Tree → Option (List Step) → Option (List ℕ)
-button_of new by = option_and_then (λ path. only_place (target_in path new)) by
-
 -- the pairs as `application/x-www-form-urlencoded` (section 17.13.4)
-abbrev pub encoded_pairs : Tree → List Event → Option (List Step) → List ℕ → List ℕ
-encoded_pairs new before by form = extend_pairs [] (pairs_of new before (button_of new by) form)
+abbrev pub encoded_pairs : (Event → Aim) → Tree → List Event → Option (List ℕ) → List ℕ → List ℕ
+encoded_pairs aim new before by form = extend_pairs [] (pairs_of aim new before by form)
 
 -- ---- method and address (section 17.13.3)
 
@@ -87,6 +82,6 @@ sent_to post number action pairs =
     if post then record { number = number; method = Post; address = action; pairs = pairs }
     else record { number = number; method = Get; address = bare action ++ codes "?" ++ pairs; pairs = pairs }
 
-abbrev pub form_request : List ℕ → Tree → List Event → Option (List Step) → List ℕ → ℕ → Request
-form_request address new before by form number =
-    sent_to (is_post form new) number (action_of address form new) (encoded_pairs new before by form)
+abbrev pub form_request : (Event → Aim) → List ℕ → Tree → List Event → Option (List ℕ) → List ℕ → ℕ → Request
+form_request aim address new before by form number =
+    sent_to (is_post form new) number (action_of address form new) (encoded_pairs aim new before by form)

@@ -1,5 +1,6 @@
 pub mod Limits
 pub mod RepairedSite
+pub mod Aim
 pub mod Conflict
 pub mod Field
 pub mod Form
@@ -7,4 +8,6 @@ pub mod Requests
 pub mod Outcome
 pub mod Moved
 pub mod Following
+pub mod Difference
+pub mod SameRequests
 pub mod inside

@@ -6,6 +6,7 @@ use Rattle.std.specs.Str.{bytes_eq}
 use Rattle.page_tree.specs.Tree.{Tree}
 use Rattle.upload_reader.specs.declared.message.Event.{Event}
 use Rattle.client_log.specs.declared.visit.Visit.{Visit}
+use Rattle.visit_replay.specs.Aim.{Aim, aim_of}
 use Rattle.visit_replay.specs.Conflict.{conflict}
 use Rattle.visit_replay.specs.Form.{bare}
 use Rattle.visit_replay.specs.RepairedSite.{RepairedSite}
@@ -26,38 +27,39 @@ is_affected patch address = is_listed patch (bare address)
 
 -- ---- the first event that can't be replayed
 
-abbrev pub is_bad : Tree → Tree → Event → Bool
-is_bad old new event = is_some (conflict old new event)
+abbrev pub is_bad : (Event → Aim) → Tree → Tree → Event → Bool
+is_bad aim old new event = is_some (conflict aim old new event)
 
-abbrev pub conflict_of : Tree → Tree → List Event → ℕ → Option ConflictKind
-conflict_of old new events k = option_and_then (conflict old new) (slice_get events k)
+abbrev pub conflict_of : (Event → Aim) → Tree → Tree → List Event → ℕ → Option ConflictKind
+conflict_of aim old new events k = option_and_then (conflict aim old new) (slice_get events k)
 
 -- how many events stand before it, and why
-abbrev pub first_conflict : Tree → Tree → List Event → Option (ℕ × ConflictKind)
-first_conflict old new events = let first = position (is_bad old new) events in
-    option_and_then (λ k. option_map (λ kind. (k, kind)) (conflict_of old new events k)) first
+abbrev pub first_conflict : (Event → Aim) → Tree → Tree → List Event → Option (ℕ × ConflictKind)
+first_conflict aim old new events = let first = position (is_bad aim old new) events in
+    option_and_then (λ k. option_map (λ kind. (k, kind)) (conflict_of aim old new events k)) first
 
 -- ---- the outcome
 
 -- where no event is bad: the visit was kept in part (K8), or the site signals a conflict (K9), or all is done
-abbrev pub at_end : Visit → Tree → Bool → Outcome
-at_end visit new signalled =
-    let n = length visit.events in let requests = requests_before visit.address new visit.events n in
+abbrev pub at_end : (Event → Aim) → Visit → Tree → Bool → Outcome
+at_end aim visit new signalled =
+    let n = length visit.events in let requests = requests_before aim visit.address new visit.events n in
     if visit.cut then Conflict requests (n + 1) LogCut else
     (if signalled then Conflict requests (n + 1) Ui else Done requests)
 
 -- where the first bad event is that one
-abbrev pub at_event : Visit → Tree → ℕ × ConflictKind → Outcome
-at_event visit new bad = Conflict (requests_before visit.address new visit.events bad.0) (bad.0 + 1) bad.1
+abbrev pub at_event : (Event → Aim) → Visit → Tree → ℕ × ConflictKind → Outcome
+at_event aim visit new bad = Conflict (requests_before aim visit.address new visit.events bad.0) (bad.0 + 1) bad.1
 
 -- on the page that the site has there now, if it has one (K1)
-abbrev pub on_page : Visit → (Tree → Bool) → Option Tree → Outcome
-on_page visit signalled None = Conflict [] 0 NoPage
-on_page visit signalled (Some new) =
-    option_map_or (at_event visit new) (first_conflict visit.page new visit.events) (at_end visit new (signalled new))
+abbrev pub on_page : Option (List (List ℕ)) → Visit → (Tree → Bool) → Option Tree → Outcome
+on_page same visit signalled None = Conflict [] 0 NoPage
+on_page same visit signalled (Some new) = let aim = aim_of same visit.page new in
+    option_map_or (at_event aim visit new) (first_conflict aim visit.page new visit.events)
+    (at_end aim visit new (signalled new))
 
 -- where the patch doesn't list the visit's address it is left alone
 abbrev pub outcome : RepairedSite → Visit → Outcome
 outcome site visit =
     if is_affected site.patch visit.address
-    then on_page visit (site.signals visit.address visit.page) (site.page_of visit.address) else Untouched
+    then on_page site.same visit (site.signals visit.address visit.page) (site.page_of visit.address) else Untouched

@@ -9,8 +9,11 @@ pub record RepairedSite : Type 0 where
   pub signals : List ℕ → Tree → Tree → Bool
   -- the addresses that were patched
   pub patch : List (List ℕ)
+  -- how events find their places: by their paths, or by their elements with these fresh names
+  pub same : Option (List (List ℕ))
 
--- the site that hooks stand for, with that patch
+-- the site that hooks stand for, with that patch, and how events find their places
 abbrev pub site_by : {H : Type 0} → (H → List ℕ → Option Tree) → (H → List ℕ → Tree → Tree → Bool) → H → List (List ℕ)
-    → RepairedSite
-site_by page_of signals hooks patch = record { page_of = page_of hooks; signals = signals hooks; patch = patch }
+    → Option (List (List ℕ)) → RepairedSite
+site_by page_of signals hooks patch same =
+    record { page_of = page_of hooks; signals = signals hooks; patch = patch; same = same }

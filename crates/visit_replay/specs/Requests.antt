@@ -3,10 +3,9 @@ use Rattle.std.specs.Prelude.{ℕ, List, [], ◌∷◌, take, ◌==◌, if◌the
 use Rattle.std.specs.List.{filter_map, range_with_len}
 use Rattle.page_tree.specs.Tree.{Tree}
 use Rattle.page_tree.specs.Look.{attribute_at}
-use Rattle.xpath_child.specs.Targets.{target_in, only_place}
 use Rattle.upload_reader.specs.declared.message.Event.{Event}
 use Rattle.upload_reader.specs.declared.message.Event.TheVariants.{Input, Click, Submit}
-use Rattle.visit_replay.specs.Conflict.{path_of}
+use Rattle.visit_replay.specs.Aim.{Aim, place_of_aim, button_of_aim}
 use Rattle.visit_replay.specs.Form.{form_request}
 use Rattle.visit_replay.specs.declared.requests.Method.TheVariants.{Load, Get}
 use Rattle.visit_replay.specs.declared.requests.Request.{Request}
@@ -20,23 +19,25 @@ link_request number place new =
     option_map (λ address. record { number = number; method = Get; address = address; pairs = [] })
     (attribute_at place (codes "href") new)
 
--- of an event at that place, behind those events: of a click that of its link, of a submit that of its form; with 0 for
--- its number an event makes none
-abbrev pub request_at : List ℕ → Tree → List Event → Event → List ℕ → Option Request
-request_at address new before (Input at target value) place = None
-request_at address new before (Click at target req) place = if req == 0 then None else link_request req place new
-request_at address new before (Submit at target by req) place =
-    if req == 0 then None else Some (form_request address new before by place req)
+-- of an event at that place, with that button, behind those events: of a click that of its link, of a submit that of
+-- its form; with 0 for its number an event makes none
+abbrev pub request_at : (Event → Aim) → List ℕ → Tree → List Event → Event → Option (List ℕ) → List ℕ → Option Request
+request_at aim address new before (Input at target value) button place = None
+request_at aim address new before (Click at target req) button place =
+    if req == 0 then None else link_request req place new
+request_at aim address new before (Submit at target by req) button place =
+    if req == 0 then None else Some (form_request aim address new before button place req)
 
-abbrev pub event_request : List ℕ → Tree → List Event → Event → Option Request
-event_request address new before event =
-    option_and_then (request_at address new before event) (only_place (target_in (path_of event) new))
+abbrev pub event_request : (Event → Aim) → List ℕ → Tree → List Event → Event → Option Request
+event_request aim address new before event =
+    option_and_then (request_at aim address new before event (button_of_aim (aim event))) (place_of_aim (aim event))
 
 -- of the event with k events before it
-abbrev pub nth_request : List ℕ → Tree → List Event → ℕ → Option Request
-nth_request address new events k = option_and_then (event_request address new (take k events)) (slice_get events k)
+abbrev pub nth_request : (Event → Aim) → List ℕ → Tree → List Event → ℕ → Option Request
+nth_request aim address new events k =
+    option_and_then (event_request aim address new (take k events)) (slice_get events k)
 
 -- of the load and of the first n events, in order
-abbrev pub requests_before : List ℕ → Tree → List Event → ℕ → List Request
-requests_before address new events n =
-    load_request address ∷ filter_map (nth_request address new events) (range_with_len 0 n)
+abbrev pub requests_before : (Event → Aim) → List ℕ → Tree → List Event → ℕ → List Request
+requests_before aim address new events n =
+    load_request address ∷ filter_map (nth_request aim address new events) (range_with_len 0 n)

@@ -3,3 +3,4 @@ pub mod KeptFields
 pub mod OneEvent
 pub mod Moves
 pub mod Families
+pub mod Differing

@@ -4,6 +4,7 @@ ghost use Rattle.std.specs.Prelude.{◌≡◌, ◌<◌, [], ◌++◌, IfOk, opti
 ghost use Rattle.std.specs.Str.{bytes_eq};
 ghost use Rattle.form_urlencoded.specs.Form.{byte_serialize, extend_pairs, serialize_pair};
 ghost use Rattle.page_tree.specs.Limits.{nodes};
+ghost use Rattle.visit_replay.specs.inside.OneEvent.{IsWithin};
 ghost use Rattle.visit_replay.specs.inside.FieldsNow.{OfEncoded, left_behind, pair_of, pairs_now};
 
 use crate::forms::{Filled, SentPair, sent_by};
@@ -18,7 +19,8 @@ pub(crate) fn is_sent_to(
     start: &str,
     address: &str,
 ) -> Result<bool, NoMemory>
-    requires { form < nodes filled.now.page.now }
+    requires there { form < nodes filled.now.page.now }
+    requires button { IsWithin filled.now.button filled.now.page.now }
     ensures { IfOk result (λ same. OfEncoded filled.now form
         (λ pairs. same ≡ bytes_eq (start.now ++ codes "?" ++ pairs) address.now)) }
 {

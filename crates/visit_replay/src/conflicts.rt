@@ -1,76 +1,48 @@
-//! Why one event can't be replayed (K2 to K7), or where it is.
-ghost use Rattle.std.specs.Prelude.{◌≡◌, ◌<◌, None, IfOk, IfSome, IfNone, option_map};
+//! Why one event can't be replayed where it acts (K4 to K7).
+ghost use Rattle.std.specs.Prelude.{◌≡◌, ◌<◌, IfOk};
 ghost use Rattle.page_tree.specs.Limits.{nodes};
 ghost use Rattle.page_tree.specs.Number.{place_numbered};
 ghost use Rattle.page_tree.specs.Under.{is_under};
-ghost use Rattle.xpath_child.specs.Targets.{target_in, only_place};
-ghost use Rattle.visit_replay.specs.Conflict.{path_of, is_disabled, input_conflict, is_unchanged, off_link, click_conflict, is_enabled_submit, is_button_of, has_button, submit_conflict, conflict_at};
-ghost use Rattle.visit_replay.specs.inside.OneEvent.{Locates, IsNodeOf, IsButton, by_of};
+ghost use Rattle.upload_reader.specs.declared.message.Event.{Event as PlainEvent};
+ghost use Rattle.visit_replay.specs.Aim.{Aim};
+ghost use Rattle.visit_replay.specs.Conflict.{is_disabled, input_conflict, is_unchanged, off_link, click_conflict, is_enabled_submit, is_button_of, has_button, submit_conflict, conflict_at};
+ghost use Rattle.visit_replay.specs.inside.Differing.{KnowsPaths};
+ghost use Rattle.visit_replay.specs.inside.OneEvent.{AimsAt, Locates, IsWithin, places_numbered};
 
+use crate::known_paths::KnownPaths;
 use crate::outcome::ConflictKind;
 use page_tree::{Control, NoMemory, Page};
 use upload_reader::Event;
-use xpath_child::{Found, Path};
+use xpath_child::Path;
 
-/// Why an event can't be replayed, or where it can: the numbers of its target and of the button that was pressed, if any.
+/// Where an event acts or can be replayed: by the numbers of its target and of the button that was pressed, if any; or nowhere, since it needs no
+/// element; or why not.
 #[derive(Drop)]
 pub(crate) enum Located {
     Bad(ConflictKind),
+    Idle,
     At { target: u32, button: Option<u32> },
 }
 
-/// Where an event can be replayed, or why it can't: K2, K3 where its path doesn't select one node.
-pub(crate) fn find(old: &Page, new: &Page, event: &Event) -> Result<Located, NoMemory>
-    ensures { IfOk result (Locates old.now new.now event.now) }
+/// Where an event can be replayed that acts there, or why it can't: K4 to K7. Some paths may be known on the old page.
+pub(crate) fn judged(
+    old: &Page,
+    new: &Page,
+    event: &Event,
+    located: Located,
+    paths: &KnownPaths<'_>,
+) -> Result<Located, NoMemory>
+    requires located { (aim : Aim) × AimsAt new.now aim located }
+    requires known { KnowsPaths old.now paths.now.paths.items }
+    ensures { IfOk result (λ judged. (aim : PlainEvent → Aim) → AimsAt new.now (aim event.now) located
+        → Locates aim old.now new.now event.now judged) }
 {
-    let target = match path_of(event).find(new) {
-        Found::Missing => return Ok(Located::Bad(ConflictKind::NoTarget)),
-        Found::Several => return Ok(Located::Bad(ConflictKind::ManyTargets)),
-        Found::One(number) => number,
+    let Located::At { target, button } = located else {
+        return Ok(located);
     };
-    let button = button_of(new, event);
-    match conflict_at(old, new, event, target, button)? {
+    match conflict_at(old, new, event, target, button, paths)? {
         Some(kind) => Ok(Located::Bad(kind)),
         None => Ok(Located::At { target, button }),
-    }
-}
-
-/// The number of the event's target, if its path selects one node.
-pub(crate) fn target_of(page: &Page, event: &Event) -> Option<u32>
-    ensures target { IfSome result (IsNodeOf (path_of event.now) page.now) }
-    ensures none { IfNone result (only_place (target_in (path_of event.now) page.now) ≡ None) }
-{
-    only(path_of(event), page)
-}
-
-fn path_of(event: &Event) -> &Path
-    ensures { result.now ≡ path_of event.now }
-{
-    match event {
-        Event::Input { target, .. } => target,
-        Event::Click { target, .. } => target,
-        Event::Submit { target, .. } => target,
-    }
-}
-
-// The button that was pressed, if its path selects one node.
-fn button_of(new: &Page, event: &Event) -> Option<u32>
-    ensures { IsButton new.now (by_of event.now) result }
-{
-    match event {
-        Event::Submit { by: Some(path), .. } => only(path, new),
-        _ => None,
-    }
-}
-
-// The node that a path selects, if it is the only one.
-fn only(path: &Path, page: &Page) -> Option<u32>
-    ensures some { IfSome result (IsNodeOf path.now page.now) }
-    ensures place { option_map (λ n. place_numbered n page.now) result ≡ only_place (target_in path.now page.now) }
-{
-    match path.find(page) {
-        Found::One(number) => Some(number),
-        Found::Missing | Found::Several => None,
     }
 }
 
@@ -80,15 +52,18 @@ fn conflict_at(
     event: &Event,
     target: u32,
     button: Option<u32>,
+    paths: &KnownPaths<'_>,
 ) -> Result<Option<ConflictKind>, NoMemory>
     requires there { target < nodes new.now }
-    requires button { IsButton new.now (by_of event.now) button }
-    ensures { IfOk result (λ found. found ≡ conflict_at old.now new.now event.now (place_numbered target new.now)) }
+    requires button { IsWithin button new.now }
+    requires known { KnowsPaths old.now paths.now.paths.items }
+    ensures { IfOk result (λ found. found ≡ conflict_at old.now new.now event.now (place_numbered target new.now)
+        (places_numbered button new.now)) }
 {
     let control = new.control_of(target);
     match event {
         Event::Input { target: path, .. } => {
-            let unchanged = is_unchanged(old, new, path, target)?;
+            let unchanged = is_unchanged(old, new, path, target, paths)?;
             Ok(input_conflict(control, is_disabled(new, target), unchanged))
         }
         Event::Click { req, .. } => Ok(click_conflict(control, is_disabled(new, target), *req)),
@@ -121,10 +96,17 @@ fn input_conflict(control: Control, disabled: bool, unchanged: bool) -> Option<C
 }
 
 // Whether the path selected, on the old page, one text control that started as the one with the number does.
-fn is_unchanged(old: &Page, new: &Page, path: &Path, number: u32) -> Result<bool, NoMemory>
+fn is_unchanged(
+    old: &Page,
+    new: &Page,
+    path: &Path,
+    number: u32,
+    paths: &KnownPaths<'_>,
+) -> Result<bool, NoMemory>
+    requires { KnowsPaths old.now paths.now.paths.items }
     ensures { IfOk result (λ same. same ≡ is_unchanged old.now new.now path.now (place_numbered number new.now)) }
 {
-    let Some(there) = only(path, old) else {
+    let Some(there) = paths.known_or_only(old, path) else {
         return Ok(false);
     };
     match (old.start_text_of(there)?, new.start_text_of(number)?) {
@@ -175,12 +157,13 @@ fn submit_conflict(control: Control, button: bool) -> Option<ConflictKind>
 // Whether the button that was pressed, if any, is an enabled one of the form.
 fn has_button(new: &Page, form: u32, by: &Option<Path>, button: Option<u32>) -> bool
     requires there { form < nodes new.now }
-    requires button { IsButton new.now by.now button }
-    ensures { result ≡ has_button new.now (place_numbered form new.now) by.now }
+    requires button { IsWithin button new.now }
+    ensures { result ≡ has_button new.now (place_numbered form new.now) by.now (places_numbered button new.now) }
 {
-    match button {
-        Some(button) => is_button_of(new, form, button),
-        None => by.is_none(),
+    match (by, button) {
+        (None, _) => true,
+        (Some(_), Some(button)) => is_button_of(new, form, button),
+        (Some(_), None) => false,
     }
 }
 

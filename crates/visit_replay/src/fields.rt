@@ -3,7 +3,8 @@ ghost use Rattle.std.specs.Prelude.{◌≡◌, [], OnOk, option_map};
 ghost use Rattle.std.specs.BTreeMap.{get};
 ghost use Rattle.std.specs.Ordering.{nat_cmp};
 ghost use Rattle.page_tree.specs.Tree.{Tree};
-ghost use Rattle.visit_replay.specs.Conflict.{path_of};
+ghost use Rattle.upload_reader.specs.declared.message.Event.{Event as PlainEvent};
+ghost use Rattle.visit_replay.specs.Aim.{Aim};
 ghost use Rattle.visit_replay.specs.inside.KeptFields.{Keeps, TakesIn, is_on_now};
 ghost use Rattle.visit_replay.specs.inside.OneEvent.{IsNodeOf};
 
@@ -22,7 +23,7 @@ pub(crate) struct Fields<'a> {
 impl<'a> Fields<'a> {
     /// Before any event. It takes no memory.
     pub(crate) fn new(alloc: Global) -> Fields<'a>
-        ensures { (new : Tree) → Keeps result new [] }
+        ensures { (aim : PlainEvent → Aim) (new : Tree) → Keeps aim result new [] }
     {
         Fields {
             texts: BTreeMap::new(alloc),
@@ -47,8 +48,8 @@ impl<'a> Fields<'a> {
 
     /// Takes in one event more, whose target has that number. A click turns a checkbox; of any other nothing is kept.
     pub(crate) fn note(&mut self, new: &Page, event: &'a Event, number: u32) -> Result<(), NoMemory>
-        requires { IsNodeOf (path_of event.now) new.now number }
-        ensures { OnOk result (TakesIn new.now event.now self.old self.new) }
+        ensures { OnOk result ((aim : PlainEvent → Aim) → IsNodeOf (aim event.now) new.now number
+            → TakesIn aim new.now event.now self.old self.new) }
     {
         match event {
             Event::Input { value, .. } => {

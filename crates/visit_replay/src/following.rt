@@ -5,6 +5,7 @@ ghost use Rattle.std.specs.Ordering.{nat_cmp};
 ghost use Rattle.visit_replay.specs.Following.{is_untouched, behind_parents};
 ghost use Rattle.visit_replay.specs.inside.Families.{AreFresh, AreKnown, TellsElsewhere, IsBehind, parent_place};
 
+use crate::finding::Finding;
 use crate::moves::Asked;
 use crate::outcome::{ConflictKind, Outcome};
 use crate::requests::Requests;
@@ -19,11 +20,13 @@ use std::collections::BTreeMap;
 /// Each visit that opened others is gone through once, up to the last event that opened one, however many these are.
 pub fn follow_parents(
     alloc: Global,
+    finding: &Finding,
     visits: &[Visit],
     outcomes: Vec<Outcome>,
 ) -> Result<Vec<Outcome>, NoMemory>
     requires { length outcomes.items ≡ length visits.now }
-    ensures { IfOk result (λ all. all.items ≡ map (λ one. one.1) (behind_parents (zip visits.now outcomes.items))) }
+    ensures { IfOk result (λ all. all.items
+        ≡ map (λ one. one.1) (behind_parents finding.now (zip visits.now outcomes.items))) }
 {
     let mut asked = all_asked(alloc, visits, outcomes.as_slice())?;
     let mut outcomes = outcomes;
@@ -31,6 +34,7 @@ pub fn follow_parents(
     for k in 0..visits.len() {
         settle(
             alloc,
+            finding,
             visits,
             outcomes.as_mut_slice(),
             k,
@@ -90,6 +94,7 @@ fn parent_of(places: &BTreeMap<u64, usize>, visit: &Visit) -> Option<usize>
 // Gives the visit there the outcome that it has behind those before it: K10 where its parent leads elsewhere.
 fn settle(
     alloc: Global,
+    finding: &Finding,
     visits: &[Visit],
     outcomes: &mut [Outcome],
     k: usize,
@@ -98,15 +103,15 @@ fn settle(
 ) -> Result<(), NoMemory>
     requires there { (k < length visits.now) × (k < length outcomes.old) × (k ≤ length asked.old) }
     requires within { (number : ℕ) → IfSome (get nat_cmp places.now number) (λ j. j < k) }
-    requires known { AreKnown visits.now outcomes.old k asked.old }
-    ensures known { OnOk result (AreKnown visits.now outcomes.new k asked.new) }
+    requires known { AreKnown finding.now visits.now outcomes.old k asked.old }
+    ensures known { OnOk result (AreKnown finding.now visits.now outcomes.new k asked.new) }
     ensures others { (j : ℕ) → j ≢ k → slice_get outcomes.new j ≡ slice_get outcomes.old j }
-    ensures settled { OnOk result (IsBehind visits.now (get nat_cmp places.now) k outcomes.old outcomes.new) }
+    ensures settled { OnOk result (IsBehind finding.now visits.now (get nat_cmp places.now) k outcomes.old outcomes.new) }
 {
     if is_untouched(&outcomes[k]) {
         return Ok(());
     }
-    if !is_elsewhere(alloc, visits, outcomes, k, places, asked)? {
+    if !is_elsewhere(alloc, finding, visits, outcomes, k, places, asked)? {
         return Ok(());
     }
     outcomes[k] = moved_away(alloc);
@@ -136,6 +141,7 @@ fn moved_away(alloc: Global) -> Outcome
 // Whether the parent of the visit there leads elsewhere now.
 fn is_elsewhere(
     alloc: Global,
+    finding: &Finding,
     visits: &[Visit],
     outcomes: &[Outcome],
     k: usize,
@@ -144,13 +150,19 @@ fn is_elsewhere(
 ) -> Result<bool, NoMemory>
     requires there { (k < length visits.now) × (k < length outcomes.now) × (k ≤ length asked.old) }
     requires within { (number : ℕ) → IfSome (get nat_cmp places.now number) (λ j. j < k) }
-    requires known { AreKnown visits.now outcomes.now k asked.old }
-    ensures known { OnOk result (AreKnown visits.now outcomes.now k asked.new) }
-    ensures answer { IfOk result (TellsElsewhere visits.now outcomes.now (get nat_cmp places.now) k) }
+    requires known { AreKnown finding.now visits.now outcomes.now k asked.old }
+    ensures known { OnOk result (AreKnown finding.now visits.now outcomes.now k asked.new) }
+    ensures answer { IfOk result (TellsElsewhere finding.now visits.now outcomes.now (get nat_cmp places.now) k) }
 {
     let visit = &visits[k];
     match parent_of(places, visit) {
-        Some(place) => asked[place].tell(alloc, &visits[place], &outcomes[place], visit.from),
+        Some(place) => asked[place].tell(
+            alloc,
+            finding,
+            &visits[place],
+            &outcomes[place],
+            visit.from,
+        ),
         None => Ok(false),
     }
 }

@@ -7,6 +7,7 @@ ghost use Rattle.page_tree.specs.Limits.{nodes};
 ghost use Rattle.page_tree.specs.Number.{place_numbered};
 ghost use Rattle.visit_replay.specs.Form.{unless_empty, sent_name, value_or, is_post, action_of};
 ghost use Rattle.visit_replay.specs.inside.KeptFields.{text_now};
+ghost use Rattle.visit_replay.specs.inside.OneEvent.{IsWithin};
 ghost use Rattle.visit_replay.specs.inside.FieldsNow.{pair_of, pair_now, pairs_now, with_pairs, IsEncoded};
 
 use crate::conflicts::is_disabled;
@@ -34,7 +35,8 @@ pub(crate) struct SentPair<'a> {
 
 /// The form's pairs as `application/x-www-form-urlencoded`, in one pass over the nodes under it.
 pub(crate) fn encoded(alloc: Global, filled: &Filled<'_, '_>, form: u32) -> Result<Text, NoMemory>
-    requires { form < nodes filled.now.page.now }
+    requires there { form < nodes filled.now.page.now }
+    requires button { IsWithin filled.now.button filled.now.page.now }
     ensures { IfOk result (IsEncoded filled.now form) }
 {
     let mut pairs = Serializer::new(String::new(alloc));

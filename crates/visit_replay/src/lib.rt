@@ -1,6 +1,7 @@
 //! What a visit gives when it is replayed on the page that stands at its address now: the requests that result, or a conflict.
 //!
-//! - `replay` goes through a visit's events once. Each event's path must select one element of the page, which must still take it; what was typed and
+//! - `replay` goes through a visit's events once. Each event must find one element of the page (by its path, or by the element that it was made on: `Finding`),
+//!   which must still take it; what was typed and
 //!   clicked is kept by the numbers of the fields, and a form sends what its fields hold. It costs events times the length of their paths and siblings.
 //! - `moved` says whether a request of a visit goes elsewhere now, and `follow_parents` what visits give behind the visits that opened them (K10).
 //!
@@ -10,23 +11,41 @@
 #![tactic(auto)]
 
 mod address;
+mod aims;
+mod changes;
 mod comparing;
+mod comparisons;
 mod conflicts;
+mod counterparts;
+mod difference;
+mod differing;
 mod fields;
+mod finding;
 mod following;
 mod forms;
+mod hidden_inputs;
+mod known_inputs;
+mod known_paths;
+mod laws;
 mod limits;
+mod lookups;
 mod moves;
 mod moving;
+mod named_inputs;
 mod outcome;
+mod passing;
 mod patch;
 mod replaying;
 mod requests;
 
+pub use difference::{Contrast, Difference, Former};
+pub use differing::{told_beside, told_difference};
+pub use finding::Finding;
 pub use following::follow_parents;
+pub use laws::done_asks_alike;
 pub use limits::MAX_WORKERS;
 pub use moving::moved;
 pub use outcome::{ConflictKind, Outcome};
 pub use patch::{Patch, affected};
-pub use replaying::replay;
+pub use replaying::{replay, replay_beside};
 pub use requests::{Method, Request, Requests};

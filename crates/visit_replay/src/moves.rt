@@ -1,15 +1,17 @@
 //! Which requests of a visit go elsewhere now: those that later visits name, all of them at once.
-ghost use Rattle.std.specs.Prelude.{ℕ, ◌≡◌, ◌≤◌, ◌<◌, true, length, take, IfOk, OnOk, IsSome, option_map};
+ghost use Rattle.std.specs.Prelude.{ℕ, List, Option, ◌≡◌, ◌≤◌, ◌<◌, true, length, take, IfOk, OnOk, IsSome, option_map};
 ghost use Rattle.std.specs.BTreeMap.{get};
 ghost use Rattle.std.specs.Ordering.{nat_cmp};
 ghost use Rattle.upload_reader.specs.declared.message.Event.{Event};
 ghost use Rattle.client_log.specs.declared.visit.Visit.{Visit};
+ghost use Rattle.visit_replay.specs.Aim.{by_path};
 ghost use Rattle.visit_replay.specs.Moved.{event_numbered, own_request, are_apart, is_moved};
 ghost use Rattle.visit_replay.specs.declared.outcome.Outcome.{Outcome};
 ghost use Rattle.visit_replay.specs.inside.KeptFields.{Keeps};
 ghost use Rattle.visit_replay.specs.inside.Moves.{IsFresh, IsRight, HasAddresses, MeetsOne, is_pending, answer_in};
 
 use crate::fields::Fields;
+use crate::finding::Finding;
 use crate::moving::{goes_elsewhere, note, requests_of};
 use crate::outcome::Outcome;
 use client_log::Visit;
@@ -39,8 +41,8 @@ impl Asked {
 
     /// One number more.
     pub(crate) fn ask(&mut self, number: u64) -> Result<(), NoMemory>
-        ensures right { OnOk result ((visit : Visit) (outcome : Outcome)
-            → IsRight visit outcome self.old → IsRight visit outcome self.new) }
+        ensures right { OnOk result ((finding : Option (List (List ℕ))) (visit : Visit) (outcome : Outcome)
+            → IsRight finding visit outcome self.old → IsRight finding visit outcome self.new) }
         ensures fresh { OnOk result (IsFresh self.old → IsFresh self.new) }
         ensures there { OnOk result (IsSome (get nat_cmp self.new.numbers number)) }
     {
@@ -57,19 +59,20 @@ impl Asked {
     pub(crate) fn tell(
         &mut self,
         alloc: Global,
+        finding: &Finding,
         visit: &Visit,
         outcome: &Outcome,
         number: u64,
     ) -> Result<bool, NoMemory>
-        requires { IsRight visit.now outcome.now self.old }
-        ensures right { OnOk result (IsRight visit.now outcome.now self.new) }
-        ensures answer { IfOk result (λ answer. answer ≡ is_moved visit.now outcome.now number) }
+        requires { IsRight finding.now visit.now outcome.now self.old }
+        ensures right { OnOk result (IsRight finding.now visit.now outcome.now self.new) }
+        ensures answer { IfOk result (λ answer. answer ≡ is_moved finding.now visit.now outcome.now number) }
     {
         if number == 0 || requests_of(outcome).is_empty() {
             return Ok(false);
         }
         self.ask(number)?;
-        self.look(alloc, visit, outcome)?;
+        self.look(alloc, finding, visit, outcome)?;
         Ok(self.answer(number))
     }
 
@@ -83,9 +86,15 @@ impl Asked {
     }
 
     // Finds all numbers that are asked for and weren't looked for, in one pass over the events up to the last of them.
-    fn look(&mut self, alloc: Global, visit: &Visit, outcome: &Outcome) -> Result<(), NoMemory>
-        requires { IsRight visit.now outcome.now self.old }
-        ensures right { OnOk result (IsRight visit.now outcome.now self.new) }
+    fn look(
+        &mut self,
+        alloc: Global,
+        finding: &Finding,
+        visit: &Visit,
+        outcome: &Outcome,
+    ) -> Result<(), NoMemory>
+        requires { IsRight finding.now visit.now outcome.now self.old }
+        ensures right { OnOk result (IsRight finding.now visit.now outcome.now self.new) }
         ensures looked { OnOk result (self.new.looked ≡ true) }
         ensures there { OnOk result ((number : ℕ) → IsSome (get nat_cmp self.old.numbers number)
             → IsSome (get nat_cmp self.new.numbers number)) }
@@ -97,7 +106,15 @@ impl Asked {
         let mut fields = Fields::new(alloc);
         let events = visit.events.as_slice();
         for k in 0..last_asked(events, &self.numbers) {
-            meet(visit, k, &fields, &addresses, &mut self.numbers)?;
+            meet(
+                alloc,
+                finding,
+                visit,
+                k,
+                &fields,
+                &addresses,
+                &mut self.numbers,
+            )?;
             note(&visit.page, &events[k], &mut fields)?;
         }
         self.looked = true;
@@ -140,6 +157,8 @@ fn addresses_of<'a>(
 
 // Finds the request of the event with k events before it, if its number is asked for and no earlier event has it.
 fn meet(
+    alloc: Global,
+    finding: &Finding,
     visit: &Visit,
     k: usize,
     fields: &Fields<'_>,
@@ -147,15 +166,15 @@ fn meet(
     numbers: &mut BTreeMap<u64, Option<bool>>,
 ) -> Result<(), NoMemory>
     requires there { k < length visit.now.events }
-    requires fields { Keeps fields.now visit.now.page (take k visit.now.events) }
-    ensures { OnOk result (MeetsOne visit.now k addresses.now numbers.old numbers.new) }
+    requires fields { Keeps (by_path visit.now.page) fields.now visit.now.page (take k visit.now.events) }
+    ensures { OnOk result (MeetsOne finding.now visit.now k addresses.now numbers.old numbers.new) }
 {
     let number = visit.events.as_slice()[k].request();
     if !is_pending(numbers, number) {
         return Ok(());
     }
     let now = addresses.get(&number).copied();
-    let apart = is_apart(visit, fields, k, now)?;
+    let apart = is_apart(alloc, finding, visit, fields, k, now)?;
     numbers.insert(number, Some(apart))?;
     Ok(())
 }
@@ -168,18 +187,20 @@ fn is_pending(numbers: &BTreeMap<u64, Option<bool>>, number: u64) -> bool
 
 #[tactic(auto, using(crate::proofs::Looking::none_apart))]
 fn is_apart(
+    alloc: Global,
+    finding: &Finding,
     visit: &Visit,
     fields: &Fields<'_>,
     k: usize,
     now: Option<&str>,
 ) -> Result<bool, NoMemory>
     requires there { k < length visit.now.events }
-    requires fields { Keeps fields.now visit.now.page (take k visit.now.events) }
+    requires fields { Keeps (by_path visit.now.page) fields.now visit.now.page (take k visit.now.events) }
     ensures { IfOk result
-        (λ apart. apart ≡ are_apart (own_request visit.now k) (option_map (λ address. address.now) now.entry)) }
+        (λ apart. apart ≡ are_apart finding.now (own_request visit.now k) (option_map (λ address. address.now) now.entry)) }
 {
     match now {
-        Some(now) => goes_elsewhere(visit, fields, k, now),
+        Some(now) => goes_elsewhere(alloc, finding, visit, fields, k, now),
         None => Ok(false),
     }
 }

@@ -1,11 +1,16 @@
 //! Whether a request of a visit goes elsewhere now.
 ghost use Rattle.std.specs.Prelude.{◌≡◌, ◌<◌, length, take, Some, IfOk, IfSome, OnOk, option_map};
+ghost use Rattle.visit_replay.specs.Aim.{by_path};
 ghost use Rattle.visit_replay.specs.Moved.{requests_of, address_now, event_numbered, own_request, are_apart, is_moved};
 ghost use Rattle.visit_replay.specs.inside.KeptFields.{Keeps, TakesIn};
+ghost use Rattle.visit_replay.specs.inside.Differing.{IsTargetOf};
 
-use crate::conflicts::{Located, find, target_of};
+use crate::aims::{by_path, target_of};
+use crate::conflicts::{Located, judged};
 use crate::fields::Fields;
+use crate::finding::Finding;
 use crate::forms::Filled;
+use crate::known_paths::KnownPaths;
 use crate::outcome::Outcome;
 use crate::requests::{Request, leads_elsewhere};
 use client_log::Visit;
@@ -13,10 +18,17 @@ use page_tree::{NoMemory, Page};
 use std::alloc::Global;
 use upload_reader::Event;
 
-/// Whether the request of that number goes to another address by the visit's outcome than it did on the page that the visit was made on. It doesn't where
+/// Whether the request of that number goes to another address by the visit's outcome than it did on the page that the visit was made on (but for the
+/// values of fresh names, where events find their places by their elements). It doesn't where
 /// either of both is missing. `from` is the number as a visit gives it that the request opened; 0 is none.
-pub fn moved(alloc: Global, visit: &Visit, outcome: &Outcome, from: u64) -> Result<bool, NoMemory>
-    ensures { IfOk result (λ answer. answer ≡ is_moved visit.now outcome.now from) }
+pub fn moved(
+    alloc: Global,
+    finding: &Finding,
+    visit: &Visit,
+    outcome: &Outcome,
+    from: u64,
+) -> Result<bool, NoMemory>
+    ensures { IfOk result (λ answer. answer ≡ is_moved finding.now visit.now outcome.now from) }
 {
     if from == 0 {
         return Ok(false);
@@ -29,7 +41,7 @@ pub fn moved(alloc: Global, visit: &Visit, outcome: &Outcome, from: u64) -> Resu
         return Ok(false);
     };
     let fields = fields_behind(alloc, &visit.page, events, k)?;
-    goes_elsewhere(visit, &fields, k, now.address.as_str())
+    goes_elsewhere(alloc, finding, visit, &fields, k, now.address.as_str())
 }
 
 // ---- what the replay asks for
@@ -65,19 +77,24 @@ fn event_numbered(events: &[Event], number: u64) -> Option<usize>
 /// Whether the event with k events before it made a request of another address, by the fields as these left them. Only the addresses count: what is sent under
 /// post isn't looked at.
 pub(crate) fn goes_elsewhere(
+    alloc: Global,
+    finding: &Finding,
     visit: &Visit,
     fields: &Fields<'_>,
     k: usize,
     now: &str,
 ) -> Result<bool, NoMemory>
     requires there { k < length visit.now.events }
-    requires fields { Keeps fields.now visit.now.page (take k visit.now.events) }
-    ensures { IfOk result (λ answer. answer ≡ are_apart (own_request visit.now k) (Some now.now)) }
+    requires fields { Keeps (by_path visit.now.page) fields.now visit.now.page (take k visit.now.events) }
+    ensures { IfOk result (λ answer. answer ≡ are_apart finding.now (own_request visit.now k) (Some now.now)) }
 {
     let page = &visit.page;
     let event = &visit.events.as_slice()[k];
-    let (target, button) = match find(page, page, event)? {
-        Located::Bad(_) => return Ok(false),
+    let located = by_path(page, event);
+    let paths = KnownPaths::new(alloc);
+    let (target, button) = match judged(page, page, event, located, &paths)? {
+        Located::Bad(_kind) => return Ok(false),
+        Located::Idle => return Ok(false),
         Located::At { target, button } => (target, button),
     };
     let filled = Filled {
@@ -85,18 +102,26 @@ pub(crate) fn goes_elsewhere(
         fields,
         button,
     };
-    leads_elsewhere(visit.address.as_str(), &filled, event, target, now)
+    leads_elsewhere(
+        alloc,
+        visit.address.as_str(),
+        &filled,
+        event,
+        target,
+        finding,
+        now,
+    )
 }
 
-// The fields as the first so many events left them.
-fn fields_behind<'a>(
+/// The fields as the first so many events left them.
+pub(crate) fn fields_behind<'a>(
     alloc: Global,
     page: &Page,
     events: &'a [Event],
     count: usize,
 ) -> Result<Fields<'a>, NoMemory>
     requires { count < length events.now }
-    ensures { IfOk result (λ fields. Keeps fields page.now (take count events.now)) }
+    ensures { IfOk result (λ fields. Keeps (by_path page.now) fields page.now (take count events.now)) }
 {
     let mut fields = Fields::new(alloc);
     for k in 0..count {
@@ -105,15 +130,28 @@ fn fields_behind<'a>(
     Ok(fields)
 }
 
-// Takes in one event more, if its path selects one node.
+/// Takes in one event more, if its path selects one node.
 pub(crate) fn note<'a>(
     page: &Page,
     event: &'a Event,
     fields: &mut Fields<'a>,
 ) -> Result<(), NoMemory>
-    ensures { OnOk result (TakesIn page.now event.now fields.old fields.new) }
+    ensures { OnOk result (TakesIn (by_path page.now) page.now event.now fields.old fields.new) }
 {
-    match target_of(page, event) {
+    note_at(page, event, target_of(page, event), fields)
+}
+
+/// The same at its target, which is known.
+pub(crate) fn note_at<'a>(
+    page: &Page,
+    event: &'a Event,
+    target: Option<u32>,
+    fields: &mut Fields<'a>,
+) -> Result<(), NoMemory>
+    requires { IsTargetOf page.now event.now target }
+    ensures { OnOk result (TakesIn (by_path page.now) page.now event.now fields.old fields.new) }
+{
+    match target {
         Some(target) => fields.note(page, event, target),
         None => Ok(()),
     }

@@ -28,6 +28,8 @@ pub enum ConflictKind {
     Ui,
     /// K10: the request that opened the visit goes elsewhere now.
     Moved,
+    /// K11: it is known which element an event acted on, and it, or its form, sends something else now.
+    Changed,
 }
 
 impl fmt::Display for ConflictKind {
@@ -45,6 +47,7 @@ impl fmt::Display for ConflictKind {
             ConflictKind::LogCut => "K8",
             ConflictKind::Ui => "K9",
             ConflictKind::Moved => "K10",
+            ConflictKind::Changed => "K11",
         })
     }
 }

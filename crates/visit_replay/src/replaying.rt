@@ -1,24 +1,31 @@
 //! The outcome of a visit: the walk over its events, up to the first that can't be replayed, and what stands at its end.
-ghost use Rattle.std.specs.Prelude.{◌≡◌, ◌<◌, ◌+◌, length, IfOk, IfSome, IfNone, Some};
+ghost use Rattle.std.specs.Prelude.{◌≡◌, ◌<◌, ◌+◌, length, IfOk, OnOk, IfSome, IfNone, Some};
 ghost use Rattle.visit_replay.specs.Requests.{requests_before};
 ghost use Rattle.visit_replay.specs.Outcome.{outcome, conflict_of, on_page, at_end};
 ghost use Rattle.visit_replay.specs.RepairedSite.{site_by};
-ghost use Rattle.visit_replay.specs.inside.OneEvent.{IsWalked};
+ghost use Rattle.upload_reader.specs.declared.message.Event.{Event as PlainEvent};
+ghost use Rattle.visit_replay.specs.Aim.{Aim};
+ghost use Rattle.visit_replay.specs.inside.Differing.{AreLookedUp};
+ghost use Rattle.visit_replay.specs.inside.OneEvent.{IsWalked, IsBetween, names_aimed, aimed};
 
-use crate::conflicts::{Located, find};
+use crate::aims::{Aiming, aim_at};
+use crate::conflicts::{Located, judged};
 use crate::fields::Fields;
+use crate::finding::Finding;
 use crate::forms::Filled;
+use crate::lookups::Lookups;
 use crate::outcome::{ConflictKind, Outcome};
 use crate::patch::{Patch, affected};
 use crate::requests::{Requests, load_request, request_at};
 use client_log::Visit;
+use page_looks::Looks;
 use page_tree::{NoMemory, Page};
 use site_hooks::SiteHooks;
 use std::alloc::Global;
 use upload_reader::Event;
 
 /// What replaying a visit gives. It is untouched where the patch doesn't list its address. It is a conflict at the load where the site has no page
-/// there (K1); at the first event that can't be replayed on that page (K2 to K7); behind the last event where the log kept only a part of the visit
+/// there (K1); at the first event that can't be replayed on that page (K2 to K7, K11); behind the last event where the log kept only a part of the visit
 /// (K8), or where the site signals one between the old page and the new (K9). Else it is done.
 ///
 /// The hooks are asked only where no case before decides (which is tested, not proved).
@@ -26,15 +33,17 @@ pub fn replay<H: SiteHooks>(
     alloc: Global,
     hooks: &H,
     patch: &Patch,
+    finding: &Finding,
     visit: &Visit,
 ) -> Result<Outcome, NoMemory>
-    ensures { IfOk result (λ answer. answer ≡ outcome (site_by H.page_of H.signals hooks.now patch.now) visit.now) }
+    ensures { IfOk result
+        (λ answer. answer ≡ outcome (site_by H.page_of H.signals hooks.now patch.now finding.now) visit.now) }
 {
     if !affected(patch, visit) {
         return Ok(Outcome::Untouched);
     }
     match hooks.make(visit.address.as_str())? {
-        Some(new) => replay_on(alloc, hooks, visit, &new),
+        Some(new) => find_on(alloc, hooks, finding, visit, &new),
         None => Ok(Outcome::Conflict {
             requests: Requests::new(alloc),
             at: 0,
@@ -43,21 +52,91 @@ pub fn replay<H: SiteHooks>(
     }
 }
 
-// On the page that the site has there now: the events, up to the first that can't be replayed.
-fn replay_on<H: SiteHooks>(
+/// The same, where events find their places by their elements, on the page that the site has there now, whose looks were made.
+pub fn replay_beside<H: SiteHooks>(
     alloc: Global,
     hooks: &H,
+    patch: &Patch,
+    looks: &Looks<'_>,
+    visit: &Visit,
+) -> Result<Outcome, NoMemory>
+    ensures { IfOk result (λ answer. H.page_of hooks.now visit.now.address ≡ Some looks.now.0
+        → answer ≡ outcome (site_by H.page_of H.signals hooks.now patch.now (Some looks.now.1)) visit.now) }
+{
+    if affected(patch, visit) {
+        by_looks(alloc, hooks, looks, visit)
+    } else {
+        Ok(Outcome::Untouched)
+    }
+}
+
+// On the page that the site has there now, as the site's law says where events act.
+fn find_on<H: SiteHooks>(
+    alloc: Global,
+    hooks: &H,
+    finding: &Finding,
     visit: &Visit,
     new: &Page,
 ) -> Result<Outcome, NoMemory>
-    ensures { IfOk result (λ answer. answer
-        ≡ on_page visit.now (H.signals hooks.now visit.now.address visit.now.page) (Some new.now)) }
+    ensures { IfOk result (λ answer. answer ≡ on_page finding.now visit.now
+        (H.signals hooks.now visit.now.address visit.now.page) (Some new.now)) }
+{
+    match finding.names() {
+        None => replay_on(alloc, hooks, &Aiming::ByPath, visit, new),
+        Some(fresh) => {
+            let looks = Looks::of(alloc, new, fresh)?;
+            by_looks(alloc, hooks, &looks, visit)
+        }
+    }
+}
+
+// On a page whose looks were made.
+fn by_looks<H: SiteHooks>(
+    alloc: Global,
+    hooks: &H,
+    looks: &Looks<'_>,
+    visit: &Visit,
+) -> Result<Outcome, NoMemory>
+    ensures { IfOk result (λ answer. answer ≡ on_page (Some looks.now.1) visit.now
+        (H.signals hooks.now visit.now.address visit.now.page) (Some looks.now.0)) }
+{
+    let beside = looks.beside(alloc, &visit.page)?;
+    replay_on(
+        alloc,
+        hooks,
+        &Aiming::ByElement(beside),
+        visit,
+        looks.page(),
+    )
+}
+
+// The events, up to the first that can't be replayed.
+fn replay_on<H: SiteHooks>(
+    alloc: Global,
+    hooks: &H,
+    aiming: &Aiming<'_>,
+    visit: &Visit,
+    new: &Page,
+) -> Result<Outcome, NoMemory>
+    requires { IsBetween aiming.now visit.now.page new.now }
+    ensures { IfOk result (λ answer. answer ≡ on_page (names_aimed aiming.now) visit.now
+        (H.signals hooks.now visit.now.address visit.now.page) (Some new.now)) }
 {
     let mut fields = Fields::new(alloc);
+    let mut lookups = Lookups::new(alloc, &visit.page, new);
     let mut requests = Requests::new(alloc);
     requests.push(load_request(alloc, visit.address.as_str())?)?;
     for i in 0..visit.events.as_slice().len() {
-        if let Some(kind) = step(alloc, visit, new, i, &mut fields, &mut requests)? {
+        if let Some(kind) = step(
+            alloc,
+            aiming,
+            visit,
+            new,
+            i,
+            &mut lookups,
+            &mut fields,
+            &mut requests,
+        )? {
             let at = i as u64 + 1;
             return Ok(Outcome::Conflict { requests, at, kind });
         }
@@ -72,9 +151,9 @@ fn finish<H: SiteHooks>(
     new: &Page,
     requests: Requests,
 ) -> Result<Outcome, NoMemory>
-    requires { requests ≡ requests_before visit.now.address new.now visit.now.events (length visit.now.events) }
-    ensures { IfOk result (λ answer. answer
-        ≡ at_end visit.now new.now (H.signals hooks.now visit.now.address visit.now.page new.now)) }
+    ensures { IfOk result (λ answer. (aim : PlainEvent → Aim)
+        → requests ≡ requests_before aim visit.now.address new.now visit.now.events (length visit.now.events)
+        → answer ≡ at_end aim visit.now new.now (H.signals hooks.now visit.now.address visit.now.page new.now)) }
 {
     let at = visit.events.as_slice().len() as u64 + 1;
     if visit.cut {
@@ -91,21 +170,30 @@ fn finish<H: SiteHooks>(
 // Replays the event with i events before it, or says why it can't be.
 fn step<'a>(
     alloc: Global,
+    aiming: &Aiming<'_>,
     visit: &'a Visit,
-    new: &Page,
+    new: &'a Page,
     i: usize,
+    lookups: &mut Lookups<'a>,
     fields: &mut Fields<'a>,
     requests: &mut Requests,
 ) -> Result<Option<ConflictKind>, NoMemory>
     requires there { i < length visit.now.events }
-    requires so_far { IsWalked visit.now new.now i fields.old requests.old }
-    ensures conflict { IfOk result (λ found. found ≡ conflict_of visit.now.page new.now visit.now.events i) }
+    requires between { IsBetween aiming.now visit.now.page new.now }
+    requires known { AreLookedUp visit.now.page new.now lookups.old }
+    requires so_far { IsWalked (aimed aiming.now visit.now.page new.now) visit.now new.now i fields.old requests.old }
+    ensures conflict { IfOk result (λ found. found
+        ≡ conflict_of (aimed aiming.now visit.now.page new.now) visit.now.page new.now visit.now.events i) }
+    ensures known { OnOk result (AreLookedUp visit.now.page new.now lookups.new) }
     ensures stays { IfOk result (λ found. IfSome found (λ _. requests.new ≡ requests.old)) }
-    ensures further { IfOk result (λ found. IfNone found (IsWalked visit.now new.now (i + 1) fields.new requests.new)) }
+    ensures further { IfOk result (λ found. IfNone found
+        (IsWalked (aimed aiming.now visit.now.page new.now) visit.now new.now (i + 1) fields.new requests.new)) }
 {
     let event = &visit.events.as_slice()[i];
-    let (target, button) = match find(&visit.page, new, event)? {
+    let aim = aim_at(alloc, aiming, &visit.page, new, event, lookups)?;
+    let (target, button) = match judged(&visit.page, new, event, aim, &lookups.paths)? {
         Located::Bad(kind) => return Ok(Some(kind)),
+        Located::Idle => return Ok(None),
         Located::At { target, button } => (target, button),
     };
     let filled = Filled {

@@ -1,15 +1,20 @@
 //! Requests, and how a replayed visit makes them.
-ghost use Rattle.std.specs.Prelude.{◌≡◌, ◌<◌, [], ◌∷◌, ◌++◌, List, IfOk, OnOk, OnErr, option_map, codes};
+ghost use Rattle.std.specs.Prelude.{◌≡◌, ◌<◌, [], ◌∷◌, ◌++◌, not, List, IfOk, OnOk, OnErr, option_map, codes};
+ghost use Rattle.std.specs.Str.{bytes_eq};
+ghost use Rattle.page_looks.specs.Sending.{without_fresh};
 ghost use Rattle.page_tree.specs.Limits.{nodes};
 ghost use Rattle.page_tree.specs.Number.{place_numbered};
 ghost use Rattle.visit_replay.specs.Form.{sent_to};
 ghost use Rattle.visit_replay.specs.Requests.{load_request, link_request};
-ghost use Rattle.visit_replay.specs.inside.FieldsNow.{IsRequestAt, LeadsElsewhere};
-ghost use Rattle.visit_replay.specs.inside.OneEvent.{IsButton, by_of};
+ghost use Rattle.visit_replay.specs.inside.FieldsNow.{IsRequestAt, LeadsElsewhere, OfEncoded};
+ghost use Rattle.visit_replay.specs.Moved.{what_counts};
+ghost use Rattle.visit_replay.specs.inside.OneEvent.{IsWithin};
 
 use crate::address::bare;
 use crate::comparing::is_sent_to;
+use crate::finding::Finding;
 use crate::forms::{self, Filled};
+use page_looks::without_fresh;
 use page_tree::{NoMemory, Page, Text};
 use std::alloc::Global;
 use std::marker::Model;
@@ -112,7 +117,7 @@ pub(crate) fn request_at(
     target: u32,
 ) -> Result<Option<Request>, NoMemory>
     requires there { target < nodes filled.now.page.now }
-    requires button { IsButton filled.now.page.now (by_of event.now) filled.now.button }
+    requires button { IsWithin filled.now.button filled.now.page.now }
     ensures { IfOk result (IsRequestAt address.now filled.now event.now target) }
 {
     let new = filled.page;
@@ -131,32 +136,84 @@ pub(crate) fn request_at(
 
 /// Whether that of such an event goes to another address than that one. What is sent under post isn't looked at.
 pub(crate) fn leads_elsewhere(
+    alloc: Global,
     address: &str,
     filled: &Filled<'_, '_>,
     event: &Event,
     target: u32,
+    finding: &Finding,
     now: &str,
 ) -> Result<bool, NoMemory>
     requires there { target < nodes filled.now.page.now }
-    requires button { IsButton filled.now.page.now (by_of event.now) filled.now.button }
-    ensures { IfOk result (LeadsElsewhere address.now filled.now event.now target now.now) }
+    requires button { IsWithin filled.now.button filled.now.page.now }
+    ensures { IfOk result (LeadsElsewhere finding.now address.now filled.now event.now target now.now) }
 {
     let page = filled.page;
     match event {
         Event::Input { .. } => Ok(false),
         Event::Click { req: 0, .. } | Event::Submit { req: 0, .. } => Ok(false),
         Event::Click { .. } => match page.attribute_of(target, "href") {
-            Some(href) => Ok(href != now),
+            Some(href) => are_apart(alloc, finding, href, now),
             None => Ok(false),
         },
         Event::Submit { .. } => {
             let action = forms::action_of(address, page, target);
             if forms::is_post(page, target) {
-                return Ok(action != now);
+                return are_apart(alloc, finding, action, now);
             }
-            Ok(!is_sent_to(filled, target, bare(action), now)?)
+            is_query_apart(alloc, filled, target, finding, bare(action), now)
         }
     }
+}
+
+// Whether two addresses differ: but for the values of fresh names, where events find their places by their elements.
+fn are_apart(alloc: Global, finding: &Finding, before: &str, now: &str) -> Result<bool, NoMemory>
+    ensures { IfOk result (λ apart. apart
+        ≡ not (bytes_eq (what_counts finding.now before.now) (what_counts finding.now now.now))) }
+{
+    match finding.names() {
+        None => Ok(before != now),
+        Some(fresh) => differ(alloc, fresh, before, now),
+    }
+}
+
+// The same of what a form sends behind that start.
+fn is_query_apart(
+    alloc: Global,
+    filled: &Filled<'_, '_>,
+    form: u32,
+    finding: &Finding,
+    start: &str,
+    now: &str,
+) -> Result<bool, NoMemory>
+    requires there { form < nodes filled.now.page.now }
+    requires button { IsWithin filled.now.button filled.now.page.now }
+    ensures { IfOk result (λ apart. OfEncoded filled.now form (λ pairs. apart
+        ≡ not (bytes_eq (what_counts finding.now (start.now ++ codes "?" ++ pairs)) (what_counts finding.now now.now)))) }
+{
+    match finding.names() {
+        None => Ok(!is_sent_to(filled, form, start, now)?),
+        Some(fresh) => {
+            let pairs = forms::encoded(alloc, filled, form)?;
+            let sent = with_query(alloc, start, pairs.as_str())?;
+            differ(alloc, fresh, sent.as_str(), now)
+        }
+    }
+}
+
+/// Whether two addresses differ but for the values of these names.
+pub(crate) fn differ(
+    alloc: Global,
+    fresh: &[Text],
+    before: &str,
+    now: &str,
+) -> Result<bool, NoMemory>
+    ensures { IfOk result (λ apart. apart
+        ≡ not (bytes_eq (without_fresh fresh.now before.now) (without_fresh fresh.now now.now))) }
+{
+    let was = without_fresh(alloc, fresh, before)?;
+    let is = without_fresh(alloc, fresh, now)?;
+    Ok(was.as_str() != is.as_str())
 }
 
 // A click sends the address of its link as it is written.
@@ -206,7 +263,8 @@ fn form_request(
     })
 }
 
-fn with_query(alloc: Global, start: &str, query: &str) -> Result<Text, NoMemory>
+/// The start with a query behind it.
+pub(crate) fn with_query(alloc: Global, start: &str, query: &str) -> Result<Text, NoMemory>
     ensures { IfOk result (λ address. address ≡ start.now ++ codes "?" ++ query.now) }
 {
     let mut address = String::with_capacity(alloc, start.len() + 1 + query.len())?;

@@ -1,5 +1,5 @@
 -- A docket has a case for each visit of a log, in their order.
-use Rattle.std.proofs.Common.{◌≡◌, ℕ, ◌+◌, List, [], ◌∷◌, length, map, take, refl, sym, ap, subst, ◌∙◌, arith}
+use Rattle.std.proofs.Common.{◌≡◌, ℕ, ◌+◌, List, [], ◌∷◌, Option, length, map, take, refl, sym, ap, subst, ◌∙◌, arith}
 use Rattle.std.proofs.lemmas.List.{length-take, get_or-take}
 use Rattle.std.proofs.lemmas.Simd.{map-map}
 use Rattle.std.specs.Borrow.{Bor}
@@ -8,6 +8,7 @@ use Rattle.std.specs.declared.alloc.Global.{Global}
 use Rattle.std.specs.List.{zip}
 use Rattle.std.specs.List.Sorted.{IsStrictlyIncreasing}
 use Rattle.std.specs.Map.{keys_of}
+use Rattle.page_tree.specs.Tree.{Tree}
 use Rattle.client_log.specs.declared.visit.Visit.{Visit}
 use Rattle.visit_replay.specs.Following.{outcomes}
 use Rattle.visit_replay.specs.RepairedSite.{RepairedSite}
@@ -19,12 +20,12 @@ use Rattle.warp_run.specs.Repair.{as_case, docket_with, docket_for}
 
 -- ---- the cases of a docket ascend, as the visits do
 
-cases_numbers : (visits : List Visit) (outs : List Outcome)
-    → map (λ case. case.visit) (map as_case (zip visits outs)) ≡ take (length outs) (map (λ visit. visit.number) visits)
-cases_numbers [] [] = refl
-cases_numbers [] (out ∷ outs) = refl
-cases_numbers (visit ∷ visits) [] = refl
-cases_numbers (visit ∷ visits) (out ∷ outs) = ap (λ numbers. visit.number ∷ numbers) (cases_numbers visits outs)
+cases_numbers : (page_of : List ℕ → Option Tree) (same : Option (List (List ℕ))) (visits : List Visit) (outs : List Outcome)
+    → map (λ case. case.visit) (map (as_case page_of same) (zip visits outs)) ≡ take (length outs) (map (λ visit. visit.number) visits)
+cases_numbers page_of same [] [] = refl
+cases_numbers page_of same [] (out ∷ outs) = refl
+cases_numbers page_of same (visit ∷ visits) [] = refl
+cases_numbers page_of same (visit ∷ visits) (out ∷ outs) = ap (λ numbers. visit.number ∷ numbers) (cases_numbers page_of same visits outs)
 
 increasing_front : (n : ℕ) (xs : List ℕ) → IsStrictlyIncreasing xs → IsStrictlyIncreasing (take n xs)
 increasing_front n xs increasing k below =
@@ -34,18 +35,19 @@ increasing_front n xs increasing k below =
     let less = increasing k (omega (arith, size, below)) in
     omega (arith, here, next, less)
 
-pub cases_ascend : (visits : List Visit) (outs : List Outcome) → IsStrictlyIncreasing (map (λ visit. visit.number) visits) → AreAscending (map as_case (zip visits outs))
-cases_ascend visits outs increasing =
-    subst IsStrictlyIncreasing (sym (cases_numbers visits outs)) (increasing_front (length outs) (map (λ visit. visit.number) visits) increasing)
+pub cases_ascend : (page_of : List ℕ → Option Tree) (same : Option (List (List ℕ))) (visits : List Visit) (outs : List Outcome)
+    → IsStrictlyIncreasing (map (λ visit. visit.number) visits) → AreAscending (map (as_case page_of same) (zip visits outs))
+cases_ascend page_of same visits outs increasing =
+    subst IsStrictlyIncreasing (sym (cases_numbers page_of same visits outs)) (increasing_front (length outs) (map (λ visit. visit.number) visits) increasing)
 
 -- ---- what is given back by client makes the defined dockets
 
-abbrev pub by_outcomes : {R : Type 0} → (List ℕ × LaneResult R) × Vec Outcome Global → Docket
-by_outcomes one = docket_with one.0.0 one.0.1.log.log one.1.items
+abbrev pub by_outcomes : {R : Type 0} → (List ℕ → Option Tree) → Option (List (List ℕ)) → (List ℕ × LaneResult R) × Vec Outcome Global → Docket
+by_outcomes page_of same one = docket_with page_of same one.0.0 one.0.1.log.log one.1.items
 
 pub dockets_are : {R : Type 0} (site : RepairedSite) (entries : List (List ℕ × LaneResult R)) (outs : List (Vec Outcome Global))
     → map (λ own. own.items) outs ≡ map (λ entry. outcomes site entry.1.log.log.visits) entries
-    → map by_outcomes (zip entries outs) ≡ map (docket_for site) entries
+    → map (by_outcomes site.page_of site.same) (zip entries outs) ≡ map (docket_for site) entries
 dockets_are site [] outs is = refl
 dockets_are site (entry ∷ entries) [] is = absurd (omega (arith, ap length is))
 dockets_are site (entry ∷ entries) (out ∷ outs) is =

@@ -1,5 +1,5 @@
 -- What a run does, by what was read and written.
-use Rattle.std.proofs.Common.{◌≡◌, ℕ, List, [], ◌∷◌, ◌++◌, length, map, take, drop, Bool, if◌then◌else◌, true≢false, Option, Some, None, refl, sym, ap, subst, ◌∙◌, inl, inr, ◌⊎◌}
+use Rattle.std.proofs.Common.{◌≡◌, ℕ, List, [], ◌∷◌, ◌++◌, length, map, take, drop, Bool, if◌then◌else◌, true≢false, Option, Some, None, refl, sym, ap, ap₂, subst, ◌∙◌, inl, inr, ◌⊎◌}
 use Rattle.std.specs.Prelude.{IfSome, Result, Ok, Err}
 use Rattle.std.specs.List.{list_any, zip}
 use Rattle.std.proofs.lemmas.List.{length-take-le, take-append-drop}
@@ -20,12 +20,14 @@ use Rattle.xpath_child.specs.Path.{Step}
 use Rattle.client_log.specs.Log.{kept_log}
 use Rattle.client_log.specs.declared.visit.Visit.{Visit}
 use Rattle.site_hooks.specs.Table.{is_changed}
+use Rattle.visit_replay.specs.Difference.{difference}
 use Rattle.visit_replay.specs.Form.{bare}
 use Rattle.visit_replay.specs.Outcome.{outcome, on_page}
 use Rattle.visit_replay.specs.declared.outcome.Outcome.{Outcome}
 use Rattle.visit_replay.specs.declared.outcome.Outcome.TheVariants.{Untouched}
 use Rattle.visit_replay.specs.Following.{Replayed, behind_parents, outcomes}
 use Rattle.visit_replay.specs.RepairedSite.{RepairedSite}
+use Rattle.conflict_desk.specs.declared.docket.Case.{Case}
 use Rattle.site_line.specs.Site.{Site as PlainSite}
 use Rattle.site_line.specs.Reading.{AnswersAs, site_quota, site_decisions}
 use Rattle.site_line.specs.declared.site.Site.{Site}
@@ -57,15 +59,16 @@ use Rattle.lanes_in_turn.proofs.EndLaws.{HasEnded}
 
 -- ---- a site that stands for another gives the same outcomes
 
-abbrev outcome_by : Bool → Option Tree → List (List Step) → Visit → Outcome
-outcome_by affected page watched visit = if affected then on_page visit (λ new. list_any (is_changed visit.page new) watched) page else Untouched
+abbrev outcome_by : Bool → Option Tree → List (List Step) → Option (List (List ℕ)) → Visit → Outcome
+outcome_by affected page watched same visit = if affected then on_page same visit (λ new. list_any (is_changed visit.page new) watched) page else Untouched
 
-same_by : (affected affected' : Bool) (page page' : Option Tree) (watched watched' : List (List Step)) (visit : Visit) → affected ≡ affected' → page ≡ page' → watched ≡ watched' → outcome_by affected page watched visit ≡ outcome_by affected' page' watched' visit
-same_by affected affected' page page' watched watched' visit a p w = rw (a, p, w) refl
+same_by : (affected affected' : Bool) (page page' : Option Tree) (watched watched' : List (List Step)) (same same' : Option (List (List ℕ))) (visit : Visit) → affected ≡ affected' → page ≡ page' → watched ≡ watched' → same ≡ same'
+    → outcome_by affected page watched same visit ≡ outcome_by affected' page' watched' same' visit
+same_by affected affected' page page' watched watched' same same' visit a p w s = rw (a, p, w, s) refl
 
 same_outcome : (site : Site) (plain : PlainSite) (visit : Visit) → AnswersAs site plain
     → outcome (repaired_site site) visit ≡ outcome (plain_repaired plain) visit
-same_outcome site plain visit stands = same_by _ _ _ _ _ _ visit (stands.patched (bare visit.address)) (stands.pages visit.address) stands.watched
+same_outcome site plain visit stands = same_by _ _ _ _ _ _ _ _ visit (stands.patched (bare visit.address)) (stands.pages visit.address) stands.watched stands.same
 
 abbrev with_own : RepairedSite → Visit → Replayed
 with_own site visit = (visit, outcome site visit)
@@ -75,9 +78,28 @@ same_own : (site : Site) (plain : PlainSite) (visits : List Visit) → AnswersAs
 same_own site plain [] stands = refl
 same_own site plain (visit ∷ visits) stands = rw (same_outcome site plain visit stands, same_own site plain visits stands) refl
 
+same_outcomes : (site : Site) (plain : PlainSite) (visits : List Visit) → AnswersAs site plain
+    → outcomes (repaired_site site) visits ≡ outcomes (plain_repaired plain) visits
+same_outcomes site plain visits stands =
+    ap (λ same. map (λ one. one.1) (behind_parents same (map (with_own (repaired_site site)) visits))) stands.same
+    ∙ ap (λ own. map (λ one. one.1) (behind_parents plain.same own)) (same_own site plain visits stands)
+
+abbrev case_on : Option (List (List ℕ)) → Option Tree → Visit × Outcome → Case
+case_on same page one = record { visit = one.0.number; parent = one.0.parent; outcome = one.1; difference = difference same one.0 page one.1 }
+
+same_told : (site : Site) (plain : PlainSite) (ones : List (Visit × Outcome)) → AnswersAs site plain
+    → map (as_case (repaired_site site).page_of (repaired_site site).same) ones ≡ map (as_case (plain_repaired plain).page_of (plain_repaired plain).same) ones
+same_told site plain [] stands = refl
+same_told site plain (one ∷ ones) stands =
+    ap₂ (λ (case : Case) (cases : List Case). case ∷ cases)
+    (ap₂ (λ (same : Option (List (List ℕ))) (page : Option Tree). case_on same page one) stands.same (stands.pages one.0.address)) (same_told site plain ones stands)
+
 same_cases : (site : Site) (plain : PlainSite) (visits : List Visit) → AnswersAs site plain
-    → map as_case (zip visits (outcomes (repaired_site site) visits)) ≡ map as_case (zip visits (outcomes (plain_repaired plain) visits))
-same_cases site plain visits stands = ap (λ own. map as_case (zip visits (map (λ one. one.1) (behind_parents own)))) (same_own site plain visits stands)
+    → map (as_case (repaired_site site).page_of (repaired_site site).same) (zip visits (outcomes (repaired_site site) visits))
+    ≡ map (as_case (plain_repaired plain).page_of (plain_repaired plain).same) (zip visits (outcomes (plain_repaired plain) visits))
+same_cases site plain visits stands =
+    ap (λ outs. map (as_case (repaired_site site).page_of (repaired_site site).same) (zip visits outs)) (same_outcomes site plain visits stands)
+    ∙ same_told site plain (zip visits (outcomes (plain_repaired plain) visits)) stands
 
 -- ---- what is made of what was taken is that of the input
 

@@ -1,9 +1,11 @@
 -- What replaying on a repaired site makes of what was gathered: this project's own rule.
 use Rattle.std.specs.Prelude.{ℕ, List, [], map, Option}
 use Rattle.std.specs.List.{zip}
+use Rattle.page_tree.specs.Tree.{Tree}
 use Rattle.upload_reader.specs.declared.ending.Ending.{Ending}
 use Rattle.client_log.specs.Log.{Log, cost_of}
 use Rattle.client_log.specs.declared.visit.Visit.{Visit}
+use Rattle.visit_replay.specs.Difference.{difference}
 use Rattle.visit_replay.specs.Following.{outcomes}
 use Rattle.visit_replay.specs.RepairedSite.{RepairedSite}
 use Rattle.visit_replay.specs.declared.outcome.Outcome.{Outcome}
@@ -24,22 +26,28 @@ summary_by client taken end log =
 abbrev pub summary_of : {R : Type 0} → List ℕ × LaneResult R → ClientSummary
 summary_of entry = summary_by entry.0 entry.1.taken entry.1.end entry.1.log.log
 
--- a visit with its outcome
-abbrev pub as_case : Visit × Outcome → Case
-as_case one = record { visit = one.0.number; parent = one.0.parent; outcome = one.1 }
-
 -- of these clients with these dockets, on which nothing is decided
 abbrev pub new_repaired : Stop → List ClientSummary → List Docket → Repaired
 new_repaired stop clients dockets = record { stop = stop; clients = clients; desk = new_books dockets; decided = [] }
 
--- the visits that the log keeps, with these outcomes
-abbrev pub docket_with : List ℕ → Log → List Outcome → Docket
-docket_with client log outcomes = record { client = client; cases = map as_case (zip log.visits outcomes) }
+module _ (page_of : List ℕ → Option Tree) (same : Option (List (List ℕ))) where
+  -- a visit with its outcome, and what its requests were where they differ
+  abbrev pub as_case : Visit × Outcome → Case
+  as_case one = record {
+    visit = one.0.number;
+    parent = one.0.parent;
+    outcome = one.1;
+    difference = difference same one.0 (page_of one.0.address) one.1;
+  }
+
+  -- the visits that the log keeps, with these outcomes
+  abbrev pub docket_with : List ℕ → Log → List Outcome → Docket
+  docket_with client log outcomes = record { client = client; cases = map as_case (zip log.visits outcomes) }
 
 module _ (site : RepairedSite) where
   -- each visit that the log keeps, with the outcome that it has behind those before it
   abbrev pub docket_by : List ℕ → Log → Docket
-  docket_by client log = docket_with client log (outcomes site log.visits)
+  docket_by client log = docket_with site.page_of site.same client log (outcomes site log.visits)
 
   abbrev pub docket_for : {R : Type 0} → List ℕ × LaneResult R → Docket
   docket_for entry = docket_by entry.0 entry.1.log.log

@@ -10,6 +10,8 @@ use Rattle.upload_reader.specs.declared.ending.Ending.{Ending}
 use Rattle.upload_reader.specs.declared.ending.Ending.TheVariants.{Over, GaveUp}
 use Rattle.upload_reader.specs.declared.lane_fault.LaneEnd.TheVariants.{Bye, Fault}
 use Rattle.visit_replay.specs.Conflict.{conflict_code}
+use Rattle.visit_replay.specs.declared.difference.Contrast.{Contrast}
+use Rattle.visit_replay.specs.declared.difference.Contrast.TheVariants as contrast
 use Rattle.visit_replay.specs.declared.requests.Method.{Method}
 use Rattle.visit_replay.specs.declared.requests.Method.TheVariants.{Load, Get, Post}
 use Rattle.visit_replay.specs.declared.requests.Request.{Request}
@@ -96,6 +98,26 @@ json_string text = compact_text (string text)
 abbrev pub request_line : Request → List ℕ
 request_line r = report_line (request_words r.method (decimal r.number) (json_string r.address) (json_string r.pairs))
 
+-- what a request was, or is now, where that is told
+abbrev pub marked_line : List ℕ → Option Request → List ℕ
+marked_line word told = option_map_or (λ r. word ++ codes " " ++ request_line r) told []
+
+-- each request, and behind it what it was, where it is another now
+abbrev pub told_requests : List (Option Request) → List Request → List ℕ
+told_requests former [] = []
+told_requests [] (r ∷ rest) = request_line r ++ told_requests [] rest
+told_requests (was ∷ former) (r ∷ rest) =
+    request_line r ++ (marked_line (codes "was") was ++ told_requests former rest)
+
+abbrev pub former_of : Option Contrast → List (Option Request)
+former_of (Some (contrast.Done was)) = was
+former_of other = []
+
+-- under a visit that waits since an element has changed (K11): what its event asked for, and what it asks for now
+abbrev pub changed_text : Standing → Option Contrast → List ℕ
+changed_text Waiting (Some (contrast.Changed was now)) = marked_line (codes "was") was ++ marked_line (codes "now") now
+changed_text standing other = []
+
 abbrev pub decision_line : PutDecision → List ℕ
 decision_line put =
     report_line (codes "decide" ∷ put.decision.client ∷ decimal put.decision.visit ∷ choice_word put.decision.choice
@@ -107,8 +129,9 @@ decision_line put =
 -- stand last
 
 abbrev pub visit_text : Book → Case → List ℕ
-visit_text book case =
-    visit_line case.visit (standing_in book case) case.outcome ++ flat_map request_line (standing_requests book case)
+visit_text book case = let standing = standing_in book case in
+    let requests = told_requests (former_of case.difference) (standing_requests book case) in
+    visit_line case.visit standing case.outcome ++ (requests ++ changed_text standing case.difference)
 
 abbrev pub book_text : Book → List ℕ
 book_text book = flat_map (visit_text book) book.cases

@@ -39,7 +39,8 @@ IsReadOf told first now reads = told first now reads × StopsAtEnd reads
 
 -- the site as it is after the repair, as the site line says it
 abbrev pub plain_repaired : Site → RepairedSite
-plain_repaired site = record { page_of = page_of site; signals = λ address. signals_of site; patch = site.patched }
+plain_repaired site = record
+    { page_of = page_of site; signals = λ address. signals_of site; patch = site.patched; same = site.same }
 
 -- Of the messages the log keeps what the site's quota leaves. Its visits are replayed on the site, and then the site's
 -- decisions are made.

@@ -4,7 +4,7 @@ ghost use Rattle.site_hooks.specs.Closures.{AtAddresses, AtPages, MakesBy, Tells
 ghost use Rattle.site_hooks.specs.Table.{table_page, signals_in};
 ghost use Rattle.conflict_desk.specs.Laws.{AllLeaveInOrder, IsInOrder};
 ghost use Rattle.byte_streams.specs.Writing.{WritesNothing, writes_of};
-ghost use Rattle.site_line.specs.Reading.{site_patch};
+ghost use Rattle.site_line.specs.Reading.{site_patch, site_same};
 ghost use Rattle.warp_run.specs.Conclusion.{repaired_site, site_of_table, site_settled};
 ghost use Rattle.warp_run.specs.Repair.{repaired_of};
 ghost use Rattle.warp_run.specs.Report.{WritesReport, report_text};
@@ -96,11 +96,19 @@ fn repair_by<
     requires lawful_maker { MakesBy (table_page table.now) (F.may_make make) }
     requires callable_teller { AtPages (C.can_tell tell) }
     requires lawful_teller { TellsBy (λ _. signals_in table.now) (C.may_tell tell) }
-    ensures repaired { IfOk result (λ it. it ≡ repaired_of (site_of_table table.now (site_patch site.now)) gathered.now) }
+    ensures repaired { IfOk result (λ it. it
+        ≡ repaired_of (site_of_table table.now (site_patch site.now) (site_same site.now)) gathered.now) }
     ensures leave { IfOk result (λ repaired. IsInOrder repaired.desk) }
 {
     let hooks = Closures::new(make, tell, table);
-    match repair(rt, site.workers(), &hooks, site.patch(), gathered) {
+    match repair(
+        rt,
+        site.workers(),
+        &hooks,
+        site.patch(),
+        site.finding(),
+        gathered,
+    ) {
         Ok(repaired) => Ok(repaired),
         Err(_) => Err(AllocError),
     }

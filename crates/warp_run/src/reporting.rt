@@ -1,10 +1,12 @@
 //! The report of what was repaired.
-ghost use Rattle.std.specs.Prelude.{◌≡◌, ◌++◌, IfOk, OnOk, Some, Err, slice_get, string_bytes};
+ghost use Rattle.std.specs.Prelude.{◌≡◌, ◌++◌, IfOk, OnOk, Some, Err, codes, slice_get, string_bytes};
 ghost use Rattle.std.specs.List.{flat_map, list_all};
 ghost use Rattle.json.specs.Run.{is_plain};
 ghost use Rattle.byte_streams.specs.Writing.{writes_of};
 ghost use Rattle.upload_reader.specs.declared.ending.Ending.TheVariants.{Over};
 ghost use Rattle.conflict_desk.specs.Book.{standing_in, standing_requests};
+ghost use Rattle.conflict_desk.specs.declared.decided.Standing.TheVariants.{Waiting};
+ghost use Rattle.warp_run.specs.inside.{first_was, others_behind};
 ghost use Rattle.warp_run.specs.Report as plain;
 ghost use Rattle.warp_run.specs.Report.{WritesReport, report_text};
 
@@ -20,7 +22,7 @@ use page_tree::NoMemory;
 use std::alloc::Global;
 use std::mem;
 use upload_reader::{Ending, LaneEnd};
-use visit_replay::{Method, Outcome, Request};
+use visit_replay::{Contrast, Difference, Method, Outcome, Request};
 
 /// How long a word may be, in bytes, that is looked at byte by byte. The writer of JSON looks at many at once, but makes up to 16 KB ready for each word.
 const MAX_SHORT: usize = 1_024;
@@ -132,8 +134,10 @@ fn add_visit(
     requires { slice_get docket.now.cases place ≡ Some case.now }
     ensures { OnOk result (string_bytes text.new ≡ string_bytes text.old ++ plain.visit_text docket.now case.now) }
 {
-    add_visit_line(text, case.visit, docket.standing_at(place), &case.outcome)?;
-    add_requests(text, docket.requests_at(place))
+    let standing = docket.standing_at(place);
+    add_visit_line(text, case.visit, standing, &case.outcome)?;
+    add_requests(text, former_of(&case.difference), docket.requests_at(place))?;
+    add_changed(text, standing, &case.difference)
 }
 
 fn add_visit_line(
@@ -166,13 +170,107 @@ fn standing_word(standing: Standing) -> &'static str
 
 // ---- requests
 
-fn add_requests(text: &mut String, requests: &[Request]) -> Result<(), NoMemory>
-    ensures { OnOk result (string_bytes text.new ≡ string_bytes text.old ++ flat_map plain.request_line requests.now) }
+// Each, and behind it what it was, where it is another now.
+fn add_requests(
+    text: &mut String,
+    former: &[Option<Request>],
+    requests: &[Request],
+) -> Result<(), NoMemory>
+    ensures { OnOk result (string_bytes text.new ≡ string_bytes text.old
+        ++ plain.told_requests former.now requests.now) }
 {
-    for request in requests {
+    let mut former = former;
+    let mut requests = requests;
+    while let Some((request, rest)) = requests.split_first() {
         add_request(text, request)?;
+        former = add_first(text, former)?;
+        requests = rest;
     }
     Ok(())
+}
+
+// The first of these, if any; it gives the others.
+fn add_first<'f>(
+    text: &mut String,
+    former: &'f [Option<Request>],
+) -> Result<&'f [Option<Request>], NoMemory>
+    ensures text { OnOk result (string_bytes text.new ≡ string_bytes text.old
+        ++ plain.marked_line (codes "was") (first_was former.now)) }
+    ensures others { IfOk result (λ others. others.now ≡ others_behind former.now) }
+{
+    match former.split_first() {
+        None => Ok(former),
+        Some((was, others)) => {
+            add_was(text, was)?;
+            Ok(others)
+        }
+    }
+}
+
+fn former_of(difference: &Difference) -> &[Option<Request>]
+    ensures { result.now ≡ plain.former_of difference.now }
+{
+    match difference.contrast() {
+        Some(Contrast::Done { was }) => was.as_slice(),
+        Some(Contrast::Changed { .. }) => &[],
+        None => &[],
+    }
+}
+
+fn add_changed(
+    text: &mut String,
+    standing: Standing,
+    difference: &Difference,
+) -> Result<(), NoMemory>
+    ensures { OnOk result (string_bytes text.new ≡ string_bytes text.old
+        ++ plain.changed_text standing difference.now) }
+{
+    match standing {
+        Standing::Untouched => Ok(()),
+        Standing::Done => Ok(()),
+        Standing::Waiting => add_waiting(text, difference),
+        Standing::Kept => Ok(()),
+        Standing::Cancelled => Ok(()),
+    }
+}
+
+// Under a visit that waits at K11, what its event asked for, and what it asks for now.
+fn add_waiting(text: &mut String, difference: &Difference) -> Result<(), NoMemory>
+    ensures { OnOk result (string_bytes text.new ≡ string_bytes text.old
+        ++ plain.changed_text Waiting difference.now) }
+{
+    match difference.contrast() {
+        None => Ok(()),
+        Some(Contrast::Done { .. }) => Ok(()),
+        Some(Contrast::Changed { was, now }) => {
+            add_was(text, was)?;
+            add_now(text, now)
+        }
+    }
+}
+
+fn add_was(text: &mut String, was: &Option<Request>) -> Result<(), NoMemory>
+    ensures { OnOk result (string_bytes text.new ≡ string_bytes text.old ++ plain.marked_line (codes "was") was.now) }
+{
+    match was {
+        None => Ok(()),
+        Some(request) => {
+            text.push_str("was ")?;
+            add_request(text, request)
+        }
+    }
+}
+
+fn add_now(text: &mut String, now: &Option<Request>) -> Result<(), NoMemory>
+    ensures { OnOk result (string_bytes text.new ≡ string_bytes text.old ++ plain.marked_line (codes "now") now.now) }
+{
+    match now {
+        None => Ok(()),
+        Some(request) => {
+            text.push_str("now ")?;
+            add_request(text, request)
+        }
+    }
 }
 
 fn add_request(text: &mut String, request: &Request) -> Result<(), NoMemory>

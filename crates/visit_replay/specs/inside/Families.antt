@@ -17,9 +17,10 @@ pub record AreFresh (count : ℕ) (asked : List Asked) : Type 0 where
   pub fresh : (j : ℕ) (one : Asked) → slice_get asked j ≡ Some one → IsFresh one
 
 -- What was found of the requests of the first k visits is so; of the others nothing was looked for yet.
-pub record AreKnown (visits : List Visit) (outcomes : List Outcome) (k : ℕ) (asked : List Asked) : Type 0 where
+pub record AreKnown (same : Option (List (List ℕ))) (visits : List Visit) (outcomes : List Outcome) (k : ℕ)
+    (asked : List Asked) : Type 0 where
   pub right : (j : ℕ) (visit : Visit) (outcome : Outcome) (one : Asked) → j < k → slice_get visits j ≡ Some visit
-      → slice_get outcomes j ≡ Some outcome → slice_get asked j ≡ Some one → IsRight visit outcome one
+      → slice_get outcomes j ≡ Some outcome → slice_get asked j ≡ Some one → IsRight same visit outcome one
   pub fresh : (j : ℕ) (one : Asked) → k ≤ j → slice_get asked j ≡ Some one → IsFresh one
 
 -- the place of a visit's parent, if a request there opened it
@@ -35,14 +36,14 @@ pub record Stands (visits : List Visit) (outcomes : List Outcome) (places : ℕ 
   pub within : (number : ℕ) → IfSome (places number) (λ j. j < length before)
 
 -- whether the parent of the visit there leads elsewhere now
-abbrev pub TellsElsewhere : List Visit → List Outcome → (ℕ → Option ℕ) → ℕ → Bool → Type 0
-TellsElsewhere visits outcomes places k answer =
+abbrev pub TellsElsewhere : Option (List (List ℕ)) → List Visit → List Outcome → (ℕ → Option ℕ) → ℕ → Bool → Type 0
+TellsElsewhere same visits outcomes places k answer =
     (before : List Replayed) (visit : Visit) → Stands visits outcomes places before → slice_get visits k ≡ Some visit
-    → answer ≡ is_elsewhere visit (parent_among before visit)
+    → answer ≡ is_elsewhere same visit (parent_among before visit)
 
 -- the visit there has the outcome now that it has behind those before it
-abbrev pub IsBehind : List Visit → (ℕ → Option ℕ) → ℕ → List Outcome → List Outcome → Type 0
-IsBehind visits places k outcomes outcomes' =
+abbrev pub IsBehind : Option (List (List ℕ)) → List Visit → (ℕ → Option ℕ) → ℕ → List Outcome → List Outcome → Type 0
+IsBehind same visits places k outcomes outcomes' =
     (before : List Replayed) (visit : Visit) (mine : Outcome) → Stands visits outcomes places before
     → slice_get visits k ≡ Some visit → slice_get outcomes k ≡ Some mine
-    → slice_get outcomes' k ≡ Some (outcome_behind before visit mine)
+    → slice_get outcomes' k ≡ Some (outcome_behind same before visit mine)

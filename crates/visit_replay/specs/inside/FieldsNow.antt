@@ -5,15 +5,15 @@ use Rattle.std.specs.Cow.{cow_str_bytes}
 use Rattle.std.specs.List.{filter_map, range_with_len}
 use Rattle.std.specs.Option.{option_map_or}
 use Rattle.page_tree.specs.Number.{place_numbered}
-use Rattle.xpath_child.specs.Path.{Step}
 use Rattle.upload_reader.specs.declared.message.Event.{Event}
 use Rattle.form_urlencoded.specs.Form.{extend_pairs}
 use Rattle.form_urlencoded.specs.Target.{Target}
+use Rattle.visit_replay.specs.Aim.{Aim}
 use Rattle.visit_replay.specs.Form.{Pair, sent_pair, encoded_pairs}
 use Rattle.visit_replay.specs.Moved.{are_apart}
 use Rattle.visit_replay.specs.Requests.{request_at}
 use Rattle.visit_replay.specs.inside.KeptFields.{Keeps, text_now, is_on_now}
-use Rattle.visit_replay.specs.inside.OneEvent.{IsButton}
+use Rattle.visit_replay.specs.inside.OneEvent.{places_numbered}
 use Rattle.visit_replay.specs.declared.requests.Request.{Request}
 use Rattle.visit_replay.specs.declared.forms.Filled.{Filled}
 use Rattle.visit_replay.specs.declared.forms.SentPair.{SentPair}
@@ -41,8 +41,8 @@ with_pairs target pairs = record target { form = extend_pairs target.form pairs 
 -- it is so of the text of the pairs that the form with that number sends
 abbrev pub OfEncoded : Filled → ℕ → (List ℕ → Type 0) → Type 0
 OfEncoded filled form IsSo = let new = filled.page.now in
-    (before : List Event) (by : Option (List Step)) → Keeps filled.fields.now new before
-    → IsButton new by filled.button → IsSo (encoded_pairs new before by (place_numbered form new))
+    (aim : Event → Aim) (before : List Event) → Keeps aim filled.fields.now new before
+    → IsSo (encoded_pairs aim new before (places_numbered filled.button new) (place_numbered form new))
 
 abbrev pub IsEncoded : Filled → ℕ → List ℕ → Type 0
 IsEncoded filled form text = OfEncoded filled form (λ pairs. text ≡ pairs)
@@ -50,14 +50,14 @@ IsEncoded filled form text = OfEncoded filled form (λ pairs. text ≡ pairs)
 -- the request of an event whose target has that number
 abbrev pub IsRequestAt : List ℕ → Filled → Event → ℕ → Option Request → Type 0
 IsRequestAt address filled event target request = let new = filled.page.now in
-    (before : List Event) → Keeps filled.fields.now new before
-    → request ≡ request_at address new before event (place_numbered target new)
+    (aim : Event → Aim) (before : List Event) → Keeps aim filled.fields.now new before
+    → request ≡ request_at aim address new before event (places_numbered filled.button new) (place_numbered target new)
 
 -- whether that goes to another address than this
-abbrev pub LeadsElsewhere : List ℕ → Filled → Event → ℕ → List ℕ → Bool → Type 0
-LeadsElsewhere address filled event target now answer = let new = filled.page.now in
-    (before : List Event) → Keeps filled.fields.now new before
-    → answer ≡ are_apart (request_at address new before event (place_numbered target new)) (Some now)
+abbrev pub LeadsElsewhere : Option (List (List ℕ)) → List ℕ → Filled → Event → ℕ → List ℕ → Bool → Type 0
+LeadsElsewhere same address filled event target now answer = let new = filled.page.now in
+    (aim : Event → Aim) (before : List Event) → Keeps aim filled.fields.now new before → answer ≡ are_apart same
+    (request_at aim address new before event (places_numbered filled.button new) (place_numbered target new)) (Some now)
 
 -- ---- compared with an address
 

@@ -9,6 +9,7 @@ use Rattle.page_tree.specs.Control.{control_at, start_text_at, start_checked_at}
 use Rattle.page_tree.specs.Number.{place_numbered}
 use Rattle.page_tree.specs.declared.control.Control.TheVariants as control
 use Rattle.upload_reader.specs.declared.message.Event.{Event}
+use Rattle.visit_replay.specs.Aim.{Aim}
 use Rattle.visit_replay.specs.Field.{value_before, is_on_before}
 use Rattle.visit_replay.specs.declared.fields.Fields.{Fields}
 
@@ -23,13 +24,13 @@ is_on_now fields new number =
     unwrap_or (get nat_cmp fields.checks number) (start_checked_at (place_numbered number new) new)
 
 -- they hold what these events left at each node
-pub record Keeps (fields : Fields) (new : Tree) (before : List Event) : Type 0 where
+pub record Keeps (aim : Event → Aim) (fields : Fields) (new : Tree) (before : List Event) : Type 0 where
   pub texts : (number : ℕ) → number < nodes new
-      → text_now fields new number ≡ value_before new before (place_numbered number new)
+      → text_now fields new number ≡ value_before aim new before (place_numbered number new)
   pub checks : (number : ℕ) → number < nodes new → control_at (place_numbered number new) new ≡ control.Check
-      → is_on_now fields new number ≡ is_on_before new before (place_numbered number new)
+      → is_on_now fields new number ≡ is_on_before aim new before (place_numbered number new)
 
 -- they take one event more in, whatever went before
-abbrev pub TakesIn : Tree → Event → Fields → Fields → Type 0
-TakesIn new event fields fields' =
-    (before : List Event) → Keeps fields new before → Keeps fields' new (before ++ event ∷ [])
+abbrev pub TakesIn : (Event → Aim) → Tree → Event → Fields → Fields → Type 0
+TakesIn aim new event fields fields' =
+    (before : List Event) → Keeps aim fields new before → Keeps aim fields' new (before ++ event ∷ [])

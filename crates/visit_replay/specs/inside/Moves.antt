@@ -24,18 +24,19 @@ answer_in (Some (Some answer)) = answer
 answer_in other = false
 
 -- what was found is so, and what wasn't yet is of none of the first k events
-pub record IsMet (visit : Visit) (outcome : Outcome) (k : ℕ) (numbers : Numbers) : Type 0 where
+pub record IsMet (same : Option (List (List ℕ))) (visit : Visit) (outcome : Outcome) (k : ℕ) (numbers : Numbers)
+    : Type 0 where
   pub found : (number : ℕ) (answer : Bool) → number ≢ 0 → get nat_cmp numbers number ≡ Some (Some answer)
-      → answer ≡ is_moved visit outcome number
+      → answer ≡ is_moved same visit outcome number
   pub pending : (number : ℕ) → number ≢ 0 → get nat_cmp numbers number ≡ Some None
       → event_numbered (take k visit.events) number ≡ None
 
 -- what was found is so, and once all were looked for, what wasn't found goes nowhere else
-pub record IsRight (visit : Visit) (outcome : Outcome) (asked : Asked) : Type 0 where
+pub record IsRight (same : Option (List (List ℕ))) (visit : Visit) (outcome : Outcome) (asked : Asked) : Type 0 where
   pub found : (number : ℕ) (answer : Bool) → number ≢ 0 → get nat_cmp asked.numbers number ≡ Some (Some answer)
-      → answer ≡ is_moved visit outcome number
+      → answer ≡ is_moved same visit outcome number
   pub missing : asked.looked ≡ true → (number : ℕ) → number ≢ 0 → get nat_cmp asked.numbers number ≡ Some None
-      → is_moved visit outcome number ≡ false
+      → is_moved same visit outcome number ≡ false
 
 -- nothing was looked for yet
 pub record IsFresh (asked : Asked) : Type 0 where
@@ -48,7 +49,8 @@ HasAddresses outcome addresses =
     (number : ℕ) → option_map (λ address. address.now) (get nat_cmp addresses number) ≡ address_now outcome number
 
 -- one event more was looked at
-pub record MeetsOne (visit : Visit) (k : ℕ) (addresses : BTreeMap ℕ (Bor (List ℕ))) (old new : Numbers) : Type 0 where
-  pub met : (outcome : Outcome) → HasAddresses outcome addresses → IsMet visit outcome k old
-      → IsMet visit outcome (k + 1) new
+pub record MeetsOne (names : Option (List (List ℕ))) (visit : Visit) (k : ℕ) (addresses : BTreeMap ℕ (Bor (List ℕ)))
+    (old new : Numbers) : Type 0 where
+  pub met : (outcome : Outcome) → HasAddresses outcome addresses → IsMet names visit outcome k old
+      → IsMet names visit outcome (k + 1) new
   pub same : (number : ℕ) → is_some (get nat_cmp new number) ≡ is_some (get nat_cmp old number)

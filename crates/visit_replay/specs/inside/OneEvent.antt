@@ -1,46 +1,71 @@
 -- One event of a visit that is replayed: the numbers of its nodes, or why it has none, and the walk up to it.
-use Rattle.std.specs.Prelude.{ℕ, ◌≡◌, ◌<◌, List, Option, Some, None, IfSome, option_map, take}
+use Rattle.std.specs.Prelude.{ℕ, ◌≡◌, ◌<◌, List, Option, Some, None, IfSome, option_map, take, Result, Ok, Err}
 use Rattle.page_tree.specs.Tree.{Tree}
 use Rattle.page_tree.specs.Limits.{nodes}
 use Rattle.page_tree.specs.Number.{place_numbered}
-use Rattle.xpath_child.specs.Path.{Step}
-use Rattle.xpath_child.specs.Targets.{target_in}
-use Rattle.xpath_child.specs.declared.path.Target.TheVariants.{One}
 use Rattle.upload_reader.specs.declared.message.Event.{Event}
-use Rattle.upload_reader.specs.declared.message.Event.TheVariants.{Submit}
-use Rattle.visit_replay.specs.Conflict.{path_of, conflict}
-use Rattle.visit_replay.specs.Form.{button_of}
 use Rattle.client_log.specs.declared.visit.Visit.{Visit}
+use Rattle.visit_replay.specs.Aim.{Aim, acts, nowhere, lost, place_of_aim, aim_of}
+use Rattle.visit_replay.specs.Conflict.{conflict}
 use Rattle.visit_replay.specs.Requests.{requests_before}
 use Rattle.visit_replay.specs.inside.KeptFields.{Keeps}
+use Rattle.visit_replay.specs.declared.aims.Aiming.{Aiming}
+use Rattle.visit_replay.specs.declared.aims.Aiming.TheVariants as aiming
 use Rattle.visit_replay.specs.declared.fields.Fields.{Fields}
+use Rattle.visit_replay.specs.declared.outcome.ConflictKind.{ConflictKind}
 use Rattle.visit_replay.specs.declared.requests.Request.{Request}
 use Rattle.visit_replay.specs.declared.conflicts.Located.{Located}
-use Rattle.visit_replay.specs.declared.conflicts.Located.TheVariants.{Bad, At}
+use Rattle.visit_replay.specs.declared.conflicts.Located.TheVariants.{Bad, Idle, At}
 
--- the number is that of the only node that the path selects
-abbrev pub IsNodeOf : List Step → Tree → ℕ → Type 0
-IsNodeOf path new number = (number < nodes new) × (target_in path new ≡ One (place_numbered number new))
+-- the place of a button's number, where there is one
+abbrev pub places_numbered : Option ℕ → Tree → Option (List ℕ)
+places_numbered button new = option_map (λ n. place_numbered n new) button
 
--- the path of the button that was pressed
-abbrev pub by_of : Event → Option (List Step)
-by_of (Submit at target by req) = by
-by_of other = None
+-- what was found, by its place
+abbrev pub placed : Tree → Result ℕ ConflictKind → Result (List ℕ) ConflictKind
+placed new (Ok number) = Ok (place_numbered number new)
+placed new (Err kind) = Err kind
 
--- the number is that of the pressed button, where its path selects one place
-abbrev pub IsButton : Tree → Option (List Step) → Option ℕ → Type 0
-IsButton new by button =
-    IfSome button (λ n. n < nodes new) × (option_map (λ n. place_numbered n new) button ≡ button_of new by)
+-- the number is that of the node that the event acts on
+abbrev pub IsNodeOf : Aim → Tree → ℕ → Type 0
+IsNodeOf aim new number = (number < nodes new) × (place_of_aim aim ≡ Some (place_numbered number new))
 
--- the numbers of its target and of the pressed button, or why it can't be replayed
-abbrev pub Locates : Tree → Tree → Event → Located → Type 0
-Locates old new event (Bad kind) = conflict old new event ≡ Some kind
-Locates old new event (At target button) =
-    (conflict old new event ≡ None) × IsNodeOf (path_of event) new target × IsButton new (by_of event) button
+abbrev pub IsWithin : Option ℕ → Tree → Type 0
+IsWithin button new = IfSome button (λ n. n < nodes new)
+
+-- the numbers of its target and of the pressed button, or that it needs none, or why there are none
+abbrev pub AimsAt : Tree → Aim → Located → Type 0
+AimsAt new aim (Bad kind) = aim ≡ lost kind
+AimsAt new aim Idle = aim ≡ nowhere
+AimsAt new aim (At target button) = (target < nodes new) × IsWithin button new
+    × (aim ≡ acts (place_numbered target new) (places_numbered button new))
+
+-- the same, or why it can't be replayed
+abbrev pub Locates : (Event → Aim) → Tree → Tree → Event → Located → Type 0
+Locates aim old new event (Bad kind) = conflict aim old new event ≡ Some kind
+Locates aim old new event Idle = (conflict aim old new event ≡ None) × (aim event ≡ nowhere)
+Locates aim old new event (At target button) =
+    (conflict aim old new event ≡ None) × AimsAt new (aim event) (At target button)
+
+-- ---- how events find their places
+
+-- the fresh names, where they find them by their elements
+abbrev pub names_aimed : Aiming → Option (List (List ℕ))
+names_aimed aiming.ByPath = None
+names_aimed (aiming.ByElement beside) = Some beside.fresh
+
+-- it is between these two pages
+abbrev pub IsBetween : Aiming → Tree → Tree → Type 0
+IsBetween aiming.ByPath old new = Unit {0}
+IsBetween (aiming.ByElement beside) old new = (beside.old ≡ old) × (beside.new ≡ new)
+
+abbrev pub aimed : Aiming → Tree → Tree → Event → Aim
+aimed aiming old new event = aim_of (names_aimed aiming) old new event
 
 -- ---- all events before it
 
 -- the fields hold what the first n events left, and these are the requests so far
-pub record IsWalked (visit : Visit) (new : Tree) (n : ℕ) (fields : Fields) (made : List Request) : Type 0 where
-  pub kept : Keeps fields new (take n visit.events)
-  pub requests : made ≡ requests_before visit.address new visit.events n
+pub record IsWalked (aim : Event → Aim) (visit : Visit) (new : Tree) (n : ℕ) (fields : Fields) (made : List Request)
+    : Type 0 where
+  pub kept : Keeps aim fields new (take n visit.events)
+  pub requests : made ≡ requests_before aim visit.address new visit.events n

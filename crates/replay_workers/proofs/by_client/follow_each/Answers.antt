@@ -27,9 +27,9 @@ loop-visits-preserved c =
         length-append front next,
         c.in_ok-own.ensures.count,
       );
-      given = subst (IsGivenTo clients others c.args.own.items next)
+      given = subst (IsGivenTo c.args.finding.now clients others c.args.own.items next)
           (sym (ap (map (λ own. own.items)) pushed ∙ map-append (λ own. own.items) c.loop-visits.all.items (c.in_ok-follow_parents.field-0 ∷ [])))
-          (one_given clients others visits c.args.own.items front rest next c.in_ok-follow_parents.field-0.items (map (λ own. own.items) c.loop-visits.all.items)
-          (subst (λ them. IsGivenTo clients them c.args.own.items rest (map (λ own. own.items) c.loop-visits.all.items)) split way.given)
+          (one_given c.args.finding.now clients others visits c.args.own.items front rest next c.in_ok-follow_parents.field-0.items (map (λ own. own.items) c.loop-visits.all.items)
+          (subst (λ them. IsGivenTo c.args.finding.now clients them c.args.own.items rest (map (λ own. own.items) c.loop-visits.all.items)) split way.given)
           c.in_ok-own.ensures.count c.in_ok-own.ensures.front c.in_ok-follow_parents.ensures);
     }

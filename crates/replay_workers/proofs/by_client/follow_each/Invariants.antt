@@ -9,5 +9,5 @@ abbrev pub invariant-loop-visits : goal.invariant-loop-visits
 invariant-loop-visits l = record {
   room : length l.all.items + length (drop l.visits-index l.clients) ≤ vec_capacity l.all;
   enough : length (into_iter_items l.rest) ≡ length (visits_of_all (drop l.visits-index l.clients));
-  given : IsGivenTo l.clients (drop l.visits-index l.clients) l.fn.own.items (into_iter_items l.rest) (map (λ own. own.items) l.all.items);
+  given : IsGivenTo l.finding l.clients (drop l.visits-index l.clients) l.fn.own.items (into_iter_items l.rest) (map (λ own. own.items) l.all.items);
 }

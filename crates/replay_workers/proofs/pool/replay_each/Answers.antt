@@ -11,14 +11,14 @@ use Rattle.replay_workers.proofs.pool.replay_each.Goals as goal
 
 pub place_all-requires-clause-within : goal.place_all-requires-clause-within
 place_all-requires-clause-within g c = λ k d below.
-    let many = own_count (site_by g.H.SiteLaw.page_of g.H.SiteLaw.signals c.args.hooks.now c.args.patch.now) c.args.visits.now in
+    let many = own_count (site_by g.H.SiteLaw.page_of g.H.SiteLaw.signals c.args.hooks.now c.args.patch.now c.args.finding.now) c.args.visits.now in
     let worked = (c.in_ok-shares.ensures.each k d (omega (arith, below, c.in_ok-shares.ensures.len))).1.call.met in
     shares_within (λ done. done.items) _ _ _ _ (length c.as_mut_slice.result.now) (many ∙ omega (arith, c.len.ensures, c.in_ok-own.ensures, ap length c.as_mut_slice.ensures.value)) worked.done
 
 pub close-drawn-requires : goal.close-drawn-requires
 close-drawn-requires g c =
-    let own : List Outcome = own_outcomes (site_by g.H.SiteLaw.page_of g.H.SiteLaw.signals c.args.hooks.now c.args.patch.now) (map (λ visit. visit.now) c.args.visits.now) in
-    let many : length own ≡ length c.args.visits.now = own_count (site_by g.H.SiteLaw.page_of g.H.SiteLaw.signals c.args.hooks.now c.args.patch.now) c.args.visits.now in
+    let own : List Outcome = own_outcomes (site_by g.H.SiteLaw.page_of g.H.SiteLaw.signals c.args.hooks.now c.args.patch.now c.args.finding.now) (map (λ visit. visit.now) c.args.visits.now) in
+    let many : length own ≡ length c.args.visits.now = own_count (site_by g.H.SiteLaw.page_of g.H.SiteLaw.signals c.args.hooks.now c.args.patch.now c.args.finding.now) c.args.visits.now in
     let size : length own ≡ length c.as_mut_slice.result.now = many ∙ omega (arith, c.len.ensures, c.in_ok-own.ensures, ap length c.as_mut_slice.ensures.value) in
     let seats : length c.args.seats.items ≡ c.args.claims.workers = ap length c.requires.fresh ∙ length-replicate c.args.claims.workers (fresh_seat c.args.claims) in
     let back = (c.in_ok-seats.ensures own c.args.claims (size, c.requires.count ∙ sym many)
@@ -27,8 +27,8 @@ close-drawn-requires g c =
 
 pub returns : goal.returns
 returns g c =
-    let own : List Outcome = own_outcomes (site_by g.H.SiteLaw.page_of g.H.SiteLaw.signals c.args.hooks.now c.args.patch.now) (map (λ visit. visit.now) c.args.visits.now) in
-    let many : length own ≡ length c.args.visits.now = own_count (site_by g.H.SiteLaw.page_of g.H.SiteLaw.signals c.args.hooks.now c.args.patch.now) c.args.visits.now in
+    let own : List Outcome = own_outcomes (site_by g.H.SiteLaw.page_of g.H.SiteLaw.signals c.args.hooks.now c.args.patch.now c.args.finding.now) (map (λ visit. visit.now) c.args.visits.now) in
+    let many : length own ≡ length c.args.visits.now = own_count (site_by g.H.SiteLaw.page_of g.H.SiteLaw.signals c.args.hooks.now c.args.patch.now c.args.finding.now) c.args.visits.now in
     let size : length own ≡ length c.as_mut_slice.result.now = many ∙ omega (arith, c.len.ensures, c.in_ok-own.ensures, ap length c.as_mut_slice.ensures.value) in
     let seats : length c.args.seats.items ≡ c.args.claims.workers = ap length c.requires.fresh ∙ length-replicate c.args.claims.workers (fresh_seat c.args.claims) in
     let back = c.in_ok-seats.ensures own c.args.claims (size, c.requires.count ∙ sym many)

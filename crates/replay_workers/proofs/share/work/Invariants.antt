@@ -9,4 +9,4 @@ abbrev pub decreases-loop-alloc : goal.decreases-loop-alloc
 decreases-loop-alloc g l = l.claims.count - next_after l.seat.drawn
 
 abbrev pub invariant-loop-alloc : goal.invariant-loop-alloc
-invariant-loop-alloc g l = IsWorking (λ done. done.items) (own_outcomes (site_by g.H.SiteLaw.page_of g.H.SiteLaw.signals l.hooks l.patch) (map (λ visit. visit.now) l.visits)) l.claims l.fn.seat l.seat l.done
+invariant-loop-alloc g l = IsWorking (λ done. done.items) (own_outcomes (site_by g.H.SiteLaw.page_of g.H.SiteLaw.signals l.hooks l.patch l.finding) (map (λ visit. visit.now) l.visits)) l.claims l.fn.seat l.seat l.done

@@ -26,8 +26,8 @@ returns-in-Some-clause-known c =
     let below : place < c.args.k = parent_within (get nat_cmp c.args.places.now) c.index-visits-k.result place c.args.k c.requires.within (sym c.parent_of.ensures ∙ c.in-Some.is) in
     let v_at = slice_get-get_or visits place c.index-visits-place.result (omega (arith, below, c.requires.there.0)) ∙ ap Some (sym c.index-visits-place.is) in
     let o_at = slice_get-get_or outcomes place c.index-outcomes-place.result (omega (arith, below, c.requires.there.1)) ∙ ap Some (sym c.index-outcomes-place.is) in
-    if_ok c.tell.result _ _ c.tell.ensures.right (λ right. known_set visits outcomes c.args.k place c.args.asked.now c.tell.new.self below c.requires.known (λ v o v_is o_is.
-    subst (λ u. IsRight u o c.tell.new.self) (some_same c.index-visits-place.result v (sym v_at ∙ v_is)) (subst (λ u. IsRight c.index-visits-place.result u c.tell.new.self) (some_same c.index-outcomes-place.result o (sym o_at ∙ o_is)) right)))
+    if_ok c.tell.result _ _ c.tell.ensures.right (λ right. known_set c.args.finding.now visits outcomes c.args.k place c.args.asked.now c.tell.new.self below c.requires.known (λ v o v_is o_is.
+    subst (λ u. IsRight c.args.finding.now u o c.tell.new.self) (some_same c.index-visits-place.result v (sym v_at ∙ v_is)) (subst (λ u. IsRight c.args.finding.now c.index-visits-place.result u c.tell.new.self) (some_same c.index-outcomes-place.result o (sym o_at ∙ o_is)) right)))
 
 pub returns-in-Some-clause-answer : goal.returns-in-Some-clause-answer
 returns-in-Some-clause-answer c =
@@ -42,13 +42,13 @@ returns-in-Some-clause-answer c =
     let at = slice_get-get_or visits c.args.k visit c.requires.there.0 ∙ ap Some (sym c.index-visits-k.is) in
     ok_value c.tell.result _ _ c.tell.ensures.answer (λ answer told before other stands other_at.
     let same = some_same visit other (sym at ∙ other_at) in
-    elsewhere_some visits outcomes (get nat_cmp c.args.places.now) before stands other place c.index-visits-place.result c.index-outcomes-place.result answer
-    (ap (parent_place (get nat_cmp c.args.places.now)) (sym same) ∙ is) v_at o_at (told ∙ ap (λ u. is_moved c.index-visits-place.result c.index-outcomes-place.result u.from) same))
+    elsewhere_some c.args.finding.now visits outcomes (get nat_cmp c.args.places.now) before stands other place c.index-visits-place.result c.index-outcomes-place.result answer
+    (ap (parent_place (get nat_cmp c.args.places.now)) (sym same) ∙ is) v_at o_at (told ∙ ap (λ u. is_moved c.args.finding.now c.index-visits-place.result c.index-outcomes-place.result u.from) same))
 
 pub returns-in-None-clause-answer : goal.returns-in-None-clause-answer
 returns-in-None-clause-answer c = λ before other stands other_at.
     let visit = c.index-visits-k.result in
     let at = slice_get-get_or c.args.visits.now c.args.k visit c.requires.there.0 ∙ ap Some (sym c.index-visits-k.is) in
     let same = some_same visit other (sym at ∙ other_at) in
-    elsewhere_none c.args.visits.now c.args.outcomes.now (get nat_cmp c.args.places.now) before stands other
+    elsewhere_none c.args.finding.now c.args.visits.now c.args.outcomes.now (get nat_cmp c.args.places.now) before stands other
     (ap (parent_place (get nat_cmp c.args.places.now)) (sym same) ∙ sym c.parent_of.ensures ∙ c.in-None.is)

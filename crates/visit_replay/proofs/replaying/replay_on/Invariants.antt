@@ -1,10 +1,12 @@
 use Rattle.std.proofs.Common.{◌≡◌, ℕ, ◌<◌, None}
 use Rattle.visit_replay.specs.Outcome.{conflict_of}
-use Rattle.visit_replay.specs.inside.OneEvent.{IsWalked}
+use Rattle.visit_replay.specs.inside.Differing.{AreLookedUp}
+use Rattle.visit_replay.specs.inside.OneEvent.{IsWalked, aimed}
 use Rattle.visit_replay.proofs.replaying.replay_on.Given as goal
 
 abbrev pub invariant-loop-i : goal.invariant-loop-i
 invariant-loop-i g l = record {
-  walked : IsWalked l.visit l.new l.i l.fields l.requests;
-  good : (k : ℕ) → k < l.i → conflict_of l.visit.page l.new l.visit.events k ≡ None;
+  walked : IsWalked (aimed l.aiming l.visit.page l.new) l.visit l.new l.i l.fields l.requests;
+  known : AreLookedUp l.visit.page l.new l.lookups;
+  good : (k : ℕ) → k < l.i → conflict_of (aimed l.aiming l.visit.page l.new) l.visit.page l.new l.visit.events k ≡ None;
 }

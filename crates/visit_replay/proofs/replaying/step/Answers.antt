@@ -1,10 +1,14 @@
-use Rattle.std.proofs.Common.{◌≡◌, ◌++◌, [], take, get_or, option_and_then, refl, ap, sym, ◌∙◌, rules, arith}
+use Rattle.std.proofs.Common.{◌≡◌, ◌++◌, [], None, take, get_or, option_and_then, refl, ap, sym, ◌∙◌, rules, arith, append-nil}
 use Rattle.std.specs.List.{cons_option}
 use Rattle.std.proofs.lemmas.Grind.{common_steps}
-use Rattle.xpath_child.specs.Targets.{only_place}
-use Rattle.visit_replay.specs.Requests.{event_request, request_at}
-use Rattle.visit_replay.specs.inside.OneEvent.{Locates}
+use Rattle.visit_replay.specs.Aim.{place_of_aim, button_of_aim}
+use Rattle.visit_replay.specs.Requests.{event_request, request_at, requests_before}
+use Rattle.visit_replay.specs.inside.OneEvent.{Locates, aimed}
 use Rattle.visit_replay.specs.declared.conflicts.Located.TheVariants.{At}
+use Rattle.visit_replay.specs.Conflict.{conflict}
+use Rattle.visit_replay.specs.declared.conflicts.Located.TheVariants.{Bad, Idle}
+use Rattle.visit_replay.proofs.Judged.{stands_at}
+use Rattle.visit_replay.proofs.Overlay.{kept_else}
 use Rattle.visit_replay.proofs.Places.{taken_here}
 use Rattle.visit_replay.proofs.Stepping.{requests_more}
 use Rattle.visit_replay.proofs.replaying.step.Goals as goal
@@ -16,11 +20,74 @@ returns-clause-further c =
     let before = take c.args.i visit.events in
     let event = c.index-as_slice-i.result in
     let is : event ≡ get_or visit.events c.args.i event = rw c.as_slice.ensures at c.index-as_slice-i.is in
-    let located : Locates visit.page new event (At c.in-At.target c.in-At.button) = rw c.in-At.is at c.in_ok-kind.ensures in
-    let sent : event_request visit.address new before event ≡ c.in_ok-request.field-0 =
-    ap (λ t. option_and_then (request_at visit.address new before event) (only_place t)) located.1.1 ∙ sym (rw c.as_str.ensures at (c.in_ok-request.ensures before c.requires.so_far.kept)) in
-    let added : c.match-branch-4.requests ≡ c.args.requests.now ++ cons_option c.in_ok-request.field-0 [] = first_of (search rules, grind (arith, common_steps)) in
+    let aim = aimed c.args.aiming.now visit.page new in
+    let located : Locates aim visit.page new event (At c.in-At.target c.in-At.button) = rw c.in-At.is at (c.in_ok-kind.ensures aim c.in_ok-aim.ensures.aims) in
+    let sent : event_request aim visit.address new before event ≡ c.in_ok-request.field-0 =
+    ap (λ a. option_and_then (request_at aim visit.address new before event (button_of_aim a)) (place_of_aim a)) located.1.2 ∙ sym (rw c.as_str.ensures at (c.in_ok-request.ensures aim before c.requires.so_far.kept)) in
+    let added : c.match-branch-5.requests ≡ c.args.requests.now ++ cons_option c.in_ok-request.field-0 [] = first_of (search rules, grind (arith, common_steps)) in
     record {
-      kept = rw (taken_here visit.events c.args.i event c.requires.there is) (c.in_ok-note.ensures before c.requires.so_far.kept);
-      requests = added ∙ rw (requests_more visit.address new visit.events c.args.i event c.requires.there is, sent, c.requires.so_far.requests) refl;
+      kept = rw (taken_here visit.events c.args.i event c.requires.there is) (c.in_ok-note.ensures aim (located.1.0, ap place_of_aim located.1.2) before c.requires.so_far.kept);
+      requests = added ∙ rw (requests_more aim visit.address new visit.events c.args.i event c.requires.there is, sent, c.requires.so_far.requests) refl;
+    }
+
+pub judged-requires-clause-located : goal.judged-requires-clause-located
+judged-requires-clause-located c = (aimed c.args.aiming.now c.args.visit.now.page c.args.new.now c.index-as_slice-i.result, c.in_ok-aim.ensures.aims)
+
+pub returns-in-Bad-clause-conflict : goal.returns-in-Bad-clause-conflict
+returns-in-Bad-clause-conflict c =
+    let visit = c.args.visit.now in
+    let new = c.args.new.now in
+    let event = c.index-as_slice-i.result in
+    let is : event ≡ get_or visit.events c.args.i event = rw c.as_slice.ensures at c.index-as_slice-i.is in
+    let aim = aimed c.args.aiming.now visit.page new in
+    let located : Locates aim visit.page new event (Bad c.in-Bad.kind) = rw c.in-Bad.is at (c.in_ok-kind.ensures aim c.in_ok-aim.ensures.aims) in
+    sym (ap (option_and_then (conflict aim visit.page new)) (stands_at visit c.args.i event c.requires.there is) ∙ located)
+
+pub returns-in-Idle-clause-conflict : goal.returns-in-Idle-clause-conflict
+returns-in-Idle-clause-conflict c =
+    let visit = c.args.visit.now in
+    let new = c.args.new.now in
+    let event = c.index-as_slice-i.result in
+    let is : event ≡ get_or visit.events c.args.i event = rw c.as_slice.ensures at c.index-as_slice-i.is in
+    let aim = aimed c.args.aiming.now visit.page new in
+    let located : Locates aim visit.page new event Idle = rw c.in-Idle.is at (c.in_ok-kind.ensures aim c.in_ok-aim.ensures.aims) in
+    sym (ap (option_and_then (conflict aim visit.page new)) (stands_at visit c.args.i event c.requires.there is) ∙ located.0)
+
+pub returns-clause-conflict : goal.returns-clause-conflict
+returns-clause-conflict c =
+    let visit = c.args.visit.now in
+    let new = c.args.new.now in
+    let event = c.index-as_slice-i.result in
+    let is : event ≡ get_or visit.events c.args.i event = rw c.as_slice.ensures at c.index-as_slice-i.is in
+    let aim = aimed c.args.aiming.now visit.page new in
+    let located : Locates aim visit.page new event (At c.in-At.target c.in-At.button) = rw c.in-At.is at (c.in_ok-kind.ensures aim c.in_ok-aim.ensures.aims) in
+    sym (ap (option_and_then (conflict aim visit.page new)) (stands_at visit c.args.i event c.requires.there is) ∙ located.0)
+
+pub request_at-requires-clause-there : goal.request_at-requires-clause-there
+request_at-requires-clause-there c =
+    let aim = aimed c.args.aiming.now c.args.visit.now.page c.args.new.now in
+    let located : Locates aim c.args.visit.now.page c.args.new.now c.index-as_slice-i.result (At c.in-At.target c.in-At.button) = rw c.in-At.is at (c.in_ok-kind.ensures aim c.in_ok-aim.ensures.aims) in
+    located.1.0
+
+pub request_at-requires-clause-button : goal.request_at-requires-clause-button
+request_at-requires-clause-button c =
+    let aim = aimed c.args.aiming.now c.args.visit.now.page c.args.new.now in
+    let located : Locates aim c.args.visit.now.page c.args.new.now c.index-as_slice-i.result (At c.in-At.target c.in-At.button) = rw c.in-At.is at (c.in_ok-kind.ensures aim c.in_ok-aim.ensures.aims) in
+    located.1.1
+
+pub returns-in-Idle-clause-further : goal.returns-in-Idle-clause-further
+returns-in-Idle-clause-further c =
+    let visit = c.args.visit.now in
+    let new = c.args.new.now in
+    let before = take c.args.i visit.events in
+    let event = c.index-as_slice-i.result in
+    let is : event ≡ get_or visit.events c.args.i event = rw c.as_slice.ensures at c.index-as_slice-i.is in
+    let aim = aimed c.args.aiming.now visit.page new in
+    let located : Locates aim visit.page new event Idle = rw c.in-Idle.is at (c.in_ok-kind.ensures aim c.in_ok-aim.ensures.aims) in
+    let none : event_request aim visit.address new before event ≡ None = ap (λ a. option_and_then (request_at aim visit.address new before event (button_of_aim a)) (place_of_aim a)) located.1 in
+    record {
+      kept = rw (taken_here visit.events c.args.i event c.requires.there is) (kept_else aim c.args.fields.now new event (ap place_of_aim located.1) before c.requires.so_far.kept);
+      requests = sym (requests_more aim visit.address new visit.events c.args.i event c.requires.there is
+          ∙ ap (λ o. requests_before aim visit.address new visit.events c.args.i ++ cons_option o []) none ∙ append-nil (requests_before aim visit.address new visit.events c.args.i)
+          ∙ sym c.requires.so_far.requests);
     }

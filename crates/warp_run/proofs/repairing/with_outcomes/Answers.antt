@@ -15,12 +15,12 @@ returns-clause-dockets g c =
     let made = c.loop-client.dockets.items in
     let rest = into_iter_items c.loop-client.rest in
     let all = c.loop-client.invariant.dockets
-    ∙ ap₂ (λ entries outs. map by_outcomes (zip entries outs))
+    ∙ ap₂ (λ entries outs. map (by_outcomes (g.H.SiteLaw.page_of c.args.hooks.now) c.args.finding.now) (zip entries outs))
     (c.into_iter-client-iterator.ensures.into_iter_gives ∙ c.iter-client-items.ensures.rest) c.into_iter-rest.ensures.rest in
     elim c.match-next.branch [
-      | in-None w ↦ sym (append-nil made) ∙ ap (λ entries. made ++ map by_outcomes (zip entries rest)) (sym w.in-None.ensures.steps.0) ∙ all
+      | in-None w ↦ sym (append-nil made) ∙ ap (λ entries. made ++ map (by_outcomes (g.H.SiteLaw.page_of c.args.hooks.now) c.args.finding.now) (zip entries rest)) (sym w.in-None.ensures.steps.0) ∙ all
       | in-Some+in_default w ↦
           let none : rest ≡ [] = nil_from_length rest (omega (arith, w.in_default.ensures.cases.0, c.loop-client.rest.rest.ok.0)) in
           sym (append-nil made)
-          ∙ ap (λ cases. made ++ map by_outcomes cases) (sym (zip_none c.loop-client.client-iterator) ∙ ap (zip c.loop-client.client-iterator) (sym none)) ∙ all
+          ∙ ap (λ cases. made ++ map (by_outcomes (g.H.SiteLaw.page_of c.args.hooks.now) c.args.finding.now) cases) (sym (zip_none c.loop-client.client-iterator) ∙ ap (zip c.loop-client.client-iterator) (sym none)) ∙ all
     ]

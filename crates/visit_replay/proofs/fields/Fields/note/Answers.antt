@@ -8,8 +8,8 @@ use Rattle.visit_replay.proofs.Overlay.{kept_input, kept_click, kept_submit, tur
 use Rattle.visit_replay.proofs.fields.Fields.note.Goals as goal
 
 pub returns-in_ok-insert-in-Input : goal.returns-in_ok-insert-in-Input
-returns-in_ok-insert-in-Input c =
-    kept_input c.args.self.now (record { texts = c.insert.new.self; checks = c.args.self.now.checks }) c.args.new.now c.args.event.now c.args.number c.as_str.result c.in-Input.is c.as_str.ensures c.requires
+returns-in_ok-insert-in-Input c = λ aim there.
+    kept_input aim c.args.self.now (record { texts = c.insert.new.self; checks = c.args.self.now.checks }) c.args.new.now c.args.event.now c.args.number c.as_str.result c.in-Input.is c.as_str.ensures there
     (λ other. search (rules, c.in_ok-insert-in-Input.ensures.updates.0 other)) refl
 
 pub returns-in_ok-insert-in-Check : goal.returns-in_ok-insert-in-Check
@@ -18,14 +18,14 @@ returns-in_ok-insert-in-Check c =
     let new = c.args.new.now in
     let put : (other : ℕ) → get nat_cmp c.insert-in-Check.new.self other ≡ (if c.args.number == other then Some (not c.is_on-on.result) else get nat_cmp old.checks other) =
     λ other. search (rules, c.in_ok-insert-in-Check.ensures.updates.0 other) in
-    kept_click old (record { texts = old.texts; checks = c.insert-in-Check.new.self }) new c.args.event.now c.args.number c.in-Click.is c.requires refl
+    λ aim there. kept_click aim old (record { texts = old.texts; checks = c.insert-in-Check.new.self }) new c.args.event.now c.args.number c.in-Click.is there refl
     (λ other checkbox. ap (λ o. unwrap_or o (start_checked_at (place_numbered other new) new)) (rw c.is_on-on.ensures at (put other)) ∙ turned_at old new c.args.number other)
 
 pub returns-in_default : goal.returns-in_default
-returns-in_default c = kept_click c.args.self.now c.args.self.now c.args.new.now c.args.event.now c.args.number c.in-Click.is c.requires refl (λ other checkbox. elim (eqb_tells c.args.number other) [
+returns-in_default c = λ aim there. kept_click aim c.args.self.now c.args.self.now c.args.new.now c.args.event.now c.args.number c.in-Click.is there refl (λ other checkbox. elim (eqb_tells c.args.number other) [
   | inl same ↦ absurd (c.in_default.not-Check (c.control_of.ensures ∙ ap (λ n. control_at (place_numbered n c.args.new.now) c.args.new.now) same.1 ∙ checkbox))
   | inr apart ↦ rw apart.0 refl
 ])
 
 pub returns-in-Submit : goal.returns-in-Submit
-returns-in-Submit c = kept_submit c.args.self.now c.args.new.now c.args.event.now c.in-Submit.is
+returns-in-Submit c = λ aim there. kept_submit aim c.args.self.now c.args.new.now c.args.event.now c.in-Submit.is

@@ -1,0 +1,5 @@
+use Rattle.page_looks.specs.inside.Sends.{NumbersLeaves}
+use Rattle.page_looks.proofs.sent_numbers.leaf_numbers.Given as goal
+
+abbrev pub invariant-loop-number : goal.invariant-loop-number
+invariant-loop-number l = NumbersLeaves l.below l.initial.own l.own l.numbers.items l.fresh l.page l.number

@@ -1,0 +1,6 @@
+pub mod Outline
+pub mod Sending
+pub mod SameElement
+pub mod Counterpart
+pub mod Laws
+pub mod inside

@@ -1,0 +1,133 @@
+//! The looks of a page, and what its elements send.
+ghost use Rattle.std.specs.Prelude.{List, ◌≡◌, IfOk};
+ghost use Rattle.page_tree.specs.Tree.{Tree};
+ghost use Rattle.page_looks.specs.inside.Numbering.{KnowsAll};
+ghost use Rattle.page_looks.specs.inside.Kept.{RanksPage};
+
+use crate::beside::Beside;
+use crate::numbering::{Shapes, number_node};
+use crate::ranks::{Ranked, first_places, last_places};
+use crate::sent_numbers::{SentNumbers, numbered_sends};
+use crate::telling::Telling;
+use page_tree::{NoMemory, Page, Text};
+use std::alloc::Global;
+use std::marker::Model;
+
+/// The looks of a page and what its elements send, made once. Contracts see them as the page's tree, and the fresh names, whose values aren't told.
+#[derive(Drop)]
+pub struct Looks<'p> {
+    page: &'p Page,
+    fresh: &'p [Text],
+    shapes: Shapes<'p>,
+    ranked: Ranked,
+    sent_shapes: Shapes<'p>,
+    sent: SentNumbers,
+}
+
+impl<'p> Model for Looks<'p> {
+    ghost use Rattle.std.specs.Prelude.{ℕ, List};
+    ghost use Rattle.std.specs.Coded.{coded×, coded_list, coded_ℕ};
+    ghost use Rattle.page_tree.specs.Tree.{Tree};
+    ghost use Rattle.page_tree.specs.inside.TreeCode.{tree_code};
+    ghost use Rattle.page_looks.specs.inside.Kept.{AreLooksOf, AreSendsOf};
+
+    ghost Value = { Tree × List (List ℕ) };
+
+    ghost coded = { coded× tree_code (coded_list (coded_list coded_ℕ)) };
+
+    ghost view = { λ l. (l.page.now, l.fresh.now) };
+
+    ghost invariant = { λ l. AreLooksOf l.page.now l.shapes l.ranked
+        × AreSendsOf l.fresh.now l.page.now l.sent_shapes l.ranked l.sent };
+}
+
+impl<'p> Looks<'p> {
+    /// Those of a page, with the names whose values differ at each load. The time grows with its size, for a form also with how many nodes stand under it.
+    pub fn of(alloc: Global, page: &'p Page, fresh: &'p [Text]) -> Result<Looks<'p>, NoMemory>
+        ensures { IfOk result (λ looks. looks ≡ (page.now, fresh.now)) }
+    {
+        let below = Shapes::new(alloc);
+        let mut shapes = Shapes::new(alloc);
+        let ranked = ranked_page(alloc, page, &below, &mut shapes)?;
+        let mut sent_shapes = Shapes::new(alloc);
+        let sent = numbered_sends(alloc, page, fresh, &ranked, &below, &mut sent_shapes)?;
+        Ok(Looks {
+            page,
+            fresh,
+            shapes,
+            ranked,
+            sent_shapes,
+            sent,
+        })
+    }
+
+    /// The page.
+    pub fn page(&self) -> &Page
+        ensures { result.now ≡ self.now.0 }
+    {
+        self.page
+    }
+
+    /// The fresh names.
+    pub fn fresh(&self) -> &[Text]
+        ensures { result.now ≡ self.now.1 }
+    {
+        self.fresh
+    }
+
+    /// This page beside a recorded one. The time grows with the sizes of both.
+    pub fn beside<'b>(&'b self, alloc: Global, recorded: &'b Page) -> Result<Beside<'b>, NoMemory>
+        ensures { IfOk result
+            (λ both. both ≡ record { old = recorded.now; new = self.now.0; fresh = self.now.1 }) }
+    {
+        let mut shapes = Shapes::new(alloc);
+        let old = ranked_page(alloc, recorded, &self.shapes, &mut shapes)?;
+        let mut sent_shapes = Shapes::new(alloc);
+        let old_sent = numbered_sends(
+            alloc,
+            recorded,
+            self.fresh,
+            &old,
+            &self.sent_shapes,
+            &mut sent_shapes,
+        )?;
+        Ok(Beside {
+            recorded,
+            repaired: self.page,
+            fresh: self.fresh,
+            old,
+            new: &self.ranked,
+            old_sent,
+            new_sent: &self.sent,
+        })
+    }
+}
+
+// What is kept of a page, whose texts and keys that are not below are put into its own.
+fn ranked_page<'p>(
+    alloc: Global,
+    page: &'p Page,
+    below: &Shapes<'_>,
+    own: &mut Shapes<'p>,
+) -> Result<Ranked, NoMemory>
+    requires { (known : List Tree) × KnowsAll below.now own.old known }
+    ensures { IfOk result (λ r. (known : List Tree) → KnowsAll below.now own.old known
+        → RanksPage below.now own.new known page.now r) }
+{
+    let mut nodes = Vec::new(alloc);
+    let mut looks = Vec::new(alloc);
+    let telling = Telling::Shown;
+    let _root = number_node(alloc, page, 0, &telling, below, own, &mut nodes, &mut looks)?;
+    let ranks = last_places(alloc, nodes.as_slice(), page.node_count() as usize)?;
+    let below_keys = below.keys.len();
+    let own_keys = own.keys.len();
+    let first = first_places(alloc, looks.as_slice(), below_keys + own_keys)?;
+    let last = last_places(alloc, looks.as_slice(), below_keys + own_keys)?;
+    Ok(Ranked {
+        nodes,
+        ranks,
+        looks,
+        first,
+        last,
+    })
+}

@@ -1,0 +1,175 @@
+//! What the nodes of a page send, by numbers.
+ghost use Rattle.std.specs.Prelude.{ℕ, List, ◌≡◌, ◌<◌, ◌==◌, false, if◌then◌else◌, length, set, unwrap_or, IfOk, slice_get};
+ghost use Rattle.page_tree.specs.Tree.{Tree};
+ghost use Rattle.page_tree.specs.Limits.{nodes};
+ghost use Rattle.page_tree.specs.Number.{place_numbered};
+ghost use Rattle.page_looks.specs.Counterpart.{sent_at};
+ghost use Rattle.page_looks.specs.inside.Told.{told_seen};
+ghost use Rattle.page_looks.specs.inside.Ranks.{AreFirst, IsRanked};
+ghost use Rattle.page_looks.specs.inside.Numbering.{KnowsAll};
+ghost use Rattle.page_looks.specs.inside.Sends.{leaf_at, is_true, AreEven, NumbersLeaf, NumbersLeaves};
+ghost use Rattle.page_looks.specs.inside.Kept.{SendsPage};
+
+use crate::numbering::{Shapes, number_node, told_key};
+use crate::ranks::{Ranked, number_at};
+use crate::sending::sent_of;
+use crate::tables::key_number;
+use crate::telling::Telling;
+use page_tree::{NoMemory, Page, Text};
+use std::alloc::Global;
+use std::borrow::CowStr;
+
+/// Equal numbers are those of what sends the same.
+#[derive(Drop)]
+pub(crate) struct SentNumbers {
+    /// By the rank of a seen node what it sends with all that is seen below it.
+    pub all: Vec<u32>,
+    /// By the number of a node what it sends by itself.
+    pub own: Vec<u32>,
+    /// What sends nothing by itself.
+    pub nothing: u32,
+    /// By the number of a look whether all nodes of that look send the same, with all below them.
+    pub even: Vec<bool>,
+}
+
+impl SentNumbers {
+    /// The number of what that node sends by itself, of which there may be none.
+    pub(crate) fn own_at(&self, number: u32) -> u32
+        ensures { result ≡ unwrap_or (slice_get self.now.own.items number) self.now.nothing }
+    {
+        match number_at(self.own.as_slice(), number as usize) {
+            None => self.nothing,
+            Some(own) => own,
+        }
+    }
+
+    /// Whether all nodes of that look send the same.
+    pub(crate) fn is_even(&self, look: u32) -> bool
+        ensures { result ≡ is_true (slice_get self.now.even.items look) }
+    {
+        match self.even.as_slice().get(look as usize) {
+            None => false,
+            Some(even) => *even,
+        }
+    }
+}
+
+/// Numbers what the nodes of a page send, without the values of fresh names.
+pub(crate) fn numbered_sends<'p>(
+    alloc: Global,
+    page: &'p Page,
+    fresh: &[Text],
+    ranked: &Ranked,
+    below: &Shapes<'_>,
+    own: &mut Shapes<'p>,
+) -> Result<SentNumbers, NoMemory>
+    requires ranked { (known : List Tree) × IsRanked page.now known ranked.now }
+    requires knows { (known : List Tree) × KnowsAll below.now own.old known }
+    ensures { IfOk result (λ numbers. (known : List Tree) → KnowsAll below.now own.old known
+        → SendsPage below.now own.new known fresh.now page.now ranked.now.looks.items numbers) }
+{
+    let mut nodes = Vec::new(alloc);
+    let mut all = Vec::new(alloc);
+    let telling = Telling::Sent(fresh);
+    let _root = number_node(alloc, page, 0, &telling, below, own, &mut nodes, &mut all)?;
+    let owns = leaf_numbers(alloc, page, fresh, below, own)?;
+    let nothing = leaf_number(alloc, page, page.node_count(), fresh, below, own)?;
+    let even = even_looks(
+        alloc,
+        ranked.looks.as_slice(),
+        ranked.first.as_slice(),
+        all.as_slice(),
+    )?;
+    Ok(SentNumbers {
+        all,
+        own: owns,
+        nothing,
+        even,
+    })
+}
+
+// The numbers of what the nodes send by themselves, in their order.
+fn leaf_numbers<'p>(
+    alloc: Global,
+    page: &'p Page,
+    fresh: &[Text],
+    below: &Shapes<'_>,
+    own: &mut Shapes<'p>,
+) -> Result<Vec<u32>, NoMemory>
+    ensures { IfOk result (λ numbers. NumbersLeaves below.now own.old own.new numbers.items fresh.now page.now
+        (nodes page.now)) }
+{
+    let mut numbers = Vec::new(alloc);
+    for number in 0..page.node_count() {
+        let own_one = leaf_number(alloc, page, number, fresh, below, own)?;
+        numbers.push(own_one)?;
+    }
+    Ok(numbers)
+}
+
+// The number of what a node sends by itself.
+fn leaf_number<'p>(
+    alloc: Global,
+    page: &'p Page,
+    number: u32,
+    fresh: &[Text],
+    below: &Shapes<'_>,
+    own: &mut Shapes<'p>,
+) -> Result<u32, NoMemory>
+    ensures { IfOk result (λ n. NumbersLeaf below.now own.old own.new n (leaf_at fresh.now page.now number)) }
+{
+    let told = told_by_itself(alloc, page, number, fresh)?;
+    let key = told_key(alloc, "", told.as_slice(), below, own)?;
+    let leaf = key_number(&below.keys, &mut own.keys, key)?;
+    Ok(leaf)
+}
+
+// What the node with that number sends by itself; a text sends nothing.
+#[tactic(auto, using(crate::proofs::SentLaws::named_there, crate::proofs::SentLaws::text_sends, crate::proofs::SentLaws::element_sends))]
+fn told_by_itself<'p>(
+    alloc: Global,
+    page: &'p Page,
+    number: u32,
+    fresh: &[Text],
+) -> Result<Vec<(CowStr<'p, Global>, CowStr<'p, Global>)>, NoMemory>
+    ensures { IfOk result (λ told. told_seen told.items
+        ≡ sent_at fresh.now page.now (place_numbered number page.now)) }
+{
+    match page.name_of(number) {
+        None => Ok(Vec::new(alloc)),
+        Some(name) => {
+            let told = sent_of(alloc, page, number, name, fresh)?;
+            Ok(told)
+        }
+    }
+}
+
+// By the number of a look whether all that look so send the same.
+fn even_looks(
+    alloc: Global,
+    looks: &[u32],
+    first: &[u32],
+    sends: &[u32],
+) -> Result<Vec<bool>, NoMemory>
+    requires first { AreFirst looks.now first.now }
+    requires long { length sends.now ≡ length looks.now }
+    ensures { IfOk result (λ even. AreEven looks.now sends.now even.items) }
+{
+    let mut even = vec![in alloc; true; first.len()]?;
+    for i in 0..looks.len() {
+        let look = looks[i] as usize;
+        let place = first[look] as usize;
+        note_look(&mut even, look, sends[i], sends[place - 1]);
+    }
+    Ok(even)
+}
+
+// Notes what one of that look sends, and what the first one does.
+fn note_look(even: &mut Vec<bool>, look: usize, sends: u32, first: u32)
+    requires { look < length even.old.items }
+    ensures { even.new.items ≡ (if sends == first then even.old.items else set even.old.items look false) }
+{
+    if sends != first {
+        even[look] = false;
+    }
+}

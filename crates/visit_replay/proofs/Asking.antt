@@ -1,0 +1,141 @@
+-- What a visit asked for, event by event.
+use Rattle.std.proofs.Common.{◌≡◌, ◌<◌, ℕ, suc, ◌+◌, length, get_or, subst, List, [], ◌∷◌, ◌++◌, Bool, true, false, ◌&&◌, take, ◌==◌, if◌then◌else◌, is_some, slice_get, codes, Option, Some, None, option_map, option_and_then, refl, sym, ap, ap₂, ◌∙◌, append-nil, arith}
+use Rattle.std.specs.List.{find, filter_map, range_with_len, cons_option}
+use Rattle.std.specs.Option.{option_or}
+use Rattle.std.specs.Str.{bytes_eq}
+use Rattle.std.proofs.lemmas.Bool.{and_parts, and_from}
+use Rattle.std.proofs.lemmas.List.Elements.{filter_map-append}
+use Rattle.std.proofs.lemmas.List.Folds.{find-append}
+use Rattle.std.proofs.lemmas.Option.{slice_get-get_or}
+use Rattle.page_tree.specs.Tree.{Tree}
+use Rattle.page_tree.specs.Number.{place_numbered}
+use Rattle.page_looks.specs.Counterpart.{PagePair}
+use Rattle.page_looks.specs.Sending.{without_fresh}
+use Rattle.page_looks.proofs.CounterpartLaws.{bytes_one, bytes_same}
+use Rattle.xpath_child.specs.Path.{Step}
+use Rattle.xpath_child.specs.Targets.{target_in, only_place}
+use Rattle.xpath_child.specs.declared.path.Target.{Target}
+use Rattle.xpath_child.specs.declared.path.Target.TheVariants.{Missing, One, Several}
+use Rattle.upload_reader.specs.declared.message.Event.{Event}
+use Rattle.client_log.specs.declared.visit.Visit.{Visit}
+use Rattle.visit_replay.specs.Aim.{acts, on_target, path_of, by_of, button_by_path, by_path, by_element, place_of_aim, button_of_aim}
+use Rattle.visit_replay.specs.Difference.{was_asked, are_alike, asks_now, passing_over}
+use Rattle.visit_replay.specs.Requests.{request_at, event_request}
+use Rattle.visit_replay.specs.declared.requests.Request.{Request}
+use Rattle.visit_replay.specs.inside.Differing.{IsTargetOf, Selects, asked_there}
+use Rattle.visit_replay.specs.inside.OneEvent.{places_numbered}
+use Rattle.visit_replay.proofs.FirstOfNumber.{next_if, find_one, stays, comes}
+use Rattle.visit_replay.proofs.Stepping.{range_more}
+
+-- ---- where its path leads
+
+place_led : (page : Tree) (event : Event) → place_of_aim (by_path page event) ≡ only_place (target_in (path_of event) page)
+place_led page event = go (target_in (path_of event) page)
+  where
+    go : (t : Target) → place_of_aim (on_target t (λ place. acts place (button_by_path page (by_of event)))) ≡ only_place t
+    go Missing = refl
+    go (One p) = refl
+    go Several = refl
+
+pub leads_to : (page : Tree) (event : Event) (node : Option ℕ) → Selects page (path_of event) node → IsTargetOf page event node
+leads_to page event None selects = place_led page event ∙ sym selects.1
+leads_to page event (Some n) selects = (selects.0, place_led page event ∙ sym selects.1)
+
+pub selected_one : (page : Tree) (path : List Step) (number : ℕ) → Selects page path (Some number) → target_in path page ≡ One (place_numbered number page)
+selected_one page path number selects = go (target_in path page) selects.1
+  where
+    go : (t : Target) → Some (place_numbered number page) ≡ only_place t → t ≡ One (place_numbered number page)
+    go Missing is = cc
+    go (One p) is = let same : place_numbered number page ≡ p = cc in ap One (sym same)
+    go Several is = cc
+
+pub aims_there : (page : Tree) (event : Event) (target : ℕ) (button : Option ℕ) → IsTargetOf page event (Some target) → places_numbered button page ≡ button_by_path page (by_of event)
+    → by_path page event ≡ acts (place_numbered target page) (places_numbered button page)
+aims_there page event target button leads pressed = go (target_in (path_of event) page) leads.1
+  where
+    go : (t : Target) → place_of_aim (on_target t (λ place. acts place (button_by_path page (by_of event)))) ≡ Some (place_numbered target page)
+        → on_target t (λ place. acts place (button_by_path page (by_of event))) ≡ acts (place_numbered target page) (places_numbered button page)
+    go Missing is = cc
+    go (One p) is = let same : p ≡ place_numbered target page = cc in ap₂ acts same (sym pressed)
+    go Several is = cc
+
+-- ---- there, where the event acts
+
+pub stands_in : (visit : Visit) (events : List Event) (k : ℕ) (event : Event) → events ≡ visit.events → k < length events → event ≡ get_or events k event → slice_get visit.events k ≡ Some event
+stands_in visit events k event are below is = subst (λ them. slice_get them k ≡ Some event) are (slice_get-get_or events k event below ∙ ap Some (sym is))
+
+pub asked_nothing : (visit : Visit) (k : ℕ) (event : Event) → slice_get visit.events k ≡ Some event → place_of_aim (by_path visit.page event) ≡ None → was_asked visit k ≡ None
+asked_nothing visit k event at none =
+    ap (option_and_then (event_request (by_path visit.page) visit.address visit.page (take k visit.events))) at
+    ∙ ap (option_and_then (request_at (by_path visit.page) visit.address visit.page (take k visit.events) event (button_of_aim (by_path visit.page event)))) none
+
+pub asked_here : (visit : Visit) (k : ℕ) (event : Event) → slice_get visit.events k ≡ Some event
+    → asked_there (by_path visit.page) visit visit.page k (by_path visit.page event) ≡ was_asked visit k
+asked_here visit k event at =
+    let here = by_path visit.page event in
+    ap (option_and_then (λ e. option_and_then (request_at (by_path visit.page) visit.address visit.page (take k visit.events) e (button_of_aim here)) (place_of_aim here))) at
+    ∙ sym (ap (option_and_then (event_request (by_path visit.page) visit.address visit.page (take k visit.events))) at)
+
+pub asked_now : (fresh : List (List ℕ)) (visit : Visit) (new : Tree) (k : ℕ) (event : Event) → slice_get visit.events k ≡ Some event
+    → asked_there (by_element fresh visit.page new) visit new k (passing_over visit.page new event) ≡ asks_now fresh visit new k
+asked_now fresh visit new k event at = rw at refl
+
+-- a recorded page beside one whose looks were made
+abbrev pub beside_looks : Tree → Tree × List (List ℕ) → PagePair
+beside_looks old looks = record { old = old; new = looks.0; fresh = looks.1 }
+
+-- ---- by its number
+
+numbered_more : (visit : Visit) (k number : ℕ)
+    → find (λ r. r.number == number) (filter_map (was_asked visit) (range_with_len 0 (k + 1)))
+    ≡ find (λ r. r.number == number) (filter_map (was_asked visit) (range_with_len 0 k) ++ cons_option (was_asked visit k) [])
+numbered_more visit k number =
+    let next : k + 1 ≡ suc k = omega arith in
+    ap (find (λ r. r.number == number)) (rw next (ap (filter_map (was_asked visit)) (range_more 0 k k (omega arith)) ∙ filter_map-append (was_asked visit) (range_with_len 0 k) (k ∷ [])))
+
+pub numbered_none : (visit : Visit) (k number : ℕ) → was_asked visit k ≡ None
+    → find (λ r. r.number == number) (filter_map (was_asked visit) (range_with_len 0 (k + 1)))
+    ≡ find (λ r. r.number == number) (filter_map (was_asked visit) (range_with_len 0 k))
+numbered_none visit k number none =
+    numbered_more visit k number ∙ ap (λ o. find (λ r. r.number == number) (filter_map (was_asked visit) (range_with_len 0 k) ++ cons_option o [])) none
+    ∙ ap (find (λ r. r.number == number)) (append-nil (filter_map (was_asked visit) (range_with_len 0 k)))
+
+numbered_next : (visit : Visit) (k number : ℕ) (request : Request) → was_asked visit k ≡ Some request
+    → find (λ r. r.number == number) (filter_map (was_asked visit) (range_with_len 0 (k + 1)))
+    ≡ option_or (find (λ r. r.number == number) (filter_map (was_asked visit) (range_with_len 0 k))) (next_if (request.number == number) request)
+numbered_next visit k number request is =
+    let p : Request → Bool = λ r. r.number == number in
+    let xs = filter_map (was_asked visit) (range_with_len 0 k) in
+    numbered_more visit k number ∙ ap (λ o. find p (xs ++ cons_option o [])) is ∙ find-append p xs (request ∷ [])
+    ∙ ap (option_or (find p xs)) (find_one p request (request.number == number) refl)
+
+same_option : {X : Type 0} (o : Option X) → option_map (λ x. x) o ≡ o
+same_option None = refl
+same_option (Some x) = refl
+
+module _ (visit : Visit) (k number : ℕ) (request : Request) (is : was_asked visit k ≡ Some request) (kept : ℕ → Option Request)
+    (are : kept number ≡ find (λ r. r.number == number) (filter_map (was_asked visit) (range_with_len 0 k))) where
+  abbrev before : Option Request
+  before = find (λ r. r.number == number) (filter_map (was_asked visit) (range_with_len 0 k))
+
+  pub numbered_stays : is_some (kept request.number) ≡ true → kept number ≡ find (λ r. r.number == number) (filter_map (was_asked visit) (range_with_len 0 (k + 1)))
+  numbered_stays there =
+      stays (λ r. r) before request kept request.number number (are ∙ sym (same_option before)) there
+      ∙ same_option (option_or before (next_if (request.number == number) request)) ∙ sym (numbered_next visit k number request is)
+
+  pub numbered_comes : (new : Option Request) → is_some (kept request.number) ≡ false → new ≡ (if request.number == number then Some request else kept number)
+      → new ≡ find (λ r. r.number == number) (filter_map (was_asked visit) (range_with_len 0 (k + 1)))
+  numbered_comes new none updated =
+      comes (λ r. r) before request kept request.number number (are ∙ sym (same_option before)) request new none (λ same. refl) updated
+      ∙ same_option (option_or before (next_if (request.number == number) request)) ∙ sym (numbered_next visit k number request is)
+
+-- ---- two requests
+
+pub equal_alike : (fresh : List (List ℕ)) (was is : Request) → (bytes_eq was.address is.address && bytes_eq was.pairs is.pairs) ≡ true → are_alike fresh was is ≡ true
+equal_alike fresh was is equal =
+    let (addresses, pairs) = and_parts (bytes_eq was.address is.address) (bytes_eq was.pairs is.pairs) equal in
+    let one : was.address ≡ is.address = bytes_one was.address is.address addresses in
+    let other : was.pairs ≡ is.pairs = bytes_one was.pairs is.pairs pairs in
+    and_from (bytes_eq (without_fresh fresh was.address) (without_fresh fresh is.address)) (bytes_eq (without_fresh fresh (codes "?" ++ was.pairs)) (without_fresh fresh (codes "?" ++ is.pairs)))
+    (bytes_same (without_fresh fresh was.address) (without_fresh fresh is.address) (ap (without_fresh fresh) one))
+    (bytes_same (without_fresh fresh (codes "?" ++ was.pairs)) (without_fresh fresh (codes "?" ++ is.pairs)) (ap (λ sent. without_fresh fresh (codes "?" ++ sent)) other))

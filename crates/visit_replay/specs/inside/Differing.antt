@@ -1,0 +1,71 @@
+-- A visit's own requests, and what was looked up on pages, as the code keeps them while it goes through the events.
+use Rattle.std.specs.Prelude.{ℕ, ◌≡◌, ◌==◌, List, [], All, Option, Some, None, IfSome, map, option_and_then, slice_get, take}
+use Rattle.std.specs.BTreeMap.{BTreeMap, get}
+use Rattle.std.specs.HashMap.{get_by}
+use Rattle.std.specs.List.{find, filter_map, range_with_len}
+use Rattle.std.specs.Option.{option_map_or}
+use Rattle.std.specs.Ordering.{nat_cmp}
+use Rattle.std.specs.Str.{bytes_eq}
+use Rattle.page_tree.specs.Tree.{Tree}
+use Rattle.page_tree.specs.Number.{place_numbered}
+use Rattle.upload_reader.specs.declared.message.Event.{Event}
+use Rattle.client_log.specs.declared.visit.Visit.{Visit}
+use Rattle.xpath_child.specs.Path.{Step}
+use Rattle.xpath_child.specs.Targets.{target_in, only_place}
+use Rattle.visit_replay.specs.Aim.{Aim, place_of_aim, button_of_aim, by_path, hidden_named}
+use Rattle.visit_replay.specs.Difference.{was_asked, are_alike}
+use Rattle.visit_replay.specs.Requests.{request_at}
+use Rattle.visit_replay.specs.declared.comparisons.Comparison.{Comparison}
+use Rattle.visit_replay.specs.declared.known_inputs.KnownInputs.{KnownInputs}
+use Rattle.visit_replay.specs.declared.known_paths.KnownPath.{KnownPath}
+use Rattle.visit_replay.specs.declared.lookups.Lookups.{Lookups}
+use Rattle.visit_replay.specs.declared.named_inputs.NamedInputs.{NamedInputs}
+use Rattle.visit_replay.specs.declared.requests.Request.{Request}
+use Rattle.visit_replay.specs.inside.OneEvent.{IsNodeOf, IsWithin, places_numbered}
+
+-- what the event with k events before it asks for there, where these acted by those aims
+abbrev pub asked_there : (Event → Aim) → Visit → Tree → ℕ → Aim → Option Request
+asked_there aim visit page k here = option_and_then (λ event. option_and_then
+    (request_at aim visit.address page (take k visit.events) event (button_of_aim here)) (place_of_aim here))
+    (slice_get visit.events k)
+
+-- the first of each number among those of the first k events
+abbrev pub HasNumbered : Visit → ℕ → BTreeMap ℕ Request → Type 0
+HasNumbered visit k all = (number : ℕ) → get nat_cmp all number
+    ≡ find (λ r. r.number == number) (filter_map (was_asked visit) (range_with_len 0 k))
+
+-- the number of the only node that the event's path leads to, if there is one
+abbrev pub IsTargetOf : Tree → Event → Option ℕ → Type 0
+IsTargetOf page event None = place_of_aim (by_path page event) ≡ None
+IsTargetOf page event (Some number) = IsNodeOf (by_path page event) page number
+
+-- the same of a path
+abbrev pub Selects : Tree → List Step → Option ℕ → Type 0
+Selects page path node = IsWithin node page × (places_numbered node page ≡ only_place (target_in path page))
+
+abbrev pub KnowsPaths : Tree → List KnownPath → Type 0
+KnowsPaths page paths = All (λ known. Selects page known.path.now known.node) paths
+
+-- the numbers of the hidden inputs of that name
+abbrev pub numbers_named : NamedInputs → Option (List ℕ) → List ℕ
+numbers_named all None = all.nameless.items
+numbers_named all (Some name) =
+    option_map_or (λ numbers. numbers.items) (get_by (λ own. bytes_eq name own.now) all.named) []
+
+-- these are the ones among the children of the node there
+abbrev pub AreHiddenUnder : Tree → List ℕ → NamedInputs → Type 0
+AreHiddenUnder page at all = (name : Option (List ℕ)) →
+    map (λ n. place_numbered n page) (numbers_named all name) ≡ hidden_named name at page
+
+abbrev pub KnowsInputs : Tree → KnownInputs → Type 0
+KnowsInputs page known = (known.page.now ≡ page)
+    × ((parent : ℕ) → IfSome (get nat_cmp known.parents parent) (AreHiddenUnder page (place_numbered parent page)))
+
+-- all of it, on the recorded page and on the repaired one
+abbrev pub AreLookedUp : Tree → Tree → Lookups → Type 0
+AreLookedUp old new lookups = KnowsPaths old lookups.paths.paths.items
+    × KnowsInputs old lookups.recorded × KnowsInputs new lookups.repaired
+
+-- what was found of requests that were compared
+abbrev pub AreCompared : List (List ℕ) → List Comparison → Type 0
+AreCompared fresh all = All (λ one. one.alike ≡ are_alike fresh one.was.now one.is.now) all

@@ -1,0 +1,391 @@
+//! What a visit asked for on the page that it was made on, where that differs from what its replay asks for.
+ghost use Rattle.std.specs.Prelude.{◌≡◌, ◌<◌, ◌≤◌, ◌+◌, [], ◌∷◌, ◌++◌, ◌&&◌, length, map, take, slice_get, Some, IfOk, OnOk, OnErr, option_and_then};
+ghost use Rattle.std.specs.Str.{bytes_eq};
+ghost use Rattle.upload_reader.specs.declared.message.Event.{Event as PlainEvent};
+ghost use Rattle.client_log.specs.declared.visit.Visit.{Visit as PlainVisit};
+ghost use Rattle.visit_replay.specs.Aim.{Aim, by_path};
+ghost use Rattle.visit_replay.specs.Difference.{difference, was_asked, was_other, are_alike, asks_now};
+ghost use Rattle.visit_replay.specs.declared.difference.Contrast.TheVariants.{Changed};
+ghost use Rattle.visit_replay.specs.inside.Differing.{AreCompared, AreLookedUp, HasNumbered, IsTargetOf, asked_there};
+ghost use Rattle.visit_replay.specs.inside.KeptFields.{Keeps, TakesIn};
+ghost use Rattle.visit_replay.specs.inside.OneEvent.{AimsAt, IsBetween, aimed};
+
+use crate::aims::{Aiming, aim_at, button_of, target_of};
+use crate::comparisons::Comparisons;
+use crate::conflicts::Located;
+use crate::difference::{Contrast, Difference, Former};
+use crate::fields::Fields;
+use crate::finding::Finding;
+use crate::forms::Filled;
+use crate::known_paths::KnownPaths;
+use crate::lookups::Lookups;
+use crate::moving::{fields_behind, note_at};
+use crate::outcome::{ConflictKind, Outcome};
+use crate::passing::passing_over;
+use crate::requests::{Request, differ, request_at, with_query};
+use client_log::Visit;
+use page_looks::Looks;
+use page_tree::{NoMemory, Page, Text};
+use site_hooks::SiteHooks;
+use std::alloc::Global;
+use std::collections::BTreeMap;
+use upload_reader::Event;
+
+/// That of a visit with this outcome: where events find their places by their elements, of a visit that is done or stops at K11. A visit that is done is gone
+/// through once more, on its own page, and one that stops up to its conflict, on both.
+pub fn told_difference<H: SiteHooks>(
+    alloc: Global,
+    hooks: &H,
+    finding: &Finding,
+    visit: &Visit,
+    outcome: &Outcome,
+) -> Result<Difference, NoMemory>
+    ensures { IfOk result (λ it. it
+        ≡ difference finding.now visit.now (H.page_of hooks.now visit.now.address) outcome.now) }
+{
+    let Some(fresh) = finding.names() else {
+        return Ok(Difference::none());
+    };
+    match outcome {
+        Outcome::Untouched => Ok(Difference::none()),
+        Outcome::Done { requests } => {
+            let was = all_former(alloc, fresh, visit, requests.as_slice())?;
+            Difference::of(alloc, Contrast::Done { was })
+        }
+        Outcome::Conflict {
+            at,
+            kind: ConflictKind::Changed,
+            ..
+        } => changed(alloc, hooks, fresh, visit, at.saturating_sub(1) as usize),
+        Outcome::Conflict { .. } => Ok(Difference::none()),
+    }
+}
+
+/// The same beside the page that the site has there now, whose looks were made.
+pub fn told_beside(
+    alloc: Global,
+    looks: &Looks<'_>,
+    visit: &Visit,
+    outcome: &Outcome,
+) -> Result<Difference, NoMemory>
+    ensures { IfOk result (λ it. it ≡ difference (Some looks.now.1) visit.now (Some looks.now.0) outcome.now) }
+{
+    match outcome {
+        Outcome::Untouched => Ok(Difference::none()),
+        Outcome::Done { requests } => {
+            let was = all_former(alloc, looks.fresh(), visit, requests.as_slice())?;
+            Difference::of(alloc, Contrast::Done { was })
+        }
+        Outcome::Conflict {
+            at,
+            kind: ConflictKind::Changed,
+            ..
+        } => changed_beside(alloc, looks, visit, at.saturating_sub(1) as usize),
+        Outcome::Conflict { .. } => Ok(Difference::none()),
+    }
+}
+
+// ---- of a visit that is done
+
+// What each of these requests was, where it differs.
+fn all_former(
+    alloc: Global,
+    fresh: &[Text],
+    visit: &Visit,
+    requests: &[Request],
+) -> Result<Former, NoMemory>
+    ensures { IfOk result (λ all. all ≡ map (was_other fresh.now visit.now) requests.now) }
+{
+    let before = requests_by_number(alloc, visit)?;
+    let mut compared = Comparisons::new(alloc);
+    let mut all = Former::new(alloc);
+    for request in requests {
+        let was = other_than(alloc, fresh, &before, request, &mut compared)?;
+        all.push(was)?;
+    }
+    Ok(all)
+}
+
+// The visit's own requests by their numbers, the first of each.
+fn requests_by_number(alloc: Global, visit: &Visit) -> Result<BTreeMap<u64, Request>, NoMemory>
+    ensures { IfOk result (HasNumbered visit.now (length visit.now.events)) }
+{
+    let mut all = BTreeMap::new(alloc);
+    let mut fields = Fields::new(alloc);
+    let mut paths = KnownPaths::new(alloc);
+    let events = visit.events.as_slice();
+    for k in 0..events.len() {
+        let event = &events[k];
+        let target = paths.target_of(&visit.page, event)?;
+        add_request(alloc, visit, &fields, k, event, target, &mut all)?;
+        note_at(&visit.page, event, target, &mut fields)?;
+    }
+    Ok(all)
+}
+
+fn add_request(
+    alloc: Global,
+    visit: &Visit,
+    fields: &Fields<'_>,
+    k: usize,
+    event: &Event,
+    target: Option<u32>,
+    all: &mut BTreeMap<u64, Request>,
+) -> Result<(), NoMemory>
+    requires there { k < length visit.now.events }
+    requires fields { Keeps (by_path visit.now.page) fields.now visit.now.page (take k visit.now.events) }
+    requires event { slice_get visit.now.events k ≡ Some event.now }
+    requires target { IsTargetOf visit.now.page event.now target }
+    ensures { OnOk result (HasNumbered visit.now k all.old → HasNumbered visit.now (k + 1) all.new) }
+{
+    let Some(request) = own_request(alloc, visit, fields, k, event, target)? else {
+        return Ok(());
+    };
+    if all.contains_key(&request.number) {
+        return Ok(());
+    }
+    all.insert(request.number, request)?;
+    Ok(())
+}
+
+// What the event with k events before it asked for at its target, by the fields as these left them.
+fn own_request(
+    alloc: Global,
+    visit: &Visit,
+    fields: &Fields<'_>,
+    k: usize,
+    event: &Event,
+    target: Option<u32>,
+) -> Result<Option<Request>, NoMemory>
+    requires there { k < length visit.now.events }
+    requires fields { Keeps (by_path visit.now.page) fields.now visit.now.page (take k visit.now.events) }
+    requires event { slice_get visit.now.events k ≡ Some event.now }
+    requires target { IsTargetOf visit.now.page event.now target }
+    ensures { IfOk result (λ request. request ≡ was_asked visit.now k) }
+{
+    if event.request() == 0 {
+        return Ok(None);
+    }
+    let Some(target) = target else {
+        return Ok(None);
+    };
+    let button = button_of(&visit.page, event);
+    let located = Located::At { target, button };
+    request_there(alloc, visit, &visit.page, fields, k, located)
+}
+
+// That of the event which acts there on a page as it is filled in.
+fn request_there(
+    alloc: Global,
+    visit: &Visit,
+    page: &Page,
+    fields: &Fields<'_>,
+    k: usize,
+    located: Located,
+) -> Result<Option<Request>, NoMemory>
+    requires there { k < length visit.now.events }
+    requires located { (here : Aim) × AimsAt page.now here located }
+    ensures { IfOk result (λ request. (aim : PlainEvent → Aim) (here : Aim) → AimsAt page.now here located
+        → Keeps aim fields.now page.now (take k visit.now.events)
+        → request ≡ asked_there aim visit.now page.now k here) }
+{
+    let (target, button) = match located {
+        Located::Bad(_kind) => return Ok(None),
+        Located::Idle => return Ok(None),
+        Located::At { target, button } => (target, button),
+    };
+    let filled = Filled {
+        page,
+        fields,
+        button,
+    };
+    let event = &visit.events.as_slice()[k];
+    request_at(alloc, visit.address.as_str(), &filled, event, target)
+}
+
+// What the request was, if that differs.
+fn other_than<'r>(
+    alloc: Global,
+    fresh: &[Text],
+    before: &'r BTreeMap<u64, Request>,
+    is: &'r Request,
+    compared: &mut Comparisons<'r>,
+) -> Result<Option<Request>, NoMemory>
+    requires { AreCompared fresh.now compared.old.all.items }
+    ensures other { IfOk result (λ other. (visit : PlainVisit) → HasNumbered visit (length visit.events) before.now
+        → other ≡ was_other fresh.now visit is.now) }
+    ensures known { OnOk result (AreCompared fresh.now compared.new.all.items) }
+{
+    let Some(was) = before.get(&is.number) else {
+        return Ok(None);
+    };
+    if compared.are_alike(alloc, fresh, was, is)? {
+        return Ok(None);
+    }
+    Ok(Some(copy_of(alloc, was)?))
+}
+
+/// Whether both ask for the same, but for the values of fresh names.
+pub(crate) fn are_alike_but_fresh(
+    alloc: Global,
+    fresh: &[Text],
+    was: &Request,
+    is: &Request,
+) -> Result<bool, NoMemory>
+    ensures { IfOk result (λ alike. alike ≡ are_alike fresh.now was.now is.now) }
+{
+    if differ(alloc, fresh, was.address.as_str(), is.address.as_str())? {
+        return Ok(false);
+    }
+    let before = with_query(alloc, "", was.pairs.as_str())?;
+    let now = with_query(alloc, "", is.pairs.as_str())?;
+    let apart = differ(alloc, fresh, before.as_str(), now.as_str())?;
+    Ok(!apart)
+}
+
+/// Whether they go to one address and send one text.
+pub(crate) fn are_equal(was: &Request, is: &Request) -> bool
+    ensures { result ≡ (bytes_eq was.now.address is.now.address && bytes_eq was.now.pairs is.now.pairs) }
+{
+    was.address.as_str() == is.address.as_str() && was.pairs.as_str() == is.pairs.as_str()
+}
+
+fn copy_of(alloc: Global, request: &Request) -> Result<Request, NoMemory>
+    ensures { IfOk result (λ copy. copy ≡ request.now) }
+{
+    Ok(Request {
+        number: request.number,
+        method: request.method,
+        address: Text::from_str(alloc, request.address.as_str())?,
+        pairs: Text::from_str(alloc, request.pairs.as_str())?,
+    })
+}
+
+// ---- of a visit that stops since an element has changed
+
+// What the event with k events before it asked for, and what it asks for now.
+fn changed<H: SiteHooks>(
+    alloc: Global,
+    hooks: &H,
+    fresh: &[Text],
+    visit: &Visit,
+    k: usize,
+) -> Result<Difference, NoMemory>
+    ensures { IfOk result (λ it. it ≡ Some (Changed (was_asked visit.now k)
+        (option_and_then (λ page. asks_now fresh.now visit.now page k) (H.page_of hooks.now visit.now.address)))) }
+{
+    match hooks.make(visit.address.as_str())? {
+        None => {
+            let was = asked_before(alloc, visit, k)?;
+            Difference::of(alloc, Contrast::Changed { was, now: None })
+        }
+        Some(new) => {
+            let looks = Looks::of(alloc, &new, fresh)?;
+            changed_beside(alloc, &looks, visit, k)
+        }
+    }
+}
+
+// The same beside the page there, whose looks were made.
+fn changed_beside(
+    alloc: Global,
+    looks: &Looks<'_>,
+    visit: &Visit,
+    k: usize,
+) -> Result<Difference, NoMemory>
+    ensures { IfOk result (λ it. it
+        ≡ Some (Changed (was_asked visit.now k) (asks_now looks.now.1 visit.now looks.now.0 k))) }
+{
+    let was = asked_before(alloc, visit, k)?;
+    let now = asks_now(alloc, looks, visit, k)?;
+    Difference::of(alloc, Contrast::Changed { was, now })
+}
+
+fn asked_before(alloc: Global, visit: &Visit, k: usize) -> Result<Option<Request>, NoMemory>
+    ensures { IfOk result (λ request. request ≡ was_asked visit.now k) }
+{
+    let events = visit.events.as_slice();
+    if k >= events.len() {
+        return Ok(None);
+    }
+    let fields = fields_behind(alloc, &visit.page, events, k)?;
+    let event = &events[k];
+    let target = target_of(&visit.page, event);
+    own_request(alloc, visit, &fields, k, event, target)
+}
+
+fn asks_now(
+    alloc: Global,
+    looks: &Looks<'_>,
+    visit: &Visit,
+    k: usize,
+) -> Result<Option<Request>, NoMemory>
+    ensures { IfOk result (λ request. request ≡ asks_now looks.now.1 visit.now looks.now.0 k) }
+{
+    let events = visit.events.as_slice();
+    if k >= events.len() {
+        return Ok(None);
+    }
+    let event = &events[k];
+    if event.request() == 0 {
+        return Ok(None);
+    }
+    let beside = looks.beside(alloc, &visit.page)?;
+    let located = passing_over(&beside, event);
+    let aiming = Aiming::ByElement(beside);
+    let new = looks.page();
+    let fields = fields_beside(alloc, &aiming, visit, new, k)?;
+    request_there(alloc, visit, new, &fields, k, located)
+}
+
+// The fields of the page that stands there now, as the first so many events left them.
+fn fields_beside<'v>(
+    alloc: Global,
+    aiming: &Aiming<'_>,
+    visit: &'v Visit,
+    new: &'v Page,
+    count: usize,
+) -> Result<Fields<'v>, NoMemory>
+    requires between { IsBetween aiming.now visit.now.page new.now }
+    requires count { count ≤ length visit.now.events }
+    ensures { IfOk result (λ fields. Keeps (aimed aiming.now visit.now.page new.now) fields new.now
+        (take count visit.now.events)) }
+{
+    let mut fields = Fields::new(alloc);
+    let mut lookups = Lookups::new(alloc, &visit.page, new);
+    for k in 0..count {
+        let event = &visit.events.as_slice()[k];
+        note_beside(
+            alloc,
+            aiming,
+            &visit.page,
+            new,
+            event,
+            &mut lookups,
+            &mut fields,
+        )?;
+    }
+    Ok(fields)
+}
+
+// Takes in one event more, if it acts somewhere.
+fn note_beside<'v>(
+    alloc: Global,
+    aiming: &Aiming<'_>,
+    old: &Page,
+    new: &Page,
+    event: &'v Event,
+    lookups: &mut Lookups<'v>,
+    fields: &mut Fields<'v>,
+) -> Result<(), NoMemory>
+    requires between { IsBetween aiming.now old.now new.now }
+    requires known { AreLookedUp old.now new.now lookups.old }
+    ensures taken { OnOk result (TakesIn (aimed aiming.now old.now new.now) new.now event.now fields.old fields.new) }
+    ensures known { OnOk result (AreLookedUp old.now new.now lookups.new) }
+{
+    match aim_at(alloc, aiming, old, new, event, lookups)? {
+        Located::Bad(_kind) => Ok(()),
+        Located::Idle => Ok(()),
+        Located::At { target, .. } => fields.note(new, event, target),
+    }
+}

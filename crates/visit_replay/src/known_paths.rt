@@ -1,0 +1,99 @@
+//! The paths that were looked up on a page a short while ago: most events act where one of the last few did.
+ghost use Rattle.std.specs.Prelude.{IfOk, OnOk, IfSome};
+ghost use Rattle.page_tree.specs.Tree.{Tree};
+ghost use Rattle.visit_replay.specs.inside.Differing.{IsTargetOf, KnowsPaths, Selects};
+
+use crate::aims::{only, path_of};
+use page_tree::{NoMemory, Page};
+use std::alloc::Global;
+use upload_reader::Event;
+use xpath_child::Path;
+
+// How many are kept.
+const MOST: usize = 16;
+
+/// A path, and the node that it selects alone.
+#[derive(Drop)]
+pub(crate) struct KnownPath<'v> {
+    pub(crate) path: &'v Path,
+    pub(crate) node: Option<u32>,
+}
+
+/// Some paths that were looked up on one page. Once there are too many, all are forgotten.
+#[derive(Drop)]
+pub(crate) struct KnownPaths<'v> {
+    paths: Vec<KnownPath<'v>>,
+}
+
+impl<'v> KnownPaths<'v> {
+    /// None. It takes no memory.
+    pub(crate) fn new(alloc: Global) -> KnownPaths<'v>
+        ensures { (page : Tree) → KnowsPaths page result.paths.items }
+    {
+        KnownPaths {
+            paths: Vec::new(alloc),
+        }
+    }
+
+    /// The only node of that page that the event's path leads to.
+    pub(crate) fn target_of(
+        &mut self,
+        page: &Page,
+        event: &'v Event,
+    ) -> Result<Option<u32>, NoMemory>
+        requires { KnowsPaths page.now self.old.paths.items }
+        ensures known { OnOk result (KnowsPaths page.now self.new.paths.items) }
+        ensures target { IfOk result (IsTargetOf page.now event.now) }
+    {
+        self.only(page, path_of(event))
+    }
+
+    /// The node of that page that the path selects, if it is the only one.
+    pub(crate) fn only(&mut self, page: &Page, path: &'v Path) -> Result<Option<u32>, NoMemory>
+        requires { KnowsPaths page.now self.old.paths.items }
+        ensures known { OnOk result (KnowsPaths page.now self.new.paths.items) }
+        ensures node { IfOk result (Selects page.now path.now) }
+    {
+        match node_of(self.paths.as_slice(), path) {
+            Some(node) => Ok(node),
+            None => self.look_up(page, path),
+        }
+    }
+
+    /// The same, which needn't be remembered.
+    pub(crate) fn known_or_only(&self, page: &Page, path: &Path) -> Option<u32>
+        requires { KnowsPaths page.now self.now.paths.items }
+        ensures { Selects page.now path.now result }
+    {
+        match node_of(self.paths.as_slice(), path) {
+            Some(node) => node,
+            None => only(path, page),
+        }
+    }
+
+    fn look_up(&mut self, page: &Page, path: &'v Path) -> Result<Option<u32>, NoMemory>
+        requires { KnowsPaths page.now self.old.paths.items }
+        ensures known { OnOk result (KnowsPaths page.now self.new.paths.items) }
+        ensures node { IfOk result (Selects page.now path.now) }
+    {
+        if self.paths.len() >= MOST {
+            self.paths.clear();
+        }
+        let node = only(path, page);
+        self.paths.push(KnownPath { path, node })?;
+        Ok(node)
+    }
+}
+
+// What the path selects, where it is one of these. The last ones are looked at first.
+fn node_of(paths: &[KnownPath<'_>], path: &Path) -> Option<Option<u32>>
+    ensures { IfSome result (λ node. (page : Tree) → KnowsPaths page paths.now → Selects page path.now node) }
+{
+    for i in 0..paths.len() {
+        let known = &paths[paths.len() - 1 - i];
+        if known.path.same(path) {
+            return Some(known.node);
+        }
+    }
+    None
+}

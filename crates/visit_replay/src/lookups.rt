@@ -1,0 +1,30 @@
+//! What was looked up on a recorded page and a repaired one, for the events to come.
+ghost use Rattle.std.specs.Prelude.{OnOk};
+ghost use Rattle.page_tree.specs.Tree.{Tree};
+ghost use Rattle.visit_replay.specs.inside.Differing.{AreLookedUp};
+
+use crate::known_inputs::KnownInputs;
+use crate::known_paths::KnownPaths;
+use page_tree::Page;
+use std::alloc::Global;
+
+/// Paths on the recorded page, and hidden inputs on both.
+#[derive(Drop)]
+pub(crate) struct Lookups<'v> {
+    pub(crate) paths: KnownPaths<'v>,
+    pub(crate) recorded: KnownInputs<'v>,
+    pub(crate) repaired: KnownInputs<'v>,
+}
+
+impl<'v> Lookups<'v> {
+    /// None. It takes no memory.
+    pub(crate) fn new(alloc: Global, old: &'v Page, new: &'v Page) -> Lookups<'v>
+        ensures { AreLookedUp old.now new.now result }
+    {
+        Lookups {
+            paths: KnownPaths::new(alloc),
+            recorded: KnownInputs::new(alloc, old),
+            repaired: KnownInputs::new(alloc, new),
+        }
+    }
+}
