@@ -7,6 +7,7 @@
    a read gives at the most.
    REFUSED_WRITE: how many bytes standard output takes, one a write, before it fails; where a `-` stands before the
    number, before it takes nothing.
+   REFUSED_SYNC: the name of a file; while it is there, each sync of data fails.
    REFUSED_ALLOCATION: the number of an allocation, counted from 1; none is refused where it is 0. A program that `rt
    try --fail-alloc N` built counts its allocations, and refuses the one that it counts as N. COUNTER is that N and,
    behind a `:`, where the count stands in the program; so it is set here, once where the program begins, or, with
@@ -115,6 +116,12 @@ ssize_t write(int file, const void *bytes, size_t size) {
     if (written_bytes == strtoul(at + (*at == '-'), 0, 10)) return *at == '-' ? 0 : (errno = EIO, -1);
     written_bytes++;
     return syscall(SYS_write, file, bytes, 1);
+}
+
+int fdatasync(int file) {
+    const char *name = getenv("REFUSED_SYNC");
+    if (name && access(name, F_OK) == 0) return errno = EIO, -1;
+    return syscall(SYS_fdatasync, file);
 }
 
 static long peak(void) {

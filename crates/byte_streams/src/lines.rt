@@ -1,5 +1,5 @@
 //! Lines that are cut from a source, each when it is asked for.
-ghost use Rattle.std.specs.Prelude.{◌≡◌, ◌+◌, ◌<◌, ◌≤◌, [], length, option_map, Ok, Err, Some, None, IsNone, IfSome, IfOk, IfErr, OnOk, OnErr, MatchResult};
+ghost use Rattle.std.specs.Prelude.{◌≡◌, ◌+◌, ◌<◌, ◌≤◌, nat_lt, [], length, option_map, Ok, Err, Some, None, IsNone, IfSome, IfOk, IfErr, OnOk, OnErr, MatchResult};
 ghost use Rattle.std.specs.List.{position_or_len};
 ghost use Rattle.std.specs.Borrow.{sem};
 ghost use Rattle.std.specs.Io.BufRead.{Rests};
@@ -96,6 +96,13 @@ impl<R: Source> Lines<R> {
         ensures { result ≡ self.now.fault }
     {
         self.fault
+    }
+
+    /// Whether it has bytes that aren't cut yet: behind the input's end, those of a line without its line end.
+    pub fn has_rest(&self) -> bool
+        ensures { result ≡ nat_lt 0 (length (uncut_bytes self.now)) }
+    {
+        !self.uncut().is_empty()
     }
 
     /// The line that the last call of `advance` cut, without its line end. Before the first call, and after a refused one, what it gives is left open.

@@ -25,48 +25,19 @@ fn has_codes(rt: HostRuntime) -> Result<(), Fail> {
     Ok(())
 }
 
-// Q2.
-#[test]
-fn rooms_have_limits(rt: HostRuntime) -> Result<(), Fail> {
-    for items in [0, 65_537, usize::MAX] {
-        assert!(rt; Room::new(items).err() == Some(QueueFault::BadRoom));
-    }
-    for items in [1, 2, 65_536] {
-        assert!(rt; Room::new(items)?.items() == items);
-    }
-    Ok(())
-}
-
 // How many putters there are where so many lanes are opened.
 fn putters(alloc: Global, lanes: u32) -> Result<usize, QueueFault> {
     let (_lanes, _taker, putters) = LaneQueue::<u64>::open(alloc, lanes, Room::new(1)?)?;
     Ok(putters.len())
 }
 
-fn open_state(alloc: Global, lanes: u32, items: usize) -> Result<State, QueueFault> {
-    State::open(alloc, lanes, Room::new(items)?)
-}
-
-fn is_no_count(rt: &impl Abort, alloc: Global, lanes: u32) {
-    assert!(rt; putters(alloc, lanes) == Err(QueueFault::BadLanes));
-    assert!(rt; open_state(alloc, lanes, 1).err() == Some(QueueFault::BadLanes));
-}
-
-fn is_count(rt: &impl Abort, alloc: Global, lanes: u32) -> Result<(), Fail> {
-    assert!(rt; putters(alloc, lanes)? == lanes as usize);
-    let _state = open_state(alloc, lanes, 1)?;
-    Ok(())
-}
-
-// Q1.
+// Q1 and Q2.
 #[test]
-fn lanes_have_limits(rt: HostRuntime) -> Result<(), Fail> {
-    for lanes in [0, 17, u32::MAX] {
-        is_no_count(&rt, rt.alloc(), lanes);
-    }
-    for lanes in [1, 2, 16] {
-        is_count(&rt, rt.alloc(), lanes)?;
-    }
+fn lanes_and_rooms_have_limits(rt: HostRuntime) -> Result<(), Fail> {
+    let alloc = rt.alloc();
+    assert!(rt; putters(alloc, 17) == Err(QueueFault::BadLanes));
+    assert!(rt; State::open(alloc, 0, Room::new(1)?).err() == Some(QueueFault::BadLanes));
+    assert!(rt; Room::new(0).err() == Some(QueueFault::BadRoom));
     Ok(())
 }
 
@@ -84,7 +55,6 @@ pub(crate) enum Answer {
     Item(u32, u64, bool, u64),
     Empty,
     AllEnded,
-    Refused,
 }
 
 pub(crate) fn is(rt: &impl Abort, answer: Answer, want: Answer) {
@@ -197,83 +167,35 @@ fn puts_nothing_where_it_is_closed(rt: HostRuntime) -> Result<(), Fail> {
     Ok(())
 }
 
-#[test]
-fn reckons_what_was_left(rt: HostRuntime) -> Result<(), Fail> {
-    let (lanes, mut taker, mut first, mut second) = two_lanes(rt.alloc(), 4)?;
-    let _ = first.put(&rt, &lanes, 5);
-    let _ = second.put(&rt, &lanes, 6);
-    let _ = first.put(&rt, &lanes, 7);
-    let _ = first.finish(&rt, &lanes, 8);
-    let taken = of_take(taker.take(&rt, &lanes));
-    is(&rt, taken, Answer::Item(0, 0, false, 5));
-    let taken = of_take(taker.take(&rt, &lanes));
-    is(&rt, taken, Answer::Item(1, 0, false, 6));
-    assert_eq!(rt; reckon(&rt, &lanes, &mut taker, first), 2);
-    assert_eq!(rt; reckon(&rt, &lanes, &mut taker, second), 0);
-    Ok(())
-}
-
 // ---- steps
 
-// What is put: its lane, the item, and whether it is the last. Or none, where the front is taken.
-type Tried = Option<(u32, u64, bool)>;
-
-fn step(tried: Tried) -> QueueStep {
-    match tried {
-        Some((lane, item, last)) => QueueStep::Put { lane, item, last },
-        None => QueueStep::Take,
-    }
-}
-
-fn of_step(state: &mut State, step: QueueStep) -> Result<Answer, AllocError> {
-    match state.apply(step)? {
-        Did::Put => Ok(Answer::Done),
-        Did::Refused => Ok(Answer::Refused),
+fn take(state: &mut State) -> Result<Answer, Fail> {
+    match state.apply(QueueStep::Take)? {
         Did::Took(item) => Ok(of_item(&item)),
         Did::Empty => Ok(Answer::Empty),
+        _ => Err(Fail::from("no answer of a take")),
     }
 }
 
-fn goes(rt: &impl Abort, state: &mut State, rows: &[(Tried, Answer)]) -> Result<(), Fail> {
-    for &(tried, want) in rows {
-        is(rt, of_step(state, step(tried))?, want);
-    }
-    Ok(())
-}
-
-const ONE_BY_ONE: &[(Tried, Answer)] = &[
-    (Some((0, 5, false)), Answer::Done),
-    (Some((0, 6, false)), Answer::Refused),
-    (None, Answer::Item(0, 0, false, 5)),
-    (None, Answer::Empty),
-];
-
-// Behind its last item a lane gets no more, and there is no other lane.
-const BEHIND_THE_LAST: &[(Tried, Answer)] = &[
-    (Some((0, 9, false)), Answer::Refused),
-    (Some((1, 9, false)), Answer::Refused),
-    (None, Answer::Empty),
-];
-
+// There is no room for the second item.
 #[test]
 fn steps_as_a_machine(rt: HostRuntime) -> Result<(), Fail> {
-    let mut state = open_state(rt.alloc(), 1, 1)?;
-    goes(&rt, &mut state, ONE_BY_ONE)?;
-    let (last, behind) = (step(Some((0, 7, true))), step(Some((0, 8, false))));
-    state.run(&[last, step(None), behind])?;
-    goes(&rt, &mut state, BEHIND_THE_LAST)
-}
-
-const BEHIND_THE_FIRST: &[(Tried, Answer)] = &[
-    (Some((0, 7, true)), Answer::Done),
-    (None, Answer::Item(1, 0, true, 6)),
-    (None, Answer::Item(0, 1, true, 7)),
-];
-
-#[test]
-fn steps_with_several_items(rt: HostRuntime) -> Result<(), Fail> {
-    let mut state = open_state(rt.alloc(), 2, 2)?;
-    let (first, second) = (step(Some((0, 5, false))), step(Some((1, 6, true))));
-    state.run(&[first, second, step(Some((0, 7, true))), step(None)])?;
-    goes(&rt, &mut state, BEHIND_THE_FIRST)
+    let mut state = State::open(rt.alloc(), 2, Room::new(1)?)?;
+    let (lane, last) = (1, true);
+    let (first, second) = (
+        QueueStep::Put {
+            lane,
+            item: 5,
+            last,
+        },
+        QueueStep::Put {
+            lane: 0,
+            item: 6,
+            last,
+        },
+    );
+    state.run(&[first, second])?;
+    is(&rt, take(&mut state)?, Answer::Item(1, 0, true, 5));
+    is(&rt, take(&mut state)?, Answer::Empty);
+    Ok(())
 }

@@ -133,6 +133,5 @@ fn passes_all_in_order<R: AllocGlobal + Threads + Wait + Abort + Sync>(
 #[test]
 fn passes_the_items_of_sixteen_threads(rt: HostRuntime) -> Result<(), Fail> {
     passes_all_in_order(&rt, 1)?;
-    passes_all_in_order(&rt, 2)?;
     passes_all_in_order(&rt, 64)
 }

@@ -1,8 +1,14 @@
 -- Addresses without the pairs of fresh names.
-use Rattle.std.proofs.Common.{◌≡◌, ◌==◌, ℕ, suc, ◌+◌, ◌<◌, List, [], ◌∷◌, ◌++◌, length, drop, take, filter, not, Bool, true, false, if◌then◌else◌, codes, refl, sym, ◌∙◌, ap, arith, append_assoc, append-nil}
-use Rattle.std.specs.List.{list_any, slice_split, onto_first, position_or_len, before_first, after_first}
+use Rattle.std.proofs.Common.{◌≡◌, ◌==◌, ℕ, suc, ◌+◌, ◌<◌, List, [], ◌∷◌, ◌++◌, length, drop, take, filter, not, Bool, true, false, if◌then◌else◌, codes, refl, sym, ◌∙◌, ap, arith, append_assoc, append-nil, ◌||◌, All, IsUtf8}
+use Rattle.std.proofs.lemmas.Bool.Decides.{nat_tests}
+use Rattle.std.proofs.lemmas.List.Elements.{All-nil, All-cons}
+use Rattle.std.proofs.lemmas.Str.{utf8_lossy-IsUtf8}
+use Rattle.std.specs.List.{list_all, list_any, slice_split, onto_first, position_or_len, before_first, after_first}
+use Rattle.std.specs.Str.Lossy.{utf8_lossy}
+use Rattle.form_urlencoded.specs.Form.{decode, IsPlain}
+use Rattle.form_urlencoded.proofs.FormLemmas.{decode_plain}
 use Rattle.page_looks.specs.Outline.{is_one_of}
-use Rattle.page_looks.specs.Sending.{pair_name, kept_pairs, next_pairs, query_text, without_fresh}
+use Rattle.page_looks.specs.Sending.{pair_name, kept_pairs, next_pairs, query_text, unmarked_without}
 
 -- pairs with a mark before the first, and a `&` before each further one
 abbrev pub marked : List ℕ → List (List ℕ) → List ℕ
@@ -86,8 +92,19 @@ none_marked p (x ∷ xs) is = here (p x) refl (none_marked p xs)
         rw own (rest (omega (arith, later, is)))
 
 pub stays_whole : (fresh : List (List ℕ)) (address : List ℕ) → position_or_len (λ c. c == 63) address ≡ length address
-    → without_fresh fresh address ≡ address
+    → unmarked_without fresh address ≡ address
 stays_whole fresh address none = rw (none_marked (λ c. c == 63) address none) refl
+
+-- ---- names that stand for themselves
+
+are_plain : (name : List ℕ) → list_all (λ c. not (c == 43 || c == 37)) name ≡ true → All IsPlain name
+are_plain [] all = All-nil IsPlain
+are_plain (c ∷ rest) all =
+    All-cons IsPlain c rest ((λ plus. grind (arith, nat_tests)), (λ percent. grind (arith, nat_tests))) (are_plain rest (grind (arith, nat_tests)))
+
+pub is_read_as_written : (name : List ℕ) → IsUtf8 name → list_all (λ c. not (c == 43 || c == 37)) name ≡ true
+    → utf8_lossy (decode name) ≡ name
+is_read_as_written name text plain = ap utf8_lossy (decode_plain name (are_plain name plain)) ∙ utf8_lossy-IsUtf8 name text
 
 -- ---- the loop over pairs
 

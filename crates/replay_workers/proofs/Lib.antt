@@ -6,3 +6,4 @@ pub mod Working
 pub mod Placing
 pub mod ByClient
 pub mod Named
+pub mod Ordering

@@ -27,7 +27,7 @@ set_there (y ∷ xs) zero x (suc j) other = refl
 set_there (y ∷ xs) (suc k) x zero other = refl
 set_there (y ∷ xs) (suc k) x (suc j) other = set_there xs k x j (λ same. other (ap suc same))
 
-times_push : (x : ℕ) (drawn : List ℕ) (n : ℕ) → times x (drawn ++ n ∷ []) ≡ times x drawn + cond {A = ℕ} (n == x) 1 0
+pub times_push : (x : ℕ) (drawn : List ℕ) (n : ℕ) → times x (drawn ++ n ∷ []) ≡ times x drawn + cond {A = ℕ} (n == x) 1 0
 times_push x drawn n = sum_by_push (λ y. cond {A = ℕ} (y == x) 1 0) drawn n
 
 -- one outcome comes to its place

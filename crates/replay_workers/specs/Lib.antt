@@ -1,5 +1,5 @@
 pub mod Fault
 pub mod Draws
 pub mod Work
-pub mod SiteLooks
+pub mod SitePages
 pub mod inside

@@ -1,4 +1,5 @@
 pub mod Rule
 pub mod Seats
 pub mod Shares
+pub mod Ordered
 pub mod Clients

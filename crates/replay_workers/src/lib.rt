@@ -7,17 +7,20 @@
 mod by_client;
 mod claims;
 mod fault;
+mod in_order;
+mod last_page;
 mod pool;
 mod rule;
 mod seat;
 mod share;
-mod site_looks;
+mod site_pages;
 mod view;
 
 pub use claims::Claims;
 pub use fault::PoolFault;
+pub use last_page::{LastPage, PageThere};
 pub use pool::replay_all;
 pub use seat::Seat;
 pub use share::{Done, Share, work};
-pub use site_looks::{PageAt, SiteLooks, pages_of};
+pub use site_pages::{PageAt, SitePages, pages_of};
 pub use visit_replay::MAX_WORKERS;

@@ -9,15 +9,16 @@ ghost use Rattle.replay_workers.specs.Draws.{fresh_seat};
 ghost use Rattle.visit_replay.specs.Limits.{AreWorkers};
 ghost use Rattle.replay_workers.specs.Work.{own_outcomes, IsShare};
 ghost use Rattle.replay_workers.specs.inside.Shares.{PlacesAll, PlacesThese};
-ghost use Rattle.replay_workers.specs.SiteLooks.{AreSiteLooks};
+ghost use Rattle.replay_workers.specs.SitePages.{ArePagesOf};
 ghost use Rattle.replay_workers.specs.declared.fault.PoolFault.TheVariants.{BadWorkers, NoMemory};
 
 use crate::by_client::{follow_each, in_one_list};
 use crate::claims::Claims;
 use crate::fault::PoolFault;
+use crate::in_order::{by_address, by_number, visits_of};
 use crate::seat::Seat;
 use crate::share::{Done, Share, work};
-use crate::site_looks::{SiteLooks, pages_of};
+use crate::site_pages::{SitePages, pages_of};
 use crate::view::Terms;
 use client_log::Visit;
 use site_hooks::SiteHooks;
@@ -59,8 +60,31 @@ pub fn replay_all<H: SiteHooks, R: AllocGlobal + Threads + Sync>(
     Ok(follow_each(rt.alloc(), finding, clients, own)?)
 }
 
-// What each visit gives by itself. No thread is started where there are none.
+// What each visit gives by itself. Where events go by their elements, those to one page are replayed one after another.
 fn replay_listed<H: SiteHooks, R: Threads + Sync>(
+    rt: &R,
+    alloc: Global,
+    workers: u32,
+    hooks: &H,
+    patch: &Patch,
+    finding: &Finding,
+    visits: &[&Visit],
+) -> Result<Vec<Outcome>, AllocError>
+    requires { AreWorkers workers }
+    ensures { IfOk result (λ own. own.items ≡
+        own_outcomes (site_by H.page_of H.signals hooks.now patch.now finding.now) (map (λ visit. visit.now) visits.now)) }
+{
+    if finding.names().is_none() {
+        return replay_in_turn(rt, alloc, workers, hooks, patch, finding, visits);
+    }
+    let all = by_address(alloc, visits)?;
+    let sorted = visits_of(alloc, all.as_slice())?;
+    let own = replay_in_turn(rt, alloc, workers, hooks, patch, finding, sorted.as_slice())?;
+    by_number(alloc, visits, all.as_slice(), own)
+}
+
+// The same in the order of the list. No thread is started where there are none.
+fn replay_in_turn<H: SiteHooks, R: Threads + Sync>(
     rt: &R,
     alloc: Global,
     workers: u32,
@@ -77,11 +101,10 @@ fn replay_listed<H: SiteHooks, R: Threads + Sync>(
         return Ok(Vec::new(alloc));
     }
     let pages = pages_of(alloc, hooks, patch, finding, visits)?;
-    let looks = SiteLooks::of(alloc, pages.as_slice(), finding)?;
     let count = visits.len() as u64;
     let (claims, seats) = Claims::under(alloc, Terms { count, workers })?;
     replay_each(
-        rt, alloc, hooks, patch, finding, &looks, visits, claims, seats,
+        rt, alloc, hooks, patch, finding, &pages, visits, claims, seats,
     )
 }
 
@@ -92,12 +115,12 @@ fn replay_each<H: SiteHooks, R: Threads + Sync>(
     hooks: &H,
     patch: &Patch,
     finding: &Finding,
-    looks: &SiteLooks<'_>,
+    pages: &SitePages<'_>,
     visits: &[&Visit],
     claims: Claims,
     seats: Vec<Seat>,
 ) -> Result<Vec<Outcome>, AllocError>
-    requires known { AreSiteLooks (H.page_of hooks.now) finding.now looks.now.all.items }
+    requires pages { ArePagesOf (H.page_of hooks.now) pages.now.all.items }
     requires fresh { seats.items ≡ replicate claims.workers (fresh_seat claims) }
     requires some { 1 ≤ claims.workers }
     requires count { claims.count ≡ length visits.now }
@@ -112,19 +135,20 @@ fn replay_each<H: SiteHooks, R: Threads + Sync>(
         seats,
         &|seat| -> Share
             requires { (seat ≡ fresh_seat lent.now) × (lent.now.count ≡ length visits.now)
-                × AreSiteLooks (H.page_of hooks.now) finding.now looks.now.all.items }
+                × ArePagesOf (H.page_of hooks.now) pages.now.all.items }
             ensures { IsShare
                 (own_outcomes (site_by H.page_of H.signals hooks.entry.now patch.entry.now finding.entry.now)
                 (map (λ visit. visit.now) visits.entry.now))
                 lent.entry.now (fresh_seat lent.entry.now) result }
-        { work(alloc, hooks, patch, finding, looks, visits, lent, seat) },
+        { work(alloc, hooks, patch, finding, pages, visits, lent, seat) },
     )?;
     let seats = place_all(shares, own.as_mut_slice(), room)?;
     let _drawn = claims.close(seats);
     Ok(own)
 }
 
-fn untouched(alloc: Global, count: usize) -> Result<Vec<Outcome>, AllocError>
+/// As many outcomes, which say nothing yet.
+pub(crate) fn untouched(alloc: Global, count: usize) -> Result<Vec<Outcome>, AllocError>
     ensures { IfOk result (λ all. length all.items ≡ count) }
 {
     let mut all = Vec::with_capacity(alloc, count)?;
@@ -155,8 +179,8 @@ fn place_all(
     Ok(seats)
 }
 
-// Puts these outcomes at their places.
-fn place(all: &mut [Outcome], done: Vec<Done>)
+/// Puts these outcomes at their places.
+pub(crate) fn place(all: &mut [Outcome], done: Vec<Done>)
     requires { All (λ one. one.number < length all.old) done.items }
     ensures { PlacesThese done.items all.old all.new }
 {

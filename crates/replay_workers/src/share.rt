@@ -3,18 +3,18 @@ ghost use Rattle.std.specs.Prelude.{◌≡◌, ◌<◌, false, length, map, IfOk
 ghost use Rattle.replay_workers.specs.Draws.{IsSeatOf, is_spent};
 ghost use Rattle.replay_workers.specs.Work.{own_outcomes, IsShare};
 ghost use Rattle.replay_workers.specs.inside.Shares.{HasNext};
-ghost use Rattle.replay_workers.specs.SiteLooks.{AreSiteLooks};
-ghost use Rattle.visit_replay.specs.Outcome.{outcome};
+ghost use Rattle.replay_workers.specs.SitePages.{ArePagesOf, IsLastOf};
 ghost use Rattle.visit_replay.specs.RepairedSite.{site_by};
 
 use crate::claims::Claims;
+use crate::last_page::LastPage;
 use crate::seat::Seat;
-use crate::site_looks::SiteLooks;
+use crate::site_pages::SitePages;
 use client_log::Visit;
 use page_tree::NoMemory;
 use site_hooks::SiteHooks;
 use std::alloc::Global;
-use visit_replay::{Finding, Outcome, Patch, replay, replay_beside};
+use visit_replay::{Finding, Outcome, Patch};
 
 /// A visit's number in the list with what the visit gives by itself.
 #[derive(Debug, Drop)]
@@ -32,18 +32,18 @@ pub struct Share {
     pub done: Result<Vec<Done>, NoMemory>,
 }
 
-/// Draws until the seat is spent, and replays each visit whose number it drew, without a wait. Where memory is refused, the rest is drawn all the same.
-pub fn work<H: SiteHooks>(
+/// Draws until the seat is spent, and replays each visit whose number it drew, without a wait. The looks of one page are kept at a time. Where memory is refused, the rest is drawn all the same.
+pub fn work<'p, H: SiteHooks>(
     alloc: Global,
     hooks: &H,
     patch: &Patch,
-    finding: &Finding,
-    looks: &SiteLooks<'_>,
+    finding: &'p Finding,
+    pages: &'p SitePages<'_>,
     visits: &[&Visit],
     claims: &Claims,
     seat: Seat,
 ) -> Share
-    requires known { AreSiteLooks (H.page_of hooks.now) finding.now looks.now.all.items }
+    requires pages { ArePagesOf (H.page_of hooks.now) pages.now.all.items }
     requires of { IsSeatOf claims.now seat }
     requires unspent { is_spent seat ≡ false }
     requires count { claims.now.count ≡ length visits.now }
@@ -52,54 +52,42 @@ pub fn work<H: SiteHooks>(
         claims.now seat result }
 {
     let mut seat = seat;
+    let mut last = LastPage::none();
     let mut done = Ok(Vec::new(alloc));
     loop {
         let number = claims.draw(&mut seat);
         if seat.spent() {
             return Share { seat, done };
         }
-        done = with_one(alloc, hooks, patch, finding, looks, visits, number, done);
+        done = with_one(
+            alloc, hooks, patch, finding, pages, &mut last, visits, number, done,
+        );
     }
 }
 
 // One visit more, unless memory was refused.
-fn with_one<H: SiteHooks>(
+fn with_one<'p, H: SiteHooks>(
     alloc: Global,
     hooks: &H,
     patch: &Patch,
-    finding: &Finding,
-    looks: &SiteLooks<'_>,
+    finding: &'p Finding,
+    pages: &'p SitePages<'_>,
+    last: &mut LastPage<'p>,
     visits: &[&Visit],
     number: u64,
     done: Result<Vec<Done>, NoMemory>,
 ) -> Result<Vec<Done>, NoMemory>
-    requires known { AreSiteLooks (H.page_of hooks.now) finding.now looks.now.all.items }
+    requires pages { ArePagesOf (H.page_of hooks.now) pages.now.all.items }
+    requires last { IsLastOf (H.page_of hooks.now) finding.now last.old }
     requires there { number < length visits.now }
-    ensures { IfOk result (λ more. IsOkAnd done (λ some.
+    ensures last { IsLastOf (H.page_of hooks.now) finding.now last.new }
+    ensures more { IfOk result (λ more. IsOkAnd done (λ some.
         HasNext (own_outcomes (site_by H.page_of H.signals hooks.now patch.now finding.now) (map (λ visit. visit.now) visits.now))
         number some.items more.items)) }
 {
     let mut done = done?;
-    let outcome = replay_one(alloc, hooks, patch, finding, looks, visits[number as usize])?;
+    let visit = visits[number as usize];
+    let outcome = last.replay(alloc, hooks, patch, finding, pages, visit)?;
     done.push(Done { number, outcome })?;
     Ok(done)
-}
-
-// What a visit gives by itself: beside the looks of its page, where these are known.
-fn replay_one<H: SiteHooks>(
-    alloc: Global,
-    hooks: &H,
-    patch: &Patch,
-    finding: &Finding,
-    looks: &SiteLooks<'_>,
-    visit: &Visit,
-) -> Result<Outcome, NoMemory>
-    requires { AreSiteLooks (H.page_of hooks.now) finding.now looks.now.all.items }
-    ensures { IfOk result
-        (λ answer. answer ≡ outcome (site_by H.page_of H.signals hooks.now patch.now finding.now) visit.now) }
-{
-    match looks.at(visit.address.as_str()) {
-        None => replay(alloc, hooks, patch, finding, visit),
-        Some(known) => replay_beside(alloc, hooks, patch, known, visit),
-    }
 }

@@ -10,6 +10,4 @@ mod reporting_tests;
 #[cfg(test)]
 mod run_tests;
 #[cfg(test)]
-mod settling_tests;
-#[cfg(test)]
 mod site_line_tests;

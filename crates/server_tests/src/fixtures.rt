@@ -1,15 +1,14 @@
-//! Uploads made of texts, and the report of what was repaired.
+//! Uploads made of texts.
 ghost use Rattle.std.specs.Prelude.{IfOk, OnOk};
 ghost use Rattle.std.specs.List.{AllByRecursion};
 ghost use Rattle.upload_reader.specs.Upload.{IsUntouched};
 
-use byte_streams::{Fed, Lines, Told};
+use byte_streams::{Fed, Lines};
 use std::alloc::Global;
 use std::test::Fail;
+use stream_fakes::Drip;
 use stream_fakes::lines::joined;
-use stream_fakes::{Drip, Sips};
 use upload_reader::Upload;
-use warp_run::{Repaired, report};
 
 pub(crate) type Reader = Fed<Drip>;
 
@@ -46,11 +45,4 @@ pub(crate) fn uploads(alloc: Global, lanes: Lanes) -> Result<Vec<Upload<Reader>>
         add(&mut uploads, upload(alloc, lines)?)?;
     }
     Ok(uploads)
-}
-
-// The report, written by as many bytes at once.
-pub(crate) fn reported(alloc: Global, repaired: &Repaired, piece: usize) -> Result<String, Fail> {
-    let mut sips = Sips::new(alloc, piece, None);
-    report(alloc, repaired, &mut Told::new(&mut sips))?;
-    Ok(String::from_utf8(sips.taken)?)
 }

@@ -11,8 +11,6 @@ mod fixtures;
 #[cfg(test)]
 mod listen_tests;
 #[cfg(test)]
-mod repairing_tests;
-#[cfg(test)]
 mod serve_tests;
 #[cfg(test)]
 mod socket_tests;

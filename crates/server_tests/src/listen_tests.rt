@@ -15,12 +15,12 @@ use stream_fakes::lines::{ONE_CLICK, REPORT, SITE, joined};
 use stream_fakes::{Drip, Runs, Sips};
 use warp_server::{Listening, Opens, Status, Told, listen_by};
 
-/// Has a file at one path, and a port to which these callers come, unless it is taken.
+/// Has a file at one path, and a port to which these callers come.
 #[derive(Drop)]
 struct Fakes {
     alloc: Global,
     file: &'static [&'static str],
-    callers: Option<Lanes>,
+    callers: Lanes,
     asked: Cell<Option<SocketAddr>>,
 }
 
@@ -47,64 +47,22 @@ impl Opens for Fakes {
         ensures { ⊤ }
     {
         self.asked.set(Some(address));
-        match self.callers {
-            None => Err(io::Error::from(ErrorKind::AddrInUse)),
-            Some(callers) => queue_of(self.alloc, callers),
-        }
+        queue_of(self.alloc, self.callers)
     }
 }
 
-// The path, the file's lines, the callers, how it ends, whether the port is asked for, and what is written.
-type Row = (
-    &'static str,
-    &'static [&'static str],
-    Option<Lanes>,
-    Status,
-    bool,
-    &'static str,
-);
-
-const ROWS: &[Row] = &[
-    (
-        "elsewhere.json",
-        &[SITE],
-        Some(&[ONE_CLICK]),
-        Status::InputOutput,
-        false,
-        "",
-    ),
-    (
-        "site.json",
-        &["[]"],
-        Some(&[ONE_CLICK]),
-        Status::BadSite,
-        false,
-        "",
-    ),
-    (
-        "site.json",
-        &[],
-        Some(&[ONE_CLICK]),
-        Status::BadSite,
-        false,
-        "",
-    ),
-    ("site.json", &[SITE], None, Status::InputOutput, true, ""),
-    (
-        "site.json",
-        &[SITE, "[]"],
-        Some(&[ONE_CLICK]),
-        Status::Done,
-        true,
-        REPORT,
-    ),
-];
-
-fn listens(rt: &impl Runs, (path, file, callers, status, asks, report): Row) -> Result<(), Fail> {
+// How it ends where one client comes to the port, what is written, and which address was asked for.
+fn listens(
+    rt: &impl Runs,
+    path: &str,
+    file: &'static [&'static str],
+    (status, report): (Status, &str),
+    asked: Option<SocketAddr>,
+) -> Result<(), Fail> {
     let fakes = Fakes {
         alloc: rt.alloc(),
         file,
-        callers,
+        callers: &[ONE_CLICK],
         asked: Cell::new(None),
     };
     let listening = Listening {
@@ -115,16 +73,31 @@ fn listens(rt: &impl Runs, (path, file, callers, status, asks, report): Row) -> 
     };
     let mut sips = Sips::new(rt.alloc(), 50, None);
     assert!(rt; listen_by(rt, &fakes, &listening, &mut Told::new(&mut sips)) == status);
-    assert!(rt; sips.taken.as_slice() == report.as_bytes(), "{path}");
-    let local = SocketAddr::from(([127, 0, 0, 1], 8_900));
-    assert!(rt; fakes.asked.get() == asks.then_some(local));
+    assert!(rt; sips.taken.as_slice() == report.as_bytes() && fakes.asked.get() == asked);
     Ok(())
 }
 
+const GOOD_FILE: &[&str] = &[SITE, "[]"];
+
+const BAD_FILE: &[&str] = &["[]", SITE];
+
+// The port is asked for behind the file. No more than its first line is looked at.
 #[test]
 fn serves_the_site_of_its_file_on_its_port(rt: HostRuntime) -> Result<(), Fail> {
-    for &row in ROWS {
-        listens(&rt, row)?;
-    }
-    Ok(())
+    let local = SocketAddr::from(([127, 0, 0, 1], 8_900));
+    listens(
+        &rt,
+        "site.json",
+        GOOD_FILE,
+        (Status::Done, REPORT),
+        Some(local),
+    )?;
+    listens(&rt, "site.json", BAD_FILE, (Status::BadSite, ""), None)?;
+    listens(
+        &rt,
+        "elsewhere.json",
+        GOOD_FILE,
+        (Status::InputOutput, ""),
+        None,
+    )
 }

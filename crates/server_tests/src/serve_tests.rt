@@ -10,7 +10,7 @@ use std::io::ErrorKind;
 use std::net::{OpenListener, SocketAddr};
 use std::test::Fail;
 use stream_fakes::lines::{
-    BYE, CLICK, END, HELLO, LOAD, ONE_CLICK, REPORT, SECOND_CLICK, SECOND_HELLO, SITE, joined,
+    BYE, CLICK, END, HELLO, LOAD, ONE_CLICK, REPORT, SECOND_CLICK, SITE, joined,
 };
 use stream_fakes::{Drip, Refusal, Runs, Sips};
 use warp_server::{Callers, Site, Status, Told, serve, serve_callers};
@@ -68,7 +68,7 @@ fn served(
     Ok((status, called.next.get()))
 }
 
-// ---- one round and several
+// ---- rounds
 
 const THIRD_CLICK: &[&str] = &[r#"{"t":"hello","client":"c3"}"#, LOAD, CLICK, END, BYE];
 
@@ -77,125 +77,54 @@ const PLAIN_CLICK: &str = r#"{"t":"click","visit":1,"at":2,"target":"/html/body/
 // Breaks off behind two clicks.
 const TWO_CLICKS: &[&str] = &[HELLO, LOAD, PLAIN_CLICK, PLAIN_CLICK];
 
-const SECOND_CLICKS: &[&str] = &[SECOND_HELLO, LOAD, PLAIN_CLICK, PLAIN_CLICK];
-
 const GOES_ON: &[&str] = &[HELLO, PLAIN_CLICK, END, BYE];
 
-// The callers, lanes and rounds, the status, and what is written.
-const SERVED: &[(Lanes, u32, u32, Status, &str)] = &[
-    (
-        &[ONE_CLICK, SECOND_CLICK],
-        2,
-        1,
-        Status::Done,
-        "stop none\nclient c1 taken 3 end bye cost 187 lost 0\nvisit 1 done\nload 0 \"/a\"\nget 1 \"/b\"\nclient c2 taken 3 end bye cost 187 lost 0\nvisit 1 done\nload 0 \"/a\"\nget 1 \"/b\"\n",
-    ),
-    (
-        &[ONE_CLICK, &[SECOND_HELLO]],
-        2,
-        1,
-        Status::Done,
-        "stop none\nclient c1 taken 3 end bye cost 187 lost 0\nvisit 1 done\nload 0 \"/a\"\nget 1 \"/b\"\nclient c2 taken 0 end E3@2 cost 0 lost 0\n",
-    ),
-    // a later round goes on behind the one before
-    (
-        &[TWO_CLICKS, GOES_ON],
-        1,
-        2,
-        Status::Done,
-        "stop none\nclient c1 taken 2 end bye cost 287 lost 0\nvisit 1 done\nload 0 \"/a\"\n",
-    ),
-    (
-        &[TWO_CLICKS, TWO_CLICKS],
-        1,
-        2,
-        Status::Done,
-        "stop none\nclient c1 taken 0 end E9.S1@2 cost 233 lost 0\nvisit 1 done\nload 0 \"/a\"\n",
-    ),
-    (
-        &[TWO_CLICKS, SECOND_CLICKS],
-        1,
-        2,
-        Status::Done,
-        "stop none\nclient c1 taken 0 end none cost 233 lost 0\nvisit 1 done\nload 0 \"/a\"\nclient c2 taken 3 end E3@5 cost 233 lost 0\nvisit 1 done\nload 0 \"/a\"\n",
-    ),
-    (
-        &[TWO_CLICKS, SECOND_CLICK, THIRD_CLICK, GOES_ON],
-        2,
-        2,
-        Status::Done,
-        "stop none\nclient c1 taken 2 end bye cost 287 lost 0\nvisit 1 done\nload 0 \"/a\"\nclient c2 taken 0 end none cost 187 lost 0\nvisit 1 done\nload 0 \"/a\"\nget 1 \"/b\"\nclient c3 taken 3 end bye cost 187 lost 0\nvisit 1 done\nload 0 \"/a\"\nget 1 \"/b\"\n",
-    ),
-    // two of one client
-    (
-        &[ONE_CLICK, SECOND_CLICK, SECOND_CLICK],
-        3,
-        1,
-        Status::BadHello,
-        "",
-    ),
-    // no hello, in a first round and in a later one
-    (
-        &[ONE_CLICK, &[LOAD, CLICK, END, BYE]],
-        2,
-        1,
-        Status::BadHello,
-        "",
-    ),
-    (
-        &[
-            ONE_CLICK,
-            &[r#"{"t":"hello","client":"c 2"}"#, LOAD, CLICK, END, BYE],
-        ],
-        1,
-        2,
-        Status::BadHello,
-        "",
-    ),
-    // no more callers
-    (&[ONE_CLICK], 2, 1, Status::InputOutput, ""),
-];
+// Two rounds of two: the first client comes again, the second one doesn't.
+const CALLERS: Lanes = &[TWO_CLICKS, SECOND_CLICK, THIRD_CLICK, GOES_ON];
 
-fn serves(
+const OF_CALLERS: &str =
+    "stop none\nclient c1 taken 2 end bye cost 287 lost 0\nvisit 1 done\nload 0 \"/a\"\nclient c2 taken 0 end none cost 187 lost 0\nvisit 1 done\nload 0 \"/a\"\nget 1 \"/b\"\nclient c3 taken 3 end bye cost 187 lost 0\nvisit 1 done\nload 0 \"/a\"\nget 1 \"/b\"\n";
+
+#[test]
+fn serves_rounds_of_callers(rt: HostRuntime) -> Result<(), Fail> {
+    let mut sips = Sips::new(rt.alloc(), 50, None);
+    assert!(rt; served(&rt, CALLERS, 2, 2, &mut sips)? == (Status::Done, 4));
+    assert!(rt; sips.taken.as_slice() == OF_CALLERS.as_bytes());
+    Ok(())
+}
+
+// Nothing is written of rounds of so many.
+fn refuses(
     rt: &impl Runs,
     callers: Lanes,
     lanes: u32,
     rounds: u32,
     status: Status,
-    report: &str,
 ) -> Result<(), Fail> {
     let mut sips = Sips::new(rt.alloc(), 50, None);
-    let (ended, accepts) = served(rt, callers, lanes, rounds, &mut sips)?;
-    assert!(rt; ended == status);
-    assert!(rt; sips.taken.as_slice() == report.as_bytes(), "{report}");
-    // as many as there are lanes in all rounds
-    assert!(rt;
-        status != Status::Done || accepts == (lanes as usize).wrapping_mul(rounds as usize)
-    );
+    assert!(rt; served(rt, callers, lanes, rounds, &mut sips)?.0 == status && sips.writes == 0);
     Ok(())
 }
 
+const OF_ONE_CLIENT: Lanes = &[ONE_CLICK, ONE_CLICK];
+
+const SECOND_WITHOUT_HELLO: Lanes = &[ONE_CLICK, &[LOAD, CLICK]];
+
+// Two of one client, no hello in a later round, and no more callers.
 #[test]
-fn serves_rounds_of_callers(rt: HostRuntime) -> Result<(), Fail> {
-    for &(callers, lanes, rounds, status, report) in SERVED {
-        serves(&rt, callers, lanes, rounds, status, report)?;
-    }
-    Ok(())
+fn refuses_what_is_no_round(rt: HostRuntime) -> Result<(), Fail> {
+    refuses(&rt, OF_ONE_CLIENT, 2, 1, Status::BadHello)?;
+    refuses(&rt, SECOND_WITHOUT_HELLO, 1, 2, Status::BadHello)?;
+    refuses(&rt, &[ONE_CLICK], 2, 1, Status::InputOutput)
 }
 
-fn fails_at(rt: &impl Runs, at: u32, refusal: Refusal) -> Result<(), Fail> {
-    let mut sips = Sips::new(rt.alloc(), 1, Some((at, refusal)));
-    assert!(rt; served(rt, &[ONE_CLICK], 1, 1, &mut sips)?.0 == Status::InputOutput);
-    assert!(rt; REPORT.as_bytes().get(..at as usize) == Some(sips.taken.as_slice()));
-    Ok(())
-}
-
-// A write that fails, or takes nothing, leaves what was written before it.
+// A write that fails leaves what was written before it.
 #[test]
-fn tells_writes_that_fail(rt: HostRuntime) -> Result<(), Fail> {
-    fails_at(&rt, 0, Refusal::Fails)?;
-    fails_at(&rt, 20, Refusal::TakesNothing)?;
-    fails_at(&rt, 87, Refusal::Fails)
+fn tells_a_write_that_fails(rt: HostRuntime) -> Result<(), Fail> {
+    let mut sips = Sips::new(rt.alloc(), 1, Some((20, Refusal::Fails)));
+    assert!(rt; served(&rt, &[ONE_CLICK], 1, 1, &mut sips)?.0 == Status::InputOutput);
+    assert!(rt; REPORT.as_bytes().get(..20) == Some(sips.taken.as_slice()));
+    Ok(())
 }
 
 // ---- callers of another kind
@@ -249,50 +178,10 @@ fn queued(rt: &impl Runs, queue: &mut Queue, lanes: u32, rounds: u32) -> Result<
     Ok(serve_callers(rt, queue, lanes, rounds, &site, &mut Told::new(&mut sips)))
 }
 
-// The callers, lanes and rounds; then the status, how many still wait, and how many sources were given back.
-const QUEUES: &[(Lanes, u32, u32, (Status, usize, usize))] = &[
-    (
-        &[TWO_CLICKS, SECOND_CLICK, THIRD_CLICK, GOES_ON],
-        2,
-        2,
-        (Status::Done, 0, 4),
-    ),
-    // one more is there than is asked for
-    (&[ONE_CLICK, SECOND_CLICK], 1, 1, (Status::Done, 1, 1)),
-    // too few in the second round, a client twice, and no hello
-    (
-        &[ONE_CLICK, SECOND_CLICK, THIRD_CLICK],
-        2,
-        2,
-        (Status::InputOutput, 0, 2),
-    ),
-    (&[ONE_CLICK, ONE_CLICK], 2, 1, (Status::BadHello, 0, 2)),
-    (
-        &[ONE_CLICK, &[LOAD, CLICK, END, BYE]],
-        1,
-        2,
-        (Status::BadHello, 0, 1),
-    ),
-];
-
-fn leaves(
-    rt: &impl Runs,
-    callers: Lanes,
-    lanes: u32,
-    rounds: u32,
-    (status, wait, back): (Status, usize, usize),
-) -> Result<(), Fail> {
-    let mut queue = queue_of(rt.alloc(), callers)?;
-    assert!(rt; queued(rt, &mut queue, lanes, rounds)? == status);
-    assert!(rt; queue.waiting.len() == wait);
-    assert!(rt; queue.back == back);
-    Ok(())
-}
-
 #[test]
 fn gives_each_source_back_when_its_round_is_over(rt: HostRuntime) -> Result<(), Fail> {
-    for &(callers, lanes, rounds, left) in QUEUES {
-        leaves(&rt, callers, lanes, rounds, left)?;
-    }
+    let mut queue = queue_of(rt.alloc(), CALLERS)?;
+    assert!(rt; queued(&rt, &mut queue, 1, 3)? == Status::Done);
+    assert!(rt; queue.waiting.len() == 1 && queue.back == 3);
     Ok(())
 }

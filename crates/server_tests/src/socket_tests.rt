@@ -163,92 +163,49 @@ fn reports(
 
 // ---- uploads
 
-// The upload of the client of that number, which has one digit in base 16. It breaks off behind so many bytes.
-fn upload(alloc: Global, number: usize, bytes: usize) -> Result<String, AllocError> {
-    let whole = format!(in alloc;
+// The whole upload of the client of that number, which has one digit in base 16.
+fn upload(alloc: Global, number: u32) -> Result<String, AllocError> {
+    format!(in alloc;
         "{{\"t\":\"hello\",\"client\":\"c{number:x}\"}}\n{LOAD}\n{CLICK}\n{END}\n{BYE}\n"
-    )?;
-    String::from_str(alloc, whole.as_str().get(..bytes).unwrap_or(""))
+    )
 }
 
-const WHOLE: &str = "taken 3 end bye cost 187 lost 0\nvisit 1 done\nload 0 \"/a\"\nget 1 \"/b\"\n";
-
-const NOTHING: &str = "taken 0 end E3@2 cost 0 lost 0\n";
-
-const LOADED: &str = "taken 1 end E3@3 cost 125 lost 0\nvisit 1 done\nload 0 \"/a\"\n";
-
-const CLICKED: &str =
-    "taken 2 end E3@4 cost 187 lost 0\nvisit 1 done\nload 0 \"/a\"\nget 1 \"/b\"\n";
-
-const ENDED: &str = "taken 3 end E3@5 cost 187 lost 0\nvisit 1 done\nload 0 \"/a\"\nget 1 \"/b\"\n";
-
-// Behind how many bytes of its upload each client breaks off, and what is said of it.
-const BROKEN_OFF: &[(usize, &str)] = &[
-    (28, NOTHING),
-    (29, NOTHING),
-    (90, NOTHING),
-    (152, NOTHING),
-    (153, NOTHING),
-    (154, LOADED),
-    (155, LOADED),
-    (200, LOADED),
-    (216, LOADED),
-    (217, CLICKED),
-    (218, CLICKED),
-    (245, CLICKED),
-    (246, ENDED),
-    (250, ENDED),
-    (257, ENDED),
-    (258, WHOLE),
-];
-
-// No client breaks off.
-const WHOLES: &[(usize, &str)] = &[(258, WHOLE); 16];
-
-fn uploads(alloc: Global, clients: &[(usize, &str)]) -> Result<Vec<String>, AllocError> {
+fn uploads(alloc: Global, lanes: u32) -> Result<Vec<String>, AllocError> {
     let mut texts = Vec::new(alloc);
-    let mut number = 0usize;
-    for &(bytes, _) in clients {
-        texts.push(upload(alloc, number, bytes)?)?;
-        number = number.wrapping_add(1);
+    for number in 0..lanes {
+        texts.push(upload(alloc, number)?)?;
     }
     Ok(texts)
 }
 
-fn report(alloc: Global, clients: &[(usize, &str)]) -> Result<String, AllocError> {
+fn report(alloc: Global, lanes: u32) -> Result<String, AllocError> {
     let mut text = String::from_str(alloc, "stop none\n")?;
-    let mut number = 0usize;
-    for &(_, said) in clients {
-        write!(text, "client c{number:x} {said}")?;
-        number = number.wrapping_add(1);
+    for number in 0..lanes {
+        write!(
+            text,
+            "client c{number:x} taken 3 end bye cost 187 lost 0\nvisit 1 done\nload 0 \"/a\"\nget 1 \"/b\"\n"
+        )?;
     }
     Ok(text)
 }
 
-// That is said of these clients, in one round.
+// All is said of so many clients, in one round.
 fn takes(
     rt: &(impl Runs + Net<Listener = TcpListener, Stream = TcpStream>),
     lanes: u32,
-    clients: &[(usize, &str)],
     piece: usize,
 ) -> Result<(), Fail> {
-    let texts = uploads(rt.alloc(), clients)?;
-    let report = report(rt.alloc(), clients)?;
+    let texts = uploads(rt.alloc(), lanes)?;
+    let report = report(rt.alloc(), lanes)?;
     reports(rt, texts, lanes, 1, piece, report.as_str())
 }
 
-// Two and sixteen clients, in large pieces and byte by byte.
+// One, two and sixteen clients, in large pieces and byte by byte.
 #[test]
 fn takes_uploads_from_sockets(rt: HostRuntime) -> Result<(), Fail> {
-    takes(&rt, 1, &[(258, WHOLE)], 4_096)?;
-    takes(&rt, 2, &[(258, WHOLE), (258, WHOLE)], 4_096)?;
-    takes(&rt, 2, &[(258, WHOLE), (258, WHOLE)], 1)?;
-    takes(&rt, 16, WHOLES, 100)
-}
-
-#[test]
-fn a_client_that_breaks_off_hurts_its_own_upload_alone(rt: HostRuntime) -> Result<(), Fail> {
-    takes(&rt, 16, BROKEN_OFF, 60)
+    takes(&rt, 1, 4_096)?;
+    takes(&rt, 2, 1)?;
+    takes(&rt, 16, 100)
 }
 
 const PLAIN_CLICK: &str = r#"{"t":"click","visit":1,"at":2,"target":"/html/body/a"}"#;

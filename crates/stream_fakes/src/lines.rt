@@ -36,17 +36,6 @@ pub const SITE: &str =
 pub const REPORT: &str =
     "stop none\nclient c1 taken 3 end bye cost 187 lost 0\nvisit 1 done\nload 0 \"/a\"\nget 1 \"/b\"\n";
 
-/// A visit that the click opened, and one that it opened in turn.
-pub const CHILD: &str =
-    r#"{"t":"load","visit":2,"at":3,"parent":1,"from":1,"path":"/b","page":{"n":"html","c":[{"n":"body","c":[{"n":"a","a":{"href":"/b"},"c":["go"]}]}]}}"#;
-
-pub const GRANDCHILD: &str =
-    r#"{"t":"load","visit":3,"at":4,"parent":2,"path":"/x","page":{"n":"html","c":[{"n":"body","c":[{"n":"a","a":{"href":"/b"},"c":["go"]}]}]}}"#;
-
-/// The link of `/a` leads to `/c` now.
-pub const MOVED_SITE: &str =
-    r#"{"patched":["/a","/b"],"pages":{"/a":{"n":"html","c":[{"n":"body","c":[{"n":"a","a":{"href":"/c"},"c":["go"]}]}]},"/b":{"n":"html","c":[{"n":"body","c":[{"n":"a","a":{"href":"/b"},"c":["go"]}]}]}}}"#;
-
 /// The page `/a` has a second link now.
 pub const OTHER_SITE: &str =
     r#"{"patched":["/a"],"pages":{"/a":{"n":"html","c":[{"n":"body","c":[{"n":"a","a":{"href":"/b"},"c":["go"]},{"n":"a","a":{"href":"/c"},"c":["no"]}]}]}}}"#;

@@ -1,8 +1,6 @@
-//! Tests of `upload_lanes` and `round_robin` by their public names, in a crate of their own: with them inside, each library would be proved once more.
+//! Tests of `lanes_in_turn` and `upload_lanes` by their public names, in a crate of their own: with them inside, each library would be proved once more.
 #![tactic(auto)]
 
-#[cfg(test)]
-mod dealing_tests;
 #[cfg(test)]
 mod halt_tests;
 #[cfg(test)]

@@ -4,6 +4,7 @@ ghost use Rattle.std.specs.List.{AllByRecursion};
 ghost use Rattle.upload_reader.specs.Upload.{IsUntouched};
 
 use crate::tests::{BYE, CLICK, END, LOAD, add_lines, begin, hello};
+use crate::thread_tests::are_whole;
 use byte_streams::Fed;
 use client_log::Quota;
 use lane_queue::Room;
@@ -14,8 +15,8 @@ use std::sync::atomic::{AtomicU64, Ordering};
 use std::test::Fail;
 use std::{io, thread};
 use stream_fakes::Drip;
-use upload_lanes::{Stop, gather};
-use upload_reader::{Ending, LaneEnd, Upload};
+use upload_lanes::gather;
+use upload_reader::Upload;
 
 /// How often a silent client looks before it gives up: some ten seconds.
 const LOOKS: u32 = 20_000_000;
@@ -77,29 +78,19 @@ fn both<'c>(alloc: Global, recorded: &'c AtomicU64) -> Result<Vec<Upload<Fed<Sil
     Ok(uploads)
 }
 
-// No message waits for another one: with the most room, where several are handed over at once, as with the least.
+// No message waits for another one, also where several are handed over at once.
 #[test]
 fn what_came_is_recorded_while_clients_are_silent(rt: HostRuntime) -> Result<(), Fail> {
-    for room in [1, 1_024] {
-        let recorded = AtomicU64::new(0);
-        let uploads = both(rt.alloc(), &recorded)?;
-        let halt = |taken: u64| -> bool {
-            if taken == 2 {
-                recorded.fetch_add(1, Ordering::SeqCst);
-            }
-            false
-        };
-        let gathered = gather(
-            &rt,
-            uploads,
-            Quota::new(1_048_576)?,
-            Room::new(room)?,
-            &halt,
-        )?;
-        assert!(rt; gathered.stop == Stop::None && gathered.clients.len() == 2);
-        for lane in gathered.clients.values() {
-            assert!(rt; lane.taken == 4 && matches!(lane.end, Some(Ending::Over(LaneEnd::Bye))));
+    let recorded = AtomicU64::new(0);
+    let uploads = both(rt.alloc(), &recorded)?;
+    let halt = |taken: u64| -> bool {
+        if taken == 2 {
+            recorded.fetch_add(1, Ordering::SeqCst);
         }
-    }
+        false
+    };
+    let (quota, room) = (Quota::new(1_048_576)?, Room::new(1_024)?);
+    let gathered = gather(&rt, uploads, quota, room, &halt)?;
+    assert!(rt; are_whole(&gathered, 2, 4));
     Ok(())
 }

@@ -1,5 +1,5 @@
 -- What a visit asked for, event by event.
-use Rattle.std.proofs.Common.{◌≡◌, ◌<◌, ℕ, suc, ◌+◌, length, get_or, subst, List, [], ◌∷◌, ◌++◌, Bool, true, false, ◌&&◌, take, ◌==◌, if◌then◌else◌, is_some, slice_get, codes, Option, Some, None, option_map, option_and_then, refl, sym, ap, ap₂, ◌∙◌, append-nil, arith}
+use Rattle.std.proofs.Common.{◌≡◌, ◌<◌, ℕ, zero, suc, ◌+◌, ◌≤◌, length, get_or, subst, List, [], ◌∷◌, ◌++◌, Bool, true, false, ◌&&◌, take, ◌==◌, if◌then◌else◌, is_some, slice_get, codes, Option, Some, None, IfSome, option_map, option_and_then, refl, sym, ap, ap₂, ◌∙◌, append-nil, arith}
 use Rattle.std.specs.List.{find, filter_map, range_with_len, cons_option}
 use Rattle.std.specs.Option.{option_or}
 use Rattle.std.specs.Str.{bytes_eq}
@@ -16,11 +16,14 @@ use Rattle.xpath_child.specs.Path.{Step}
 use Rattle.xpath_child.specs.Targets.{target_in, only_place}
 use Rattle.xpath_child.specs.declared.path.Target.{Target}
 use Rattle.xpath_child.specs.declared.path.Target.TheVariants.{Missing, One, Several}
+use Rattle.upload_reader.specs.Session.{request_of}
 use Rattle.upload_reader.specs.declared.message.Event.{Event}
+use Rattle.upload_reader.specs.declared.message.Event.TheVariants.{Input, Click, Submit}
 use Rattle.client_log.specs.declared.visit.Visit.{Visit}
-use Rattle.visit_replay.specs.Aim.{acts, on_target, path_of, by_of, button_by_path, by_path, by_element, place_of_aim, button_of_aim}
+use Rattle.visit_replay.specs.Aim.{Aim, acts, on_target, path_of, by_of, button_by_path, by_path, by_element, place_of_aim, button_of_aim}
 use Rattle.visit_replay.specs.Difference.{was_asked, are_alike, asks_now, passing_over}
-use Rattle.visit_replay.specs.Requests.{request_at, event_request}
+use Rattle.visit_replay.specs.Form.{form_request}
+use Rattle.visit_replay.specs.Requests.{link_request, request_at, event_request}
 use Rattle.visit_replay.specs.declared.requests.Request.{Request}
 use Rattle.visit_replay.specs.inside.Differing.{IsTargetOf, Selects, asked_there}
 use Rattle.visit_replay.specs.inside.OneEvent.{places_numbered}
@@ -128,6 +131,43 @@ module _ (visit : Visit) (k number : ℕ) (request : Request) (is : was_asked vi
   numbered_comes new none updated =
       comes (λ r. r) before request kept request.number number (are ∙ sym (same_option before)) request new none (λ same. refl) updated
       ∙ same_option (option_or before (next_if (request.number == number) request)) ∙ sym (numbered_next visit k number request is)
+
+-- ---- what has no request asks for nothing
+
+none_of : {A B : Type 0} (f : A → Option B) (o : Option A) → ((a : A) → f a ≡ None) → option_and_then f o ≡ None
+none_of f None all = refl
+none_of f (Some a) all = all a
+
+none_at : (aim : Event → Aim) (address : List ℕ) (new : Tree) (earlier : List Event) (event : Event) (button : Option (List ℕ)) (place : List ℕ)
+    → request_of event ≡ 0 → request_at aim address new earlier event button place ≡ None
+none_at aim address new earlier (Input at target value) button place none = refl
+none_at aim address new earlier (Click at target req) button place none = ap (λ n. if n == 0 then None else link_request n place new) none
+none_at aim address new earlier (Submit at target by req) button place none =
+    ap (λ n. if n == 0 then None else Some (form_request aim address new earlier button place n)) none
+
+none_asked : (visit : Visit) (k : ℕ) → IfSome (slice_get visit.events k) (λ event. request_of event ≡ 0) → was_asked visit k ≡ None
+none_asked visit k none = go (slice_get visit.events k) none
+  where
+    aim : Event → Aim
+    aim = by_path visit.page
+
+    go : (o : Option Event) → IfSome o (λ event. request_of event ≡ 0)
+        → option_and_then (event_request aim visit.address visit.page (take k visit.events)) o ≡ None
+    go None none = refl
+    go (Some event) none =
+        none_of (request_at aim visit.address visit.page (take k visit.events) event (button_of_aim (aim event))) (place_of_aim (aim event))
+        (λ place. none_at aim visit.address visit.page (take k visit.events) event (button_of_aim (aim event)) place none)
+
+-- so what stands behind the last request adds nothing
+pub numbered_rest : (visit : Visit) (end more number : ℕ) → ((k : ℕ) → end ≤ k → IfSome (slice_get visit.events k) (λ event. request_of event ≡ 0))
+    → find (λ r. r.number == number) (filter_map (was_asked visit) (range_with_len 0 (end + more)))
+    ≡ find (λ r. r.number == number) (filter_map (was_asked visit) (range_with_len 0 end))
+numbered_rest visit end zero number none = let all : end + 0 ≡ end = omega arith in ap (λ n. find (λ r. r.number == number) (filter_map (was_asked visit) (range_with_len 0 n))) all
+numbered_rest visit end (suc more) number none =
+    let next : end + suc more ≡ (end + more) + 1 = omega arith in
+    ap (λ n. find (λ r. r.number == number) (filter_map (was_asked visit) (range_with_len 0 n))) next
+    ∙ numbered_none visit (end + more) number (none_asked visit (end + more) (none (end + more) (omega arith)))
+    ∙ numbered_rest visit end more number none
 
 -- ---- two requests
 

@@ -35,7 +35,7 @@ pub(crate) fn aim_at<'v>(
     old: &Page,
     new: &Page,
     event: &'v Event,
-    lookups: &mut Lookups<'v>,
+    lookups: &mut Lookups<'v, '_>,
 ) -> Result<Located, NoMemory>
     requires between { IsBetween aiming.now old.now new.now }
     requires known { AreLookedUp old.now new.now lookups.old }
@@ -119,7 +119,7 @@ fn by_element<'v>(
     alloc: Global,
     beside: &Beside<'_>,
     event: &'v Event,
-    lookups: &mut Lookups<'v>,
+    lookups: &mut Lookups<'v, '_>,
 ) -> Result<Located, NoMemory>
     requires { AreLookedUp beside.now.old beside.now.new lookups.old }
     ensures aims { IfOk result (AimsAt beside.now.new
@@ -151,7 +151,7 @@ fn from_node(
     beside: &Beside<'_>,
     event: &Event,
     number: u32,
-    lookups: &mut Lookups<'_>,
+    lookups: &mut Lookups<'_, '_>,
 ) -> Result<Located, NoMemory>
     requires there { number < nodes beside.now.old }
     requires known { AreLookedUp beside.now.old beside.now.new lookups.old }

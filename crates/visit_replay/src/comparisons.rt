@@ -9,7 +9,7 @@ use page_tree::{NoMemory, Text};
 use std::alloc::Global;
 
 // How many are kept.
-const MOST: usize = 64;
+const MOST: usize = 256;
 
 /// Two requests, and whether they are alike.
 #[derive(Drop)]

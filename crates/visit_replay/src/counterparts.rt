@@ -20,7 +20,7 @@ pub(crate) fn counterpart(
     beside: &Beside<'_>,
     asks: bool,
     number: u32,
-    lookups: &mut Lookups<'_>,
+    lookups: &mut Lookups<'_, '_>,
 ) -> Result<Result<u32, ConflictKind>, NoMemory>
     requires there { number < nodes beside.now.old }
     requires known { AreLookedUp beside.now.old beside.now.new lookups.old }

@@ -1,12 +1,13 @@
 //! What a visit asked for on the page that it was made on, where that differs from what its replay asks for.
-ghost use Rattle.std.specs.Prelude.{◌≡◌, ◌<◌, ◌≤◌, ◌+◌, [], ◌∷◌, ◌++◌, ◌&&◌, length, map, take, slice_get, Some, IfOk, OnOk, OnErr, option_and_then};
+ghost use Rattle.std.specs.Prelude.{ℕ, ◌≡◌, ◌<◌, ◌≤◌, ◌+◌, [], ◌∷◌, ◌++◌, ◌&&◌, length, map, take, slice_get, Some, IfOk, IfSome, OnOk, OnErr, option_and_then};
 ghost use Rattle.std.specs.Str.{bytes_eq};
+ghost use Rattle.upload_reader.specs.Session.{request_of};
 ghost use Rattle.upload_reader.specs.declared.message.Event.{Event as PlainEvent};
 ghost use Rattle.client_log.specs.declared.visit.Visit.{Visit as PlainVisit};
 ghost use Rattle.visit_replay.specs.Aim.{Aim, by_path};
 ghost use Rattle.visit_replay.specs.Difference.{difference, was_asked, was_other, are_alike, asks_now};
 ghost use Rattle.visit_replay.specs.declared.difference.Contrast.TheVariants.{Changed};
-ghost use Rattle.visit_replay.specs.inside.Differing.{AreCompared, AreLookedUp, HasNumbered, IsTargetOf, asked_there};
+ghost use Rattle.visit_replay.specs.inside.Differing.{AreCompared, AreLookedUp, KnowsInputs, HasNumbered, IsTargetOf, asked_there};
 ghost use Rattle.visit_replay.specs.inside.KeptFields.{Keeps, TakesIn};
 ghost use Rattle.visit_replay.specs.inside.OneEvent.{AimsAt, IsBetween, aimed};
 
@@ -17,11 +18,13 @@ use crate::difference::{Contrast, Difference, Former};
 use crate::fields::Fields;
 use crate::finding::Finding;
 use crate::forms::Filled;
+use crate::known_inputs::KnownInputs;
 use crate::known_paths::KnownPaths;
 use crate::lookups::Lookups;
 use crate::moving::{fields_behind, note_at};
 use crate::outcome::{ConflictKind, Outcome};
 use crate::passing::passing_over;
+use crate::repaired_page::RepairedPage;
 use crate::requests::{Request, differ, request_at, with_query};
 use client_log::Visit;
 use page_looks::Looks;
@@ -61,26 +64,31 @@ pub fn told_difference<H: SiteHooks>(
     }
 }
 
-/// The same beside the page that the site has there now, whose looks were made.
+/// The same beside the page that the site has there now.
 pub fn told_beside(
     alloc: Global,
-    looks: &Looks<'_>,
+    page: &mut RepairedPage<'_>,
     visit: &Visit,
     outcome: &Outcome,
 ) -> Result<Difference, NoMemory>
-    ensures { IfOk result (λ it. it ≡ difference (Some looks.now.1) visit.now (Some looks.now.0) outcome.now) }
+    ensures page { page.new ≡ page.old }
+    ensures told { IfOk result (λ it. it
+        ≡ difference (Some page.old.1) visit.now (Some page.old.0) outcome.now) }
 {
     match outcome {
         Outcome::Untouched => Ok(Difference::none()),
         Outcome::Done { requests } => {
-            let was = all_former(alloc, looks.fresh(), visit, requests.as_slice())?;
+            let was = all_former(alloc, page.looks.fresh(), visit, requests.as_slice())?;
             Difference::of(alloc, Contrast::Done { was })
         }
         Outcome::Conflict {
             at,
             kind: ConflictKind::Changed,
             ..
-        } => changed_beside(alloc, looks, visit, at.saturating_sub(1) as usize),
+        } => {
+            let k = at.saturating_sub(1) as usize;
+            changed_beside(alloc, &page.looks, &mut page.inputs, visit, k)
+        }
         Outcome::Conflict { .. } => Ok(Difference::none()),
     }
 }
@@ -96,9 +104,9 @@ fn all_former(
 ) -> Result<Former, NoMemory>
     ensures { IfOk result (λ all. all ≡ map (was_other fresh.now visit.now) requests.now) }
 {
+    let mut all = Former::new(alloc);
     let before = requests_by_number(alloc, visit)?;
     let mut compared = Comparisons::new(alloc);
-    let mut all = Former::new(alloc);
     for request in requests {
         let was = other_than(alloc, fresh, &before, request, &mut compared)?;
         all.push(was)?;
@@ -106,7 +114,7 @@ fn all_former(
     Ok(all)
 }
 
-// The visit's own requests by their numbers, the first of each.
+// The visit's own requests by their numbers, the first of each. What stands behind its last event with a request isn't gone through.
 fn requests_by_number(alloc: Global, visit: &Visit) -> Result<BTreeMap<u64, Request>, NoMemory>
     ensures { IfOk result (HasNumbered visit.now (length visit.now.events)) }
 {
@@ -114,13 +122,25 @@ fn requests_by_number(alloc: Global, visit: &Visit) -> Result<BTreeMap<u64, Requ
     let mut fields = Fields::new(alloc);
     let mut paths = KnownPaths::new(alloc);
     let events = visit.events.as_slice();
-    for k in 0..events.len() {
+    for k in 0..asking_end(events) {
         let event = &events[k];
         let target = paths.target_of(&visit.page, event)?;
         add_request(alloc, visit, &fields, k, event, target, &mut all)?;
         note_at(&visit.page, event, target, &mut fields)?;
     }
     Ok(all)
+}
+
+// How many events there are up to the last one with a request.
+fn asking_end(events: &[Event]) -> usize
+    ensures within { result ≤ length events.now }
+    ensures rest { (k : ℕ) → result ≤ k → IfSome (slice_get events.now k) (λ event. request_of event ≡ 0) }
+{
+    let mut end = events.len();
+    while end > 0 && events[end - 1].request() == 0 {
+        end -= 1;
+    }
+    end
 }
 
 fn add_request(
@@ -281,23 +301,27 @@ fn changed<H: SiteHooks>(
         }
         Some(new) => {
             let looks = Looks::of(alloc, &new, fresh)?;
-            changed_beside(alloc, &looks, visit, k)
+            let mut inputs = KnownInputs::new(alloc, &new);
+            changed_beside(alloc, &looks, &mut inputs, visit, k)
         }
     }
 }
 
-// The same beside the page there, whose looks were made.
+// The same beside the page there, whose looks were made, and of which these hidden inputs are known.
 fn changed_beside(
     alloc: Global,
     looks: &Looks<'_>,
+    inputs: &mut KnownInputs<'_>,
     visit: &Visit,
     k: usize,
 ) -> Result<Difference, NoMemory>
-    ensures { IfOk result (λ it. it
+    requires { KnowsInputs looks.now.0 inputs.old }
+    ensures known { KnowsInputs looks.now.0 inputs.new }
+    ensures told { IfOk result (λ it. it
         ≡ Some (Changed (was_asked visit.now k) (asks_now looks.now.1 visit.now looks.now.0 k))) }
 {
     let was = asked_before(alloc, visit, k)?;
-    let now = asks_now(alloc, looks, visit, k)?;
+    let now = asks_now(alloc, looks, inputs, visit, k)?;
     Difference::of(alloc, Contrast::Changed { was, now })
 }
 
@@ -317,10 +341,13 @@ fn asked_before(alloc: Global, visit: &Visit, k: usize) -> Result<Option<Request
 fn asks_now(
     alloc: Global,
     looks: &Looks<'_>,
+    inputs: &mut KnownInputs<'_>,
     visit: &Visit,
     k: usize,
 ) -> Result<Option<Request>, NoMemory>
-    ensures { IfOk result (λ request. request ≡ asks_now looks.now.1 visit.now looks.now.0 k) }
+    requires { KnowsInputs looks.now.0 inputs.old }
+    ensures known { KnowsInputs looks.now.0 inputs.new }
+    ensures asks { IfOk result (λ request. request ≡ asks_now looks.now.1 visit.now looks.now.0 k) }
 {
     let events = visit.events.as_slice();
     if k >= events.len() {
@@ -334,7 +361,9 @@ fn asks_now(
     let located = passing_over(&beside, event);
     let aiming = Aiming::ByElement(beside);
     let new = looks.page();
-    let fields = fields_beside(alloc, &aiming, visit, new, k)?;
+    let mut lookups = Lookups::new(alloc, &visit.page, inputs.take(alloc));
+    let fields = fields_beside(alloc, &aiming, visit, new, k, &mut lookups)?;
+    *inputs = lookups.repaired;
     request_there(alloc, visit, new, &fields, k, located)
 }
 
@@ -345,25 +374,19 @@ fn fields_beside<'v>(
     visit: &'v Visit,
     new: &'v Page,
     count: usize,
+    lookups: &mut Lookups<'v, '_>,
 ) -> Result<Fields<'v>, NoMemory>
     requires between { IsBetween aiming.now visit.now.page new.now }
     requires count { count ≤ length visit.now.events }
-    ensures { IfOk result (λ fields. Keeps (aimed aiming.now visit.now.page new.now) fields new.now
+    requires known { AreLookedUp visit.now.page new.now lookups.old }
+    ensures fields { IfOk result (λ fields. Keeps (aimed aiming.now visit.now.page new.now) fields new.now
         (take count visit.now.events)) }
+    ensures known { OnOk result (AreLookedUp visit.now.page new.now lookups.new) }
 {
     let mut fields = Fields::new(alloc);
-    let mut lookups = Lookups::new(alloc, &visit.page, new);
     for k in 0..count {
         let event = &visit.events.as_slice()[k];
-        note_beside(
-            alloc,
-            aiming,
-            &visit.page,
-            new,
-            event,
-            &mut lookups,
-            &mut fields,
-        )?;
+        note_beside(alloc, aiming, &visit.page, new, event, lookups, &mut fields)?;
     }
     Ok(fields)
 }
@@ -375,7 +398,7 @@ fn note_beside<'v>(
     old: &Page,
     new: &Page,
     event: &'v Event,
-    lookups: &mut Lookups<'v>,
+    lookups: &mut Lookups<'v, '_>,
     fields: &mut Fields<'v>,
 ) -> Result<(), NoMemory>
     requires between { IsBetween aiming.now old.now new.now }

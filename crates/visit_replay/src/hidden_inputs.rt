@@ -19,7 +19,7 @@ pub(crate) fn hidden_twin(
     number: u32,
     parent: u32,
     under: u32,
-    lookups: &mut Lookups<'_>,
+    lookups: &mut Lookups<'_, '_>,
 ) -> Result<Result<u32, ConflictKind>, NoMemory>
     requires there { number < nodes beside.now.old }
     requires parent { place_numbered parent beside.now.old ≡ above (place_numbered number beside.now.old) }
@@ -32,9 +32,11 @@ pub(crate) fn hidden_twin(
     let name = beside.recorded_page().attribute_of(number, "name");
     lookups.recorded.look_under(alloc, parent)?;
     lookups.repaired.look_under(alloc, under)?;
-    let olds = lookups.recorded.named_under(parent, name);
-    let news = lookups.repaired.named_under(under, name);
-    Ok(twin_in(olds, news, number))
+    let were = lookups.recorded.inputs_under(parent);
+    let are = lookups.repaired.inputs_under(under);
+    let olds = were.numbers(alloc, name)?;
+    let news = are.numbers(alloc, name)?;
+    Ok(twin_in(olds.as_slice(), news.as_slice(), number))
 }
 
 /// The parent of a node; of the root itself.

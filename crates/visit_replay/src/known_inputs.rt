@@ -1,16 +1,16 @@
 //! The hidden inputs of a page under the nodes that were looked at: many events may act on inputs of one parent.
-ghost use Rattle.std.specs.Prelude.{ℕ, ◌≡◌, IfOk, OnOk, IsSome, map, option_map};
+ghost use Rattle.std.specs.Prelude.{◌≡◌, OnOk, IsSome};
 ghost use Rattle.std.specs.BTreeMap.{get};
 ghost use Rattle.std.specs.Ordering.{nat_cmp};
 ghost use Rattle.page_tree.specs.Tree.{Tree};
 ghost use Rattle.page_tree.specs.Number.{place_numbered};
-ghost use Rattle.visit_replay.specs.Aim.{hidden_named};
-ghost use Rattle.visit_replay.specs.inside.Differing.{KnowsInputs};
+ghost use Rattle.visit_replay.specs.inside.Differing.{AreHiddenUnder, KnowsInputs};
 
 use crate::named_inputs::NamedInputs;
 use page_tree::{NoMemory, Page};
 use std::alloc::Global;
 use std::collections::BTreeMap;
+use std::mem;
 
 /// Those of each parent that was asked for. All together are no more than the nodes of the page.
 #[derive(Drop)]
@@ -30,6 +30,15 @@ impl<'p> KnownInputs<'p> {
         }
     }
 
+    /// All of them; none are left here. It takes no memory.
+    pub(crate) fn take(&mut self, alloc: Global) -> KnownInputs<'p>
+        ensures taken { result ≡ self.old }
+        ensures left { (page : Tree) → KnowsInputs page self.old → KnowsInputs page self.new }
+    {
+        let none = KnownInputs::new(alloc, self.page);
+        mem::replace(self, none)
+    }
+
     /// Looks at the children of a node, unless that was done.
     pub(crate) fn look_under(&mut self, alloc: Global, parent: u32) -> Result<(), NoMemory>
         ensures known { OnOk result ((page : Tree) → KnowsInputs page self.old → KnowsInputs page self.new) }
@@ -43,15 +52,15 @@ impl<'p> KnownInputs<'p> {
         Ok(())
     }
 
-    /// The numbers of those of that name under a node that was looked at.
-    pub(crate) fn named_under(&self, parent: u32, name: Option<&str>) -> &[u32]
+    /// Those of a node that was looked at.
+    pub(crate) fn inputs_under(&self, parent: u32) -> &NamedInputs<'p>
         requires { IsSome (get nat_cmp self.now.parents parent) }
-        ensures { (page : Tree) → KnowsInputs page self.now → map (λ n. place_numbered n page) result.now
-            ≡ hidden_named (option_map (λ n. n.now) name.entry) (place_numbered parent page) page }
+        ensures { (page : Tree) → KnowsInputs page self.now
+            → AreHiddenUnder page (place_numbered parent page) result.now }
     {
         match self.parents.get(&parent) {
             None => unreachable!(),
-            Some(inputs) => inputs.numbers(name),
+            Some(inputs) => inputs,
         }
     }
 }

@@ -35,6 +35,7 @@ mod named_inputs;
 mod outcome;
 mod passing;
 mod patch;
+mod repaired_page;
 mod replaying;
 mod requests;
 
@@ -47,5 +48,6 @@ pub use limits::MAX_WORKERS;
 pub use moving::moved;
 pub use outcome::{ConflictKind, Outcome};
 pub use patch::{Patch, affected};
+pub use repaired_page::RepairedPage;
 pub use replaying::{replay, replay_beside};
 pub use requests::{Method, Request, Requests};

@@ -1,7 +1,6 @@
 //! What was looked up on a recorded page and a repaired one, for the events to come.
-ghost use Rattle.std.specs.Prelude.{OnOk};
 ghost use Rattle.page_tree.specs.Tree.{Tree};
-ghost use Rattle.visit_replay.specs.inside.Differing.{AreLookedUp};
+ghost use Rattle.visit_replay.specs.inside.Differing.{AreLookedUp, KnowsInputs};
 
 use crate::known_inputs::KnownInputs;
 use crate::known_paths::KnownPaths;
@@ -10,21 +9,21 @@ use std::alloc::Global;
 
 /// Paths on the recorded page, and hidden inputs on both.
 #[derive(Drop)]
-pub(crate) struct Lookups<'v> {
+pub(crate) struct Lookups<'v, 'p> {
     pub(crate) paths: KnownPaths<'v>,
     pub(crate) recorded: KnownInputs<'v>,
-    pub(crate) repaired: KnownInputs<'v>,
+    pub(crate) repaired: KnownInputs<'p>,
 }
 
-impl<'v> Lookups<'v> {
-    /// None. It takes no memory.
-    pub(crate) fn new(alloc: Global, old: &'v Page, new: &'v Page) -> Lookups<'v>
-        ensures { AreLookedUp old.now new.now result }
+impl<'v, 'p> Lookups<'v, 'p> {
+    /// None on the recorded page. It takes no memory.
+    pub(crate) fn new(alloc: Global, old: &'v Page, repaired: KnownInputs<'p>) -> Lookups<'v, 'p>
+        ensures { (new : Tree) → KnowsInputs new repaired.entry → AreLookedUp old.now new result }
     {
         Lookups {
             paths: KnownPaths::new(alloc),
             recorded: KnownInputs::new(alloc, old),
-            repaired: KnownInputs::new(alloc, new),
+            repaired,
         }
     }
 }

@@ -5,7 +5,7 @@ ghost use Rattle.visit_replay.specs.Outcome.{outcome, conflict_of, on_page, at_e
 ghost use Rattle.visit_replay.specs.RepairedSite.{site_by};
 ghost use Rattle.upload_reader.specs.declared.message.Event.{Event as PlainEvent};
 ghost use Rattle.visit_replay.specs.Aim.{Aim};
-ghost use Rattle.visit_replay.specs.inside.Differing.{AreLookedUp};
+ghost use Rattle.visit_replay.specs.inside.Differing.{AreLookedUp, KnowsInputs};
 ghost use Rattle.visit_replay.specs.inside.OneEvent.{IsWalked, IsBetween, names_aimed, aimed};
 
 use crate::aims::{Aiming, aim_at};
@@ -13,9 +13,11 @@ use crate::conflicts::{Located, judged};
 use crate::fields::Fields;
 use crate::finding::Finding;
 use crate::forms::Filled;
+use crate::known_inputs::KnownInputs;
 use crate::lookups::Lookups;
 use crate::outcome::{ConflictKind, Outcome};
 use crate::patch::{Patch, affected};
+use crate::repaired_page::RepairedPage;
 use crate::requests::{Requests, load_request, request_at};
 use client_log::Visit;
 use page_looks::Looks;
@@ -52,19 +54,20 @@ pub fn replay<H: SiteHooks>(
     }
 }
 
-/// The same, where events find their places by their elements, on the page that the site has there now, whose looks were made.
+/// The same, where events find their places by their elements, on the page that the site has there now.
 pub fn replay_beside<H: SiteHooks>(
     alloc: Global,
     hooks: &H,
     patch: &Patch,
-    looks: &Looks<'_>,
+    page: &mut RepairedPage<'_>,
     visit: &Visit,
 ) -> Result<Outcome, NoMemory>
-    ensures { IfOk result (λ answer. H.page_of hooks.now visit.now.address ≡ Some looks.now.0
-        → answer ≡ outcome (site_by H.page_of H.signals hooks.now patch.now (Some looks.now.1)) visit.now) }
+    ensures page { page.new ≡ page.old }
+    ensures answer { IfOk result (λ answer. H.page_of hooks.now visit.now.address ≡ Some page.old.0
+        → answer ≡ outcome (site_by H.page_of H.signals hooks.now patch.now (Some page.old.1)) visit.now) }
 {
     if affected(patch, visit) {
-        by_looks(alloc, hooks, looks, visit)
+        by_looks(alloc, hooks, &page.looks, &mut page.inputs, visit)
     } else {
         Ok(Outcome::Untouched)
     }
@@ -82,48 +85,55 @@ fn find_on<H: SiteHooks>(
         (H.signals hooks.now visit.now.address visit.now.page) (Some new.now)) }
 {
     match finding.names() {
-        None => replay_on(alloc, hooks, &Aiming::ByPath, visit, new),
+        None => {
+            let mut lookups = Lookups::new(alloc, &visit.page, KnownInputs::new(alloc, new));
+            replay_on(alloc, hooks, &Aiming::ByPath, visit, new, &mut lookups)
+        }
         Some(fresh) => {
             let looks = Looks::of(alloc, new, fresh)?;
-            by_looks(alloc, hooks, &looks, visit)
+            let mut inputs = KnownInputs::new(alloc, new);
+            by_looks(alloc, hooks, &looks, &mut inputs, visit)
         }
     }
 }
 
-// On a page whose looks were made.
+// On a page whose looks were made, and of which these hidden inputs are known.
 fn by_looks<H: SiteHooks>(
     alloc: Global,
     hooks: &H,
     looks: &Looks<'_>,
+    inputs: &mut KnownInputs<'_>,
     visit: &Visit,
 ) -> Result<Outcome, NoMemory>
-    ensures { IfOk result (λ answer. answer ≡ on_page (Some looks.now.1) visit.now
+    requires { KnowsInputs looks.now.0 inputs.old }
+    ensures known { KnowsInputs looks.now.0 inputs.new }
+    ensures answer { IfOk result (λ answer. answer ≡ on_page (Some looks.now.1) visit.now
         (H.signals hooks.now visit.now.address visit.now.page) (Some looks.now.0)) }
 {
     let beside = looks.beside(alloc, &visit.page)?;
-    replay_on(
-        alloc,
-        hooks,
-        &Aiming::ByElement(beside),
-        visit,
-        looks.page(),
-    )
+    let aiming = Aiming::ByElement(beside);
+    let mut lookups = Lookups::new(alloc, &visit.page, inputs.take(alloc));
+    let answer = replay_on(alloc, hooks, &aiming, visit, looks.page(), &mut lookups)?;
+    *inputs = lookups.repaired;
+    Ok(answer)
 }
 
 // The events, up to the first that can't be replayed.
-fn replay_on<H: SiteHooks>(
+fn replay_on<'v, H: SiteHooks>(
     alloc: Global,
     hooks: &H,
     aiming: &Aiming<'_>,
-    visit: &Visit,
-    new: &Page,
+    visit: &'v Visit,
+    new: &'v Page,
+    lookups: &mut Lookups<'v, '_>,
 ) -> Result<Outcome, NoMemory>
-    requires { IsBetween aiming.now visit.now.page new.now }
-    ensures { IfOk result (λ answer. answer ≡ on_page (names_aimed aiming.now) visit.now
+    requires between { IsBetween aiming.now visit.now.page new.now }
+    requires known { AreLookedUp visit.now.page new.now lookups.old }
+    ensures answer { IfOk result (λ answer. answer ≡ on_page (names_aimed aiming.now) visit.now
         (H.signals hooks.now visit.now.address visit.now.page) (Some new.now)) }
+    ensures known { OnOk result (AreLookedUp visit.now.page new.now lookups.new) }
 {
     let mut fields = Fields::new(alloc);
-    let mut lookups = Lookups::new(alloc, &visit.page, new);
     let mut requests = Requests::new(alloc);
     requests.push(load_request(alloc, visit.address.as_str())?)?;
     for i in 0..visit.events.as_slice().len() {
@@ -133,7 +143,7 @@ fn replay_on<H: SiteHooks>(
             visit,
             new,
             i,
-            &mut lookups,
+            lookups,
             &mut fields,
             &mut requests,
         )? {
@@ -174,7 +184,7 @@ fn step<'a>(
     visit: &'a Visit,
     new: &'a Page,
     i: usize,
-    lookups: &mut Lookups<'a>,
+    lookups: &mut Lookups<'a, '_>,
     fields: &mut Fields<'a>,
     requests: &mut Requests,
 ) -> Result<Option<ConflictKind>, NoMemory>

@@ -4,6 +4,7 @@ use Rattle.upload_reader.specs.Upload.{UploadState}
 use Rattle.lanes_in_turn.specs.declared.gathered.Gathered.{Gathered}
 use Rattle.lanes_in_turn.specs.declared.gathered.LaneResult.{LaneResult}
 use Rattle.visit_replay.specs.declared.requests.Request.{Request}
+pub mod Telling
 
 -- a lane alone was gathered, and it has its upload
 pub record HasOnlyUpload {R : Type 0} (gathered : Gathered R) : Type 0 where

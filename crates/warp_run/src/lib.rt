@@ -16,6 +16,7 @@ mod reporting;
 mod running;
 mod settling;
 mod status;
+mod telling;
 
 pub use byte_streams::{Sink, Told};
 pub use concluding::{Concluded, conclude};

@@ -1,13 +1,11 @@
--- Which test stands at the front of a text, and what stands behind it.
-use Rattle.std.proofs.Common.{◌≡◌, ◌≢◌, ℕ, suc, ◌+◌, ◌==◌, Bool, true, false, not, ◌&&◌, ◌||◌, cond, nat_lt, List, [], ◌∷◌, ◌++◌, length, take, drop, Option, Some, None, option_map, IsTrue, bytes_eq, refl, sym, ◌∙◌, ap, arith, lt-ltb, le-ltb}
+-- The test of the first step of a text, and what stands behind it.
+use Rattle.std.proofs.Common.{◌≡◌, ◌≢◌, ℕ, suc, ◌+◌, ◌==◌, Bool, true, false, not, ◌&&◌, ◌||◌, cond, nat_lt, List, [], ◌∷◌, ◌++◌, length, take, drop, Some, None, option_map, refl, sym, ◌∙◌, ap, arith, lt-ltb, le-ltb}
 use Rattle.std.specs.List.{list_all, before_first, position, position_or_len}
-use Rattle.std.proofs.Math.Seq.{take-append_seam, drop-append_seam}
-use Rattle.std.proofs.lemmas.Bool.{and_parts, and_from, not-true, not_from_false, false_from_ne_true, eqb-true, ltb-true, ltb-false}
-use Rattle.std.proofs.lemmas.Slice.Eq.{bytes_eq-Decides}
-use Rattle.page_tree.specs.Name.{is_name, is_name_part}
+use Rattle.std.proofs.Math.Seq.{take_all, take-append_seam, drop-append_seam}
+use Rattle.std.proofs.lemmas.Bool.{and_parts, and_from, not-true, false_from_ne_true, eqb-true, ltb-true, ltb-false}
 use Rattle.xpath_child.specs.Fault.{test_part, index_part}
-use Rattle.xpath_child.specs.inside.Search.{first_in, left_in, is_inner, ends_test}
-use Rattle.xpath_child.proofs.Complete.{name_parts}
+use Rattle.xpath_child.specs.inside.Search.{first_in, left_in}
+use Rattle.xpath_child.proofs.Sound.{else_none, cond_is}
 
 -- ---- a byte that doesn't pass is passed over
 
@@ -41,6 +39,16 @@ behind-here c cs = ap (λ b. option_map (λ i. drop (i + 1) (c ∷ cs)) (cond b 
 abbrev pub test_at : List ℕ → List ℕ
 test_at text = test_part (first_in text)
 
+abbrev pub is_mark : ℕ → Bool
+is_mark c = c == 47 || c == 91
+
+abbrev is_inner : ℕ → Bool
+is_inner c = not (c == 47) && not (c == 91)
+
+abbrev ends_test : List ℕ → Bool
+ends_test [] = true
+ends_test (c ∷ _) = is_mark c
+
 inner : (c : ℕ) → is_inner c ≡ true → ((c == 47) ≡ false) × ((c == 91) ≡ false)
 inner c h = let parts = and_parts _ _ h in (not-true _ parts.0, not-true _ parts.1)
 
@@ -48,6 +56,11 @@ outer : (s b : Bool) → (not s && not b) ≡ false → (s || b) ≡ true
 outer true b h = refl
 outer false true h = refl
 outer false false h = sym h
+
+no_mark : (s b : Bool) → (not s && not b) ≡ true → (s || b) ≡ false
+no_mark true b h = cc
+no_mark false true h = cc
+no_mark false false h = refl
 
 test-next : (c : ℕ) (cs : List ℕ) → is_inner c ≡ true → test_at (c ∷ cs) ≡ c ∷ test_at cs
 test-next c cs h =
@@ -64,11 +77,6 @@ test-ends (c ∷ cs) h = by (c == 47) (c == 91) refl refl h
         ap test_part (before-next (λ b. b == 47) c cs slash)
         ∙ ap (λ t. take (cond (not t) (1 + position_or_len (λ b. b == 91) (first_in cs)) 0) (c ∷ first_in cs)) bracket
     by false false slash bracket h = cc
-
--- a text that goes on behind a test
-test_joined : (test tail : List ℕ) → list_all is_inner test ≡ true → ends_test tail ≡ true → test_at (test ++ tail) ≡ test
-test_joined [] tail h ends = test-ends tail ends
-test_joined (c ∷ cs) tail h ends = let parts = and_parts _ _ h in test-next c (cs ++ tail) parts.0 ∙ ap (λ t. c ∷ t) (test_joined cs tail parts.1 ends)
 
 pub record Split (text : List ℕ) : Type 0 where
   pub tail : List ℕ
@@ -94,57 +102,31 @@ pub split : (text : List ℕ) → Split text
 split [] = record { tail = []; is = refl; inner = refl; ends = refl }
 split (c ∷ cs) = split-next c cs (split cs) (is_inner c) refl
 
--- ---- whether a test stands there
+-- ---- where it ends
 
-eq_refl : (xs : List ℕ) → bytes_eq xs xs ≡ true
-eq_refl xs = (bytes_eq-Decides xs xs).1 refl
+mark-next : (c : ℕ) (cs : List ℕ) → position_or_len is_mark cs ≡ length (test_at cs) → (b : Bool) → is_inner c ≡ b → position_or_len is_mark (c ∷ cs) ≡ length (test_at (c ∷ cs))
+mark-next c cs rest true h = next is_mark c cs (no_mark (c == 47) (c == 91) h) ∙ ap suc rest ∙ sym (ap length (test-next c cs h))
+mark-next c cs rest false h =
+    let ends = outer (c == 47) (c == 91) h in
+    ap (λ b. cond (not b) (1 + position_or_len is_mark cs) 0) ends ∙ sym (ap length (test-ends (c ∷ cs) ends))
 
-module _ (text test front tail : List ℕ) (inner : list_all is_inner test ≡ true) (is : text ≡ front ++ tail) (long : length front ≡ length test) where
-  fronts : test_at text ≡ test → front ≡ test
-  fronts same =
-      sym (take-append_seam front tail) ∙ ap (λ t. take (length front) t) (sym is ∙ (split text).is ∙ ap (λ t. t ++ (split text).tail) same)
-      ∙ ap (λ n. take n (test ++ (split text).tail)) long ∙ take-append_seam test (split text).tail
+mark_at : (text : List ℕ) → position_or_len is_mark text ≡ length (test_at text)
+mark_at [] = refl
+mark_at (c ∷ cs) = mark-next c cs (mark_at cs) (is_inner c) refl
 
-  tails : test_at text ≡ test → tail ≡ (split text).tail
-  tails same =
-      sym (drop-append_seam front tail) ∙ ap (λ t. drop (length front) t) (sym is ∙ (split text).is ∙ ap (λ t. t ++ (split text).tail) same)
-      ∙ ap (λ n. drop n (test ++ (split text).tail)) long ∙ drop-append_seam test (split text).tail
+module _ (text : List ℕ) where
+  -- the test, cut off there
+  pub test_cut : (end : ℕ) → Some end ≡ position is_mark text → take end text ≡ test_at text
+  test_cut end h =
+      ap (λ n. take n text) (sym (cond_is _ _ _ (sym h)) ∙ mark_at text) ∙ ap (take (length (test_at text))) (split text).is
+      ∙ take-append_seam (test_at text) (split text).tail
 
-  pub stands : (e f : Bool) → ends_test tail ≡ e → bytes_eq front test ≡ f → (e && f) ≡ bytes_eq (test_at text) test
-  stands e f ends fits = by (bytes_eq (test_at text) test) refl e f ends fits
-    where
-      by : (b : Bool) → bytes_eq (test_at text) test ≡ b → (e f : Bool) → ends_test tail ≡ e → bytes_eq front test ≡ f → (e && f) ≡ b
-      by true told e f ends fits =
-          let same = (bytes_eq-Decides (test_at text) test).0 told in
-          let e_is : e ≡ true = sym ends ∙ ap ends_test (tails same) ∙ (split text).ends in
-          let f_is : f ≡ true = sym fits ∙ (bytes_eq-Decides front test).1 (fronts same) in
-          rw (e_is, f_is) refl
-      by false told true true ends fits =
-          let same = (bytes_eq-Decides front test).0 fits in
-          let found = ap test_at (is ∙ ap (λ t. t ++ tail) same) ∙ test_joined test tail inner ends in
-          sym (sym told ∙ (bytes_eq-Decides (test_at text) test).1 found)
-      by false told true false ends fits = refl
-      by false told false f ends fits = refl
-
--- a name is such a test
-part_inner : (c : ℕ) → is_name_part c ≡ true → is_inner c ≡ true
-part_inner c h = and_from _ _ (not_from_false _ (false_from_ne_true _ (λ e. let clash : true ≡ false = sym h ∙ ap is_name_part (eqb-true c 47 e) in cc))) (not_from_false _ (false_from_ne_true _ (λ e. let clash : true ≡ false = sym h ∙ ap is_name_part (eqb-true c 91 e) in cc)))
-
-all_inner : (bs : List ℕ) → list_all is_name_part bs ≡ true → list_all is_inner bs ≡ true
-all_inner [] h = refl
-all_inner (c ∷ cs) h = let parts = and_parts _ _ h in and_from _ _ (part_inner c parts.0) (all_inner cs parts.1)
-
-pub name_inner : (name : List ℕ) → IsTrue (is_name name) → IsTrue (list_all is_inner name)
-name_inner name h = all_inner name (name_parts name h)
-
--- what the place where it ends tells
-pub matched : (b : Bool) (n end : ℕ) (told : Option ℕ) → told ≡ cond b (Some n) None → told ≡ Some end → b ≡ true
-matched true n end told e is = refl
-matched false n end told e is = cc
-
-pub unmatched : (b : Bool) (n : ℕ) (told : Option ℕ) → told ≡ cond b (Some n) None → told ≡ None → b ≡ false
-unmatched true n told e is = cc
-unmatched false n told e is = refl
+  -- a test up to the end
+  pub test_whole : None ≡ position is_mark text → text ≡ test_at text
+  test_whole h =
+      let long = ltb-false _ _ (else_none _ _ h) in
+      sym (take_all (length (test_at text)) text (omega (arith, long, mark_at text))) ∙ ap (take (length (test_at text))) (split text).is
+      ∙ take-append_seam (test_at text) (split text).tail
 
 -- ---- what stands behind it
 

@@ -14,7 +14,7 @@ ghost use Rattle.xpath_child.specs.inside.Search.{AreSteps, note, Notes, hits_fr
 
 use crate::fault::PathFault;
 use crate::shared_text::SharedText;
-use crate::step::{Tail, end_of_match, fault_of};
+use crate::step::{Tail, fault_of, is_match, test_of};
 use page_tree::{NoMemory, Page, Place, Text};
 use std::alloc::Global;
 use std::marker::Model;
@@ -73,7 +73,7 @@ impl Path {
 
     /// What the path selects on a page, as `select`, by its number. The first step selects from the document, whose only child is the root.
     ///
-    /// It takes no memory. Each child of a node that a step reached is looked at once, and its name compared with the text. The search stops at a second
+    /// It takes no memory. Each child of a node that a step reached is looked at once, and its name compared with the step's. The search stops at a second
     /// node, and at each node once the index is past.
     pub fn find(&self, page: &Page) -> Found
         ensures target { IsTarget self.now page.now (place_found page.now result) }
@@ -83,11 +83,11 @@ impl Path {
         let Some(steps) = self.text.as_str().strip_prefix('/') else {
             return Found::Missing;
         };
-        let Some(end) = end_of_match(steps, name_of(page, 0)) else {
-            return Found::Missing;
-        };
+        let test = test_of(steps);
         let mut found = Found::Missing;
-        visit_child(page, Tail::of(steps, end), 0, 0, &mut found);
+        if is_match(test, page.name_of(0)) {
+            visit_child(page, Tail::of(steps, test.len()), 0, 0, &mut found);
+        }
         found
     }
 
@@ -191,18 +191,17 @@ fn visit(page: &Page, steps: Option<&str>, at: u32, found: &mut Found)
         found.note(at);
         return;
     };
-    let mut known = None;
+    let test = test_of(text);
+    let tail = Tail::of(text, test.len());
     let mut child = page.nodes_under(at).start;
     let mut before = 0;
     for i in 0..page.children_of(at) {
-        if let Some(end) = end_of_match(text, name_of(page, child)) {
-            let tail = Tail::known_or_of(known, text, end);
+        if is_match(test, page.name_of(child)) {
             visit_child(page, tail, child, before, found);
             before += 1;
             if found.is_several() || tail.is_past(before) {
                 return;
             }
-            known = Some(tail);
         }
         child = page.nodes_under(child).end;
     }
@@ -224,14 +223,4 @@ fn visit_child(page: &Page, tail: Tail<'_>, child: u32, before: u32, found: &mut
         return;
     }
     visit(page, tail.rest, child, found);
-}
-
-// The name of a node, which is one that a step may have; none for a text.
-#[inline(always)]
-fn name_of(page: &Page, number: u32) -> Option<&str>
-    ensures exact { option_map (λ name. name.now) result ≡ name_at (place_numbered number page.now) page.now }
-    ensures name { IfSome result (λ name. IsTrue (is_name name.now)) }
-{
-    page.within_limits();
-    page.name_of(number)
 }

@@ -6,9 +6,9 @@ ghost use Rattle.std.specs.Option.{option_map_or};
 ghost use Rattle.std.specs.Str.{bytes_eq};
 ghost use Rattle.std.specs.Str.Parse.{digits_value};
 ghost use Rattle.page_tree.specs.Name.{is_name};
-ghost use Rattle.xpath_child.specs.Fault.{is_test, is_index, is_closed_index, test_part, front, text_fault, first_step_fault, written_steps, path_fault, step_in};
+ghost use Rattle.xpath_child.specs.Fault.{is_test, is_index, is_closed_index, test_part, test_in, front, text_fault, first_step_fault, written_steps, path_fault};
 ghost use Rattle.xpath_child.specs.Reaches.{matches, is_nth};
-ghost use Rattle.xpath_child.specs.inside.Search.{AreSteps, first_in, is_inner, ends_test, IsTail};
+ghost use Rattle.xpath_child.specs.inside.Search.{AreSteps, first_in, IsTail};
 
 use crate::fault::{PathFault, PathFaultKind};
 use crate::limits::{MAX_INDEX_DIGITS, MAX_STEPS};
@@ -47,20 +47,6 @@ impl<'a> Tail<'a> {
         }
     }
 
-    /// The same, where it may be known already.
-    #[inline(always)]
-    pub(crate) fn known_or_of(known: Option<Tail<'a>>, steps: &'a str, end: usize) -> Tail<'a>
-        requires steps { AreSteps (Some steps.now) }
-        requires end { end ≡ length (test_part (first_in steps.now)) }
-        requires known { IfSome known (λ tail. IsTail steps.now tail) }
-        ensures { IsTail steps.now result }
-    {
-        match known {
-            Some(tail) => tail,
-            None => Tail::of(steps, end),
-        }
-    }
-
     /// Whether the index, if there is one, picks a match before which so many stand.
     pub(crate) fn picks(&self, before: u32) -> bool
         ensures { result ≡ is_nth self.now.index before }
@@ -82,43 +68,25 @@ impl<'a> Tail<'a> {
     }
 }
 
-/// Where the test of the first of these steps ends, if a node of that name matches it. No step is cut off for that: the text is compared with the name.
-#[inline(always)]
-pub(crate) fn end_of_match(steps: &str, name: Option<&str>) -> Option<usize>
-    requires { IfSome name (λ name. IsTrue (is_name name.now)) }
-    ensures { result ≡ (if matches (step_in (first_in steps.now)).test (option_map (λ name. name.now) name.entry)
-        then Some (length (test_part (first_in steps.now))) else None) }
+/// The test of the first of these steps.
+pub(crate) fn test_of(steps: &str) -> &[u8]
+    ensures { result.now ≡ test_part (first_in steps.now) }
 {
-    let name = name?;
-    if begins_with(steps.as_bytes(), name.as_bytes()) {
-        Some(name.len())
-    } else if begins_with(steps.as_bytes(), b"*") {
-        Some(1)
-    } else {
-        None
+    let bytes = steps.as_bytes();
+    match bytes.iter().position(|c| *c == b'/' || *c == b'[') {
+        None => bytes,
+        Some(end) => &bytes[..end],
     }
 }
 
-// Whether the first of these steps has that test.
+/// Whether a node of that name matches the test.
 #[inline(always)]
-fn begins_with(steps: &[u8], test: &[u8]) -> bool
-    requires { IsTrue (list_all is_inner test.now) }
-    ensures { result ≡ bytes_eq (test_part (first_in steps.now)) test.now }
+pub(crate) fn is_match(test: &[u8], name: Option<&str>) -> bool
+    ensures { result ≡ matches (test_in test.now) (option_map (λ name. name.now) name.entry) }
 {
-    match steps.split_at_checked(test.len()) {
+    match name {
         None => false,
-        Some((front, tail)) => ends_test(tail) && front == test,
-    }
-}
-
-// Whether a test may end before these bytes.
-#[inline(always)]
-fn ends_test(tail: &[u8]) -> bool
-    ensures { result ≡ ends_test tail.now }
-{
-    match tail {
-        [] => true,
-        [c, ..] => *c == b'/' || *c == b'[',
+        Some(name) => name.as_bytes() == test || test == b"*".as_slice(),
     }
 }
 

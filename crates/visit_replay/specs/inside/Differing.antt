@@ -1,18 +1,15 @@
 -- A visit's own requests, and what was looked up on pages, as the code keeps them while it goes through the events.
-use Rattle.std.specs.Prelude.{ℕ, ◌≡◌, ◌==◌, List, [], All, Option, Some, None, IfSome, map, option_and_then, slice_get, take}
+use Rattle.std.specs.Prelude.{ℕ, ◌≡◌, ◌==◌, List, All, Option, Some, None, IfSome, map, option_and_then, option_map, slice_get, take}
 use Rattle.std.specs.BTreeMap.{BTreeMap, get}
-use Rattle.std.specs.HashMap.{get_by}
-use Rattle.std.specs.List.{find, filter_map, range_with_len}
-use Rattle.std.specs.Option.{option_map_or}
+use Rattle.std.specs.List.{find, filter, filter_map, range_with_len}
 use Rattle.std.specs.Ordering.{nat_cmp}
-use Rattle.std.specs.Str.{bytes_eq}
 use Rattle.page_tree.specs.Tree.{Tree}
 use Rattle.page_tree.specs.Number.{place_numbered}
 use Rattle.upload_reader.specs.declared.message.Event.{Event}
 use Rattle.client_log.specs.declared.visit.Visit.{Visit}
 use Rattle.xpath_child.specs.Path.{Step}
 use Rattle.xpath_child.specs.Targets.{target_in, only_place}
-use Rattle.visit_replay.specs.Aim.{Aim, place_of_aim, button_of_aim, by_path, hidden_named}
+use Rattle.visit_replay.specs.Aim.{Aim, place_of_aim, button_of_aim, by_path, hidden_named, is_same_name}
 use Rattle.visit_replay.specs.Difference.{was_asked, are_alike}
 use Rattle.visit_replay.specs.Requests.{request_at}
 use Rattle.visit_replay.specs.declared.comparisons.Comparison.{Comparison}
@@ -48,9 +45,8 @@ KnowsPaths page paths = All (λ known. Selects page known.path.now known.node) p
 
 -- the numbers of the hidden inputs of that name
 abbrev pub numbers_named : NamedInputs → Option (List ℕ) → List ℕ
-numbers_named all None = all.nameless.items
-numbers_named all (Some name) =
-    option_map_or (λ numbers. numbers.items) (get_by (λ own. bytes_eq name own.now) all.named) []
+numbers_named all name = map (λ input. input.number)
+    (filter (λ input. is_same_name (option_map (λ n. n.now) input.name) name) all.inputs.items)
 
 -- these are the ones among the children of the node there
 abbrev pub AreHiddenUnder : Tree → List ℕ → NamedInputs → Type 0

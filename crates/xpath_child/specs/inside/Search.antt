@@ -1,6 +1,5 @@
--- The search for a target in the code: the steps that are left in the text, what it has found so far, and which
--- children it need not look at.
-use Rattle.std.specs.Prelude.{◌≡◌, ℕ, ◌+◌, List, [], ◌∷◌, Bool, true, not, ◌&&◌, ◌||◌, ◌==◌, if◌then◌else◌, Option, None, option_map, map, drop, fold}
+-- The search for a target in the code: the steps that are left in the text, and what it has found so far.
+use Rattle.std.specs.Prelude.{◌≡◌, ℕ, ◌+◌, List, [], ◌==◌, if◌then◌else◌, Option, None, option_map, map, drop, fold}
 use Rattle.std.specs.List.{before_first, position}
 use Rattle.std.specs.Option.{option_map_or, IfSome}
 use Rattle.page_tree.specs.Tree.{Tree}
@@ -29,14 +28,6 @@ first_in text = before_first (λ c. c == 47) text
 
 abbrev pub left_in : List ℕ → Option (List ℕ)
 left_in text = option_map (λ i. drop (i + 1) text) (position (λ c. c == 47) text)
-
--- bytes that a test has, and what may stand behind it
-abbrev pub is_inner : ℕ → Bool
-is_inner c = not (c == 47) && not (c == 91)
-
-abbrev pub ends_test : List ℕ → Bool
-ends_test [] = true
-ends_test (c ∷ _) = c == 47 || c == 91
 
 -- this stands in a text behind the test of its first step
 pub record IsTail (text : List ℕ) (tail : Tail) : Type 0 where

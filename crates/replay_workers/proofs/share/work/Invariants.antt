@@ -1,5 +1,6 @@
 use Rattle.std.proofs.Common.{◌-◌, map}
 use Rattle.visit_replay.specs.RepairedSite.{site_by}
+use Rattle.replay_workers.specs.SitePages.{IsLastOf}
 use Rattle.replay_workers.specs.Work.{own_outcomes}
 use Rattle.replay_workers.proofs.Divided.{next_after}
 use Rattle.replay_workers.proofs.Working.{IsWorking}
@@ -9,4 +10,7 @@ abbrev pub decreases-loop-alloc : goal.decreases-loop-alloc
 decreases-loop-alloc g l = l.claims.count - next_after l.seat.drawn
 
 abbrev pub invariant-loop-alloc : goal.invariant-loop-alloc
-invariant-loop-alloc g l = IsWorking (λ done. done.items) (own_outcomes (site_by g.H.SiteLaw.page_of g.H.SiteLaw.signals l.hooks l.patch l.finding) (map (λ visit. visit.now) l.visits)) l.claims l.fn.seat l.seat l.done
+invariant-loop-alloc g l = record {
+  working : IsWorking (λ done. done.items) (own_outcomes (site_by g.H.SiteLaw.page_of g.H.SiteLaw.signals l.hooks l.patch l.finding) (map (λ visit. visit.now) l.visits)) l.claims l.fn.seat l.seat l.done;
+  last : IsLastOf (g.H.SiteLaw.page_of l.hooks) l.finding l.last;
+}

@@ -13,4 +13,4 @@ returns-in_ok-looks-in-Some g c =
     IfOk-weaker c.changed_beside.result _ _
     (λ it told. told ∙ ap (λ now. Some (Changed (was_asked visit c.args.k) now))
     (ap (λ looks. asks_now looks.1 visit looks.0 c.args.k) c.in_ok-looks-in-Some.ensures ∙ ap (option_and_then (λ page. asks_now fresh visit page c.args.k)) there))
-    c.changed_beside.ensures
+    c.changed_beside.ensures.told

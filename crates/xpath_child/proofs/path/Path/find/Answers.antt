@@ -1,16 +1,16 @@
-use Rattle.std.proofs.Common.{◌≡◌, ◌≢◌, ℕ, List, Some, None, subst, refl, ap, sym, ◌∙◌, ◌∷◌, map, drop, lit<}
+use Rattle.std.proofs.Common.{true, false, option_map, ◌≡◌, ◌≢◌, ℕ, List, Some, None, subst, refl, ap, sym, ◌∙◌, ◌∷◌, map, drop, lit<}
 use Rattle.std.proofs.lemmas.Str.Pattern.{strip_prefix_char}
 use Rattle.page_tree.specs.Number.{place_numbered}
+use Rattle.page_tree.specs.Look.{name_at}
 use Rattle.page_tree.proofs.NodesUnder.{root_numbered}
 use Rattle.xpath_child.specs.Path.{Step}
-use Rattle.xpath_child.specs.Fault.{path_fault, written_steps, step_in}
+use Rattle.xpath_child.specs.Fault.{path_fault, written_steps, step_in, test_in}
 use Rattle.xpath_child.specs.Reaches.{IsTarget, matches}
 use Rattle.xpath_child.specs.Targets.{place_found}
 use Rattle.xpath_child.specs.declared.path.Target.TheVariants.{Missing}
 use Rattle.xpath_child.specs.inside.Search.{steps_in, AreSteps, first_in, left_in}
 use Rattle.xpath_child.proofs.Answered.{no_slash}
 use Rattle.xpath_child.proofs.Cut.{cut_steps, rest_are}
-use Rattle.xpath_child.proofs.Matched.{matched, unmatched}
 use Rattle.xpath_child.proofs.Steps.{found_target, match_noted, other_noted}
 use Rattle.xpath_child.proofs.Places.{target_in-is}
 use Rattle.xpath_child.proofs.Numbers.{found_inside}
@@ -45,40 +45,42 @@ cut : (path : List Step) (text shown steps : List ℕ) → map step_in (written_
 cut path text shown steps view same slash =
     sym view ∙ ap (λ t. map step_in (written_steps (drop 1 t))) (sym same ∙ slash) ∙ cut_steps steps (first_in steps) (left_in steps) refl refl
 
-pub returns-clause-exact : goal.returns-clause-exact
-returns-clause-exact c =
+pub returns-then-is_match-clause-exact : goal.returns-then-is_match-clause-exact
+returns-then-is_match-clause-exact c =
     let page = c.args.page.now in
     let slash = strip_prefix_char 47 c.as_str.result.now (Some c.in-Some.steps) c.in-Some.ensures.cases (lit< tt) in
     let text = c.in-Some.steps.now in
     let step = step_in (first_in text) in
     let rest = steps_in (left_in text) in
     let root = place_numbered 0 page in
-    let fits = ap (matches step.test) (sym c.name_of.ensures.exact) ∙ matched _ _ c.in-Some-end_of_match.end c.end_of_match.result c.end_of_match.ensures c.in-Some-end_of_match.is in
+    let fits : matches step.test (name_at root page) ≡ true =
+    ap (matches step.test) (sym c.name_of.ensures) ∙ ap (λ t. matches (test_in t) (option_map (λ name. name.now) c.name_of.result)) (sym c.test_of-test.ensures) ∙ sym c.is_match.ensures ∙ c.if-is_match.true in
     let found = place_found page c.visit_child.new.found in
     found_target page step rest c.args.self.now root found (cut c.args.self.now c.self.inside.text c.as_str.result.now text c.self.view_is c.as_str.ensures slash) (root_numbered page)
     (match_noted page step rest root 0 _ _ Missing found fits c.of.ensures.index (ap steps_in c.of.ensures.rest) c.visit_child.ensures)
 
-pub returns-in_default-end_of_match-clause-exact : goal.returns-in_default-end_of_match-clause-exact
-returns-in_default-end_of_match-clause-exact c =
+pub returns-else-is_match-clause-exact : goal.returns-else-is_match-clause-exact
+returns-else-is_match-clause-exact c =
     let page = c.args.page.now in
     let slash = strip_prefix_char 47 c.as_str.result.now (Some c.in-Some.steps) c.in-Some.ensures.cases (lit< tt) in
     let text = c.in-Some.steps.now in
     let step = step_in (first_in text) in
     let rest = steps_in (left_in text) in
     let root = place_numbered 0 page in
-    let other = ap (matches step.test) (sym c.name_of.ensures.exact) ∙ unmatched _ _ c.end_of_match.result c.end_of_match.ensures c.in_default-end_of_match.is in
+    let other : matches step.test (name_at root page) ≡ false =
+    ap (matches step.test) (sym c.name_of.ensures) ∙ ap (λ t. matches (test_in t) (option_map (λ name. name.now) c.name_of.result)) (sym c.test_of-test.ensures) ∙ sym c.is_match.ensures ∙ c.if-is_match.false in
     found_target page step rest c.args.self.now root Missing (cut c.args.self.now c.self.inside.text c.as_str.result.now text c.self.view_is c.as_str.ensures slash) (root_numbered page)
     (other_noted page step rest root 0 Missing other)
 
-pub returns-in_default-end_of_match-clause-target : goal.returns-in_default-end_of_match-clause-target
-returns-in_default-end_of_match-clause-target c =
+pub returns-then-is_match-clause-target : goal.returns-then-is_match-clause-target
+returns-then-is_match-clause-target c =
     let page = c.args.page.now in
-    subst (IsTarget c.args.self.now page) (sym (returns-in_default-end_of_match-clause-exact c)) (target_in-is c.args.self.now page)
+    subst (IsTarget c.args.self.now page) (sym (returns-then-is_match-clause-exact c)) (target_in-is c.args.self.now page)
 
-pub returns-clause-target : goal.returns-clause-target
-returns-clause-target c =
+pub returns-else-is_match-clause-target : goal.returns-else-is_match-clause-target
+returns-else-is_match-clause-target c =
     let page = c.args.page.now in
-    subst (IsTarget c.args.self.now page) (sym (returns-clause-exact c)) (target_in-is c.args.self.now page)
+    subst (IsTarget c.args.self.now page) (sym (returns-else-is_match-clause-exact c)) (target_in-is c.args.self.now page)
 
-pub returns-clause-there : goal.returns-clause-there
-returns-clause-there c = λ number is. found_inside c.args.self.now c.args.page.now _ number is (returns-clause-target c)
+pub returns-then-is_match-clause-there : goal.returns-then-is_match-clause-there
+returns-then-is_match-clause-there c = λ number is. found_inside c.args.self.now c.args.page.now _ number is (returns-then-is_match-clause-target c)

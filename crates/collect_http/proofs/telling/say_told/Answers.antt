@@ -1,0 +1,16 @@
+use Rattle.std.proofs.Common.{ℕ, List, [], ◌++◌, ap, ◌∙◌}
+use Rattle.std.proofs.lemmas.Result.{on_ok_weaker}
+use Rattle.http1.specs.Fields.{Header}
+use Rattle.http_server.specs.Response.{IsResponse}
+use Rattle.upload_store.specs.Store.{StoreState}
+use Rattle.upload_folder.specs.Standing.{IsOpenAt}
+use Rattle.collect_http.specs.Answering.{text_fields}
+use Rattle.collect_http.specs.Telling.{told_text}
+use Rattle.collect_http.proofs.telling.say_told.Goals as goal
+
+pub returns : goal.returns
+returns g c = on_ok_weaker c.say.result
+    (λ (says : (code : ℕ) (sent : List Header) → IsResponse code sent [] c.args.response.now → IsResponse 200 (sent ++ text_fields) c.deref.result.now c.say.new.response) (code : ℕ) (sent : List Header) (state : StoreState)
+    (was : IsResponse code sent [] c.args.response.now) (opens : IsOpenAt g.F.GrowingFile.seen g.F.GrowingFile.durable g.F.GrowingFile.lost c.args.clients.now c.args.client.now state).
+    let is = says code sent was in
+    record { status = is.status; headers = is.headers; body = is.body ∙ c.deref.ensures.value ∙ c.in_ok-text.ensures state opens ∙ ap (told_text state) c.as_slice.ensures.keys }) c.say.ensures

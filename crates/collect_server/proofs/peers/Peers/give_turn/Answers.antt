@@ -1,0 +1,11 @@
+use Rattle.std.proofs.Common.{subst}
+use Rattle.collect_server.specs.Rounds.{PlaceKeeps}
+use Rattle.collect_server.proofs.Places.{at_same, at_set, keeps_same, keeps_turn}
+use Rattle.collect_server.proofs.peers.Peers.give_turn.Goals as goal
+
+pub returns-in-Some-clause-keeps : goal.returns-in-Some-clause-keeps
+returns-in-Some-clause-keeps c = at_set PlaceKeeps keeps_same c.args.self.now.places.items c.in-Some.place c.give_turn.new.peer c.index_mut.result.now
+    (subst (λ x. PlaceKeeps x c.give_turn.new.peer) c.index_mut.ensures.value (keeps_turn _ _ c.give_turn.ensures))
+
+pub returns-in_default-clause-keeps : goal.returns-in_default-clause-keeps
+returns-in_default-clause-keeps c = at_same PlaceKeeps keeps_same c.args.self.now.places.items

@@ -1,0 +1,4 @@
+pub mod Call
+pub mod Fault
+pub mod Rounds
+pub mod inside

@@ -1,5 +1,0 @@
-use Rattle.replay_workers.specs.SiteLooks.{ArePagesOf}
-use Rattle.replay_workers.proofs.site_looks.pages_of.Given as goal
-
-abbrev pub invariant-loop-visit : goal.invariant-loop-visit
-invariant-loop-visit g l = ArePagesOf (g.H.SiteLaw.page_of l.hooks) l.pages.items

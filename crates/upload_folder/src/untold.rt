@@ -1,0 +1,28 @@
+//! Why nothing is told of a client.
+use upload_files::FileFault;
+
+/// Why a call on a client's file answers nothing.
+#[derive(Clone, Copy, Debug, PartialEq, Eq)]
+pub enum Untold {
+    /// The file is still being read, or too many are in use: whoever asks is to come again.
+    Busy,
+    /// An allocation was refused.
+    NoMemory,
+    /// There is no room on the disk, or for one more client.
+    Full,
+    /// The client's file is as long as it may be.
+    TooLong,
+    /// A call of the system failed.
+    Failed,
+    /// The file isn't touched any more, until the server starts again.
+    Closed,
+}
+
+impl Untold {
+    pub(crate) fn of(fault: FileFault) -> Untold {
+        match fault {
+            FileFault::Full => Untold::Full,
+            FileFault::Failed => Untold::Failed,
+        }
+    }
+}
