@@ -47,7 +47,7 @@ pub(crate) fn say_nothing(
     say(response, StatusCode::OK, &text)
 }
 
-// How many lines of each visit are stored, and which visits the last body had refused, with why.
+// How many lines of each visit are stored, and which visits are refused, with why.
 fn told_text<F: GrowingFile + Drop, D: Folder<F>>(
     alloc: Global,
     clients: &Clients<F, D>,

@@ -217,14 +217,12 @@ fn each_line_is_stored_once_and_in_order(rt: HostRuntime) -> Result<(), Fail> {
             "{\"have\":{\"a\":1},\"refused\":{}}\n"
         )?
     );
-    let refused = "{\"have\":{\"a\":1,\"b\":1},\"refused\":{\"a\":\"E8.X1\"}}\n";
-    assert!(rt; tells(&rt, &mut all, &[BAD_A2, A3, B1], refused)?);
     assert!(rt;
         tells(
             &rt,
             &mut all,
-            &[A2, A2, A3],
-            "{\"have\":{\"a\":3},\"refused\":{}}\n"
+            &[A2, A2, A3, B1],
+            "{\"have\":{\"a\":3,\"b\":1},\"refused\":{}}\n"
         )?
     );
     assert!(rt; tells(&rt, &mut all, &[UNENDED], "{\"have\":{},\"refused\":{}}\n")?);
@@ -233,6 +231,48 @@ fn each_line_is_stored_once_and_in_order(rt: HostRuntime) -> Result<(), Fail> {
         told.as_str()
             .ends_with("{\"have\":{\"a\":3,\"b\":1},\"refused\":{}}\n")
     );
+    Ok(())
+}
+
+#[test]
+fn a_refused_visit_is_refused_for_good(rt: HostRuntime) -> Result<(), Fail> {
+    let mut all = begin(&rt, NEVER, 9, 1 << 20)?;
+    let refused = "{\"have\":{\"a\":1,\"b\":1},\"refused\":{\"a\":\"E8.X1\"}}\n";
+    assert!(rt; tells(&rt, &mut all, &[A1, BAD_A2, A2, B1], refused)?);
+    assert!(rt; tells(&rt, &mut all, &[A2, B1], refused)?);
+    let told = ask(&rt, &mut all, GET, "")?;
+    assert!(rt; told.as_str().ends_with(refused));
+    Ok(())
+}
+
+// What is told of a line that is too long, with these first members.
+fn long_line_told<R: AllocGlobal + RandomSource>(rt: &R, members: &str) -> Result<String, Fail> {
+    let mut collector = begin(rt, NEVER, 9, 1 << 20)?;
+    let mut body = String::from_str(rt.alloc(), members)?;
+    for _ in 0..8192 {
+        body.push_str("        ")?;
+    }
+    body.push_str("\"path\":\"/\"}\n")?;
+    ask(rt, &mut collector, POST, body.as_str())
+}
+
+#[test]
+fn e4_a_line_that_is_too_long_is_judged_by_its_first_two_members(
+    rt: HostRuntime,
+) -> Result<(), Fail> {
+    let told = long_line_told(&rt, "{\"v\":\"a\",\"n\":1,")?;
+    assert!(rt;
+        told.as_str()
+            .ends_with("{\"have\":{\"a\":0},\"refused\":{\"a\":\"E4\"}}\n")
+    );
+    let early = long_line_told(&rt, "{\"v\":\"a\",\"n\":2,")?;
+    assert!(rt;
+        early
+            .as_str()
+            .ends_with("{\"have\":{\"a\":0},\"refused\":{}}\n")
+    );
+    let unknown = long_line_told(&rt, "{\"t\":\"load\",\"at\":1,\"v\":\"a\",\"n\":1,")?;
+    assert!(rt; unknown.as_str().ends_with("{\"have\":{},\"refused\":{}}\n"));
     Ok(())
 }
 

@@ -1,8 +1,9 @@
 //! Pages that tests are made of, and what is found as a text.
-use page_looks::Beside;
+use page_looks::{Beside, FreshNames};
 use page_tree::{Page, Text};
 use serde_json::Value;
 use std::alloc::Global;
+use std::hash::RandomState;
 use std::test::Fail;
 
 /// Pages that tests are made of. A row names one, since each text that stands in a row is proved there.
@@ -72,12 +73,12 @@ pub(crate) fn page(alloc: Global, of: Made) -> Result<Page, Fail> {
 }
 
 /// That name, or none where it is empty.
-pub(crate) fn names(alloc: Global, name: &str) -> Result<Vec<Text>, Fail> {
+pub(crate) fn names(alloc: Global, keys: RandomState, name: &str) -> Result<FreshNames, Fail> {
     let mut names = Vec::new(alloc);
     if !name.is_empty() {
         names.push(Text::from_str(alloc, name)?)?;
     }
-    Ok(names)
+    Ok(FreshNames::new(names, keys))
 }
 
 /// What is found of the node with that number.

@@ -1,6 +1,7 @@
 use crate::made::{Made, names, page, told};
 use page_looks::Looks;
 use std::alloc::Global;
+use std::hash::RandomState;
 use std::process::Abort;
 use std::test::Fail;
 
@@ -48,10 +49,17 @@ const ALIKE: &[(Made, Made, &str, u32, u32, bool)] = &[
     (Made::Form, Made::FormMoved, "", 1, 1, false),
 ];
 
-fn found(alloc: Global, old: Made, new: Made, fresh: &str, number: u32) -> Result<String, Fail> {
+fn found(
+    alloc: Global,
+    keys: RandomState,
+    old: Made,
+    new: Made,
+    fresh: &str,
+    number: u32,
+) -> Result<String, Fail> {
     let (old, new) = (page(alloc, old)?, page(alloc, new)?);
-    let names = names(alloc, fresh)?;
-    let looks = Looks::of(alloc, &new, names.as_slice())?;
+    let names = names(alloc, keys, fresh)?;
+    let looks = Looks::of(alloc, &new, &names)?;
     let beside = looks.beside(alloc, &old)?;
     told(alloc, &beside, number)
 }
@@ -59,7 +67,7 @@ fn found(alloc: Global, old: Made, new: Made, fresh: &str, number: u32) -> Resul
 #[test]
 fn an_element_is_known_by_what_is_seen(rt: HostRuntime) -> Result<(), Fail> {
     for &(old, new, fresh, number, want) in FOUND {
-        let got = found(rt.alloc(), old, new, fresh, number)?;
+        let got = found(rt.alloc(), RandomState::new(&rt)?, old, new, fresh, number)?;
         assert!(rt; got.as_str() == want, "{number}: {got}, and not {want}");
     }
     Ok(())
@@ -67,6 +75,7 @@ fn an_element_is_known_by_what_is_seen(rt: HostRuntime) -> Result<(), Fail> {
 
 fn alike(
     alloc: Global,
+    keys: RandomState,
     old: Made,
     new: Made,
     fresh: &str,
@@ -74,8 +83,8 @@ fn alike(
     is: u32,
 ) -> Result<bool, Fail> {
     let (old, new) = (page(alloc, old)?, page(alloc, new)?);
-    let names = names(alloc, fresh)?;
-    let looks = Looks::of(alloc, &new, names.as_slice())?;
+    let names = names(alloc, keys, fresh)?;
+    let looks = Looks::of(alloc, &new, &names)?;
     let beside = looks.beside(alloc, &old)?;
     Ok(beside.sends_alike(was, is))
 }
@@ -83,7 +92,7 @@ fn alike(
 #[test]
 fn what_two_elements_send_is_compared(rt: HostRuntime) -> Result<(), Fail> {
     for &(old, new, fresh, was, is, want) in ALIKE {
-        let got = alike(rt.alloc(), old, new, fresh, was, is)?;
+        let got = alike(rt.alloc(), RandomState::new(&rt)?, old, new, fresh, was, is)?;
         assert!(rt; got == want, "{was} and {is}");
     }
     Ok(())

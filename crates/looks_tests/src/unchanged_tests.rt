@@ -1,6 +1,7 @@
 use crate::made::{Made, names, page};
 use page_looks::{Beside, Looks};
 use std::alloc::Global;
+use std::hash::RandomState;
 use std::process::Abort;
 use std::test::Fail;
 
@@ -22,10 +23,15 @@ fn is_itself(beside: &Beside<'_>, number: u32, unseen: &[u32]) -> bool {
     }
 }
 
-fn are_themselves(alloc: Global, of: Made, unseen: &[u32]) -> Result<bool, Fail> {
+fn are_themselves(
+    alloc: Global,
+    keys: RandomState,
+    of: Made,
+    unseen: &[u32],
+) -> Result<bool, Fail> {
     let page = page(alloc, of)?;
-    let names = names(alloc, "tok")?;
-    let looks = Looks::of(alloc, &page, names.as_slice())?;
+    let names = names(alloc, keys, "tok")?;
+    let looks = Looks::of(alloc, &page, &names)?;
     let beside = looks.beside(alloc, &page)?;
     let mut all = true;
     for number in 0..page.node_count() {
@@ -37,7 +43,11 @@ fn are_themselves(alloc: Global, of: Made, unseen: &[u32]) -> Result<bool, Fail>
 #[test]
 fn on_an_unchanged_page_each_seen_node_is_itself(rt: HostRuntime) -> Result<(), Fail> {
     for &(of, unseen) in PAGES {
-        assert!(rt; are_themselves(rt.alloc(), of, unseen)?, "{}", of.text());
+        assert!(rt;
+            are_themselves(rt.alloc(), RandomState::new(&rt)?, of, unseen)?,
+            "{}",
+            of.text()
+        );
     }
     Ok(())
 }

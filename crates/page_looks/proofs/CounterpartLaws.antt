@@ -262,6 +262,26 @@ lowest_none old new at (i ∷ way) x y rest none a whole long =
     ]
     here (Some b) own one deeper = cc
 
+-- no other anchor on the way stands lower than the one that is found
+lowest_all : (old new : Tree) (at way x y rest : List ℕ) (a : Around) → lowest_from old new at way ≡ Some a → IsAnchor old new x y
+    → x ++ rest ≡ at ++ way → length x ≤ length a.at
+lowest_all old new at [] x y rest a is anchor whole =
+    omega (arith, (around_some old new at [] a is).deep, ap length whole, length-append x rest, length-append at [])
+lowest_all old new at (i ∷ way) x y rest a is anchor whole =
+    here (lowest_from old new (at ++ i ∷ []) way) refl is (lowest_all old new (at ++ i ∷ []) way x y rest a)
+  where
+    further : x ++ rest ≡ (at ++ i ∷ []) ++ way
+    further = whole ∙ sym (append_assoc at (i ∷ []) way)
+
+    here : (o : Option Around) → lowest_from old new (at ++ i ∷ []) way ≡ o → option_or o (around_from old new at (i ∷ way)) ≡ Some a
+        → (lowest_from old new (at ++ i ∷ []) way ≡ Some a → IsAnchor old new x y → x ++ rest ≡ (at ++ i ∷ []) ++ way → length x ≤ length a.at)
+        → length x ≤ length a.at
+    here None own one deeper = elim (cases_lt (length at) (length x)) [
+      | inl less ↦ absurd (lowest_none old new (at ++ i ∷ []) way x y rest own anchor further (omega (arith, less, length-append at (i ∷ []))))
+      | inr past ↦ omega (arith, past, (around_some old new at (i ∷ way) a one).deep)
+    ]
+    here (Some b) own one deeper = deeper (own ∙ one) anchor further
+
 abbrev around : List ℕ → List ℕ → List ℕ → Around
 around at there way = record { at = at; there = there; way = way }
 
@@ -306,6 +326,16 @@ nearest_some old new p a is = here (seen_place p old) refl is
     here (Some s) own one =
         let w = lowest_some old new [] s a one in
         (w.anchor, own ∙ ap Some (sym w.whole))
+
+pub nearest_lowest : (old new : Tree) (p : List ℕ) (a : Around) → nearest_around old new p ≡ Some a → (x y rest : List ℕ) → IsAnchor old new x y
+    → seen_place p old ≡ Some (x ++ rest) → length x ≤ length a.at
+nearest_lowest old new p a is x y rest anchor seen = here (seen_place p old) refl is
+  where
+    here : (o : Option (List ℕ)) → seen_place p old ≡ o → option_and_then (lowest_from old new []) o ≡ Some a → length x ≤ length a.at
+    here None own one = cc
+    here (Some s) own one =
+        let whole : x ++ rest ≡ [] ++ s = cc in
+        lowest_all old new [] s x y rest a one anchor whole
 
 pub nearest_is : (old new : Tree) (number : ℕ) (n : Nearest) → (w : IsNearest old new number n)
     → nearest_around old new (place_numbered number old) ≡ Some (record { at = w.place; there = w.beyond; way = w.way })

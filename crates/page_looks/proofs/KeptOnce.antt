@@ -1,6 +1,6 @@
 -- A thing that is looked for among those that are kept.
-use Rattle.std.proofs.Common.{◌≡◌, ℕ, zero, suc, ◌+◌, List, [], ◌∷◌, ◌++◌, length, map, Bool, true, false, Some, None, Option, option_map, slice_get, MatchOption, position, refl, sym, ◌∙◌, ap, ◌⊎◌, inl, inr, arith, append_assoc, true≢false, is_some, length-append, if◌then◌else◌}
-use Rattle.std.specs.List.{list_any}
+use Rattle.std.proofs.Common.{◌≡◌, ℕ, zero, suc, ◌+◌, List, [], ◌∷◌, ◌++◌, length, map, Bool, true, false, not, cond, Some, None, Option, option_map, slice_get, MatchOption, position, refl, sym, ◌∙◌, ap, ◌⊎◌, inl, inr, arith, append_assoc, true≢false, is_some, length-append, if◌then◌else◌}
+use Rattle.std.specs.List.{list_any, position_or_len}
 use Rattle.std.specs.Str.{bytes_eq}
 use Rattle.std.proofs.lemmas.Option.{slice_get-map, slice_get-get_or}
 use Rattle.std.proofs.lemmas.List.Quantifiers.{position-Some}
@@ -45,25 +45,40 @@ find_by view q xs (Some i) is some =
 
 -- ---- putting in
 
-absent_any : {X : Type 0} (view : X → List ℕ) (q : List ℕ) (xs : List X) (b : Bool) → IsAbsent (map view xs) q
-    → list_any (λ k. bytes_eq q (view k)) xs ≡ b → b ≡ false
-absent_any view q [] b absent is = sym is
-absent_any view q (x ∷ xs) b absent is = head (bytes_eq q (view x)) refl (λ c later. absent_any view q xs c (λ i. absent (suc i)) later)
-  where
-    head : (h : Bool) → bytes_eq q (view x) ≡ h → ((c : Bool) → list_any (λ k. bytes_eq q (view k)) xs ≡ c → c ≡ false) → b ≡ false
-    head true own rest = absurd (absent 0 (ap Some (sym ((bytes_eq-Decides q (view x)).0 own))))
-    head false own rest = rest b (rw own at is)
+none_long : {X : Type 0} (test : X → Bool) (xs : List X) → list_any test xs ≡ false → position_or_len test xs ≡ length xs
+none_long test [] none = refl
+none_long test (x ∷ xs) none =
+    let parts = or_parts (test x) (list_any test xs) none in
+    ap (λ b. cond (not b) (1 + position_or_len test xs) 0) parts.0 ∙ omega (arith, none_long test xs parts.1)
 
 map-snoc : {X : Type 0} (view : X → List ℕ) (xs : List X) (x : X) → map view (xs ++ x ∷ []) ≡ map view xs ++ view x ∷ []
 map-snoc view [] x = refl
 map-snoc view (y ∷ ys) x = ap (λ r. view y ∷ r) (map-snoc view ys x)
 
-pub put_by : {X : Type 0} (view : X → List ℕ) (x : X) (xs ys : List X) → IsAbsent (map view xs) (view x)
-    → ys ≡ (if list_any (λ k. bytes_eq (view x) (view k)) xs then xs else xs ++ x ∷ [])
-    → map view ys ≡ map view xs ++ view x ∷ []
-put_by view x xs ys absent is =
-    let none = absent_any view (view x) xs (list_any (λ k. bytes_eq (view x) (view k)) xs) absent refl in
-    ap (map view) (is ∙ ap (λ b. if b then xs else xs ++ x ∷ []) none) ∙ map-snoc view xs x
+length-mapped : {X : Type 0} (view : X → List ℕ) (xs : List X) → length (map view xs) ≡ length xs
+length-mapped view [] = refl
+length-mapped view (x ∷ xs) = ap suc (length-mapped view xs)
+
+-- a thing was put in, or was found
+pub put_by : {X : Type 0} (view : X → List ℕ) (x : X) (xs ys : List X) (i : ℕ) → ys ≡ (if list_any (λ k. bytes_eq (view x) (view k)) xs then xs else xs ++ x ∷ [])
+    → i ≡ position_or_len (λ k. bytes_eq (view x) (view k)) xs → (k : X) × (slice_get ys i ≡ Some k) × (bytes_eq (view x) (view k) ≡ true) → IsPutIn (map view xs) (map view ys) (view x) i
+put_by {X = X} view x xs ys i is first (k, at, passes) = record {
+  at = slice_get-map view ys i ∙ ap (option_map view) at ∙ ap Some (sym ((bytes_eq-Decides (view x) (view k)).0 passes));
+  grown = grown (list_any test xs) refl;
+}
+  where
+    test : X → Bool
+    test k = bytes_eq (view x) (view k)
+
+    grown : (b : Bool) → list_any test xs ≡ b → (map view ys ≡ map view xs) ⊎ ((map view ys ≡ map view xs ++ view x ∷ []) × (i ≡ length (map view xs)) × IsAbsent (map view xs) (view x))
+    grown true some = inl (ap (map view) (is ∙ ap (λ b. if b then xs else xs ++ x ∷ []) some))
+    grown false none = inr (
+      ap (map view) (is ∙ ap (λ b. if b then xs else xs ++ x ∷ []) none) ∙ map-snoc view xs x,
+      first ∙ none_long test xs none ∙ sym (length-mapped view xs),
+      λ j there.
+          let (y, seen, same) = seen_at view xs j (view x) (slice_get xs j) refl there in
+          true≢false (sym ((bytes_eq-Decides (view x) (view y)).1 (sym same)) ∙ none_passes test xs j y none seen),
+    )
 
 -- ---- lists behind one another
 
@@ -96,18 +111,14 @@ absent_both xs ys x here there i is = elim (get_either xs ys i x is) [
 pub found_below : (below old : List (List ℕ)) (x : List ℕ) (n i : ℕ) → slice_get below i ≡ Some x → n ≡ i → IsPutIn (below ++ old) (below ++ old) x n
 found_below below old x n i at same = record { at = rw same (get_first below old i x at); grown = inl refl }
 
-pub found_own : (below old : List (List ℕ)) (x : List ℕ) (n m i : ℕ) → slice_get old i ≡ Some x → m ≡ length below → n ≡ m + i
-    → IsPutIn (below ++ old) (below ++ old) x n
-found_own below old x n m i at many same = record { at = rw (same, many) (get_behind below old i ∙ at); grown = inl refl }
-
-pub put_in : (below old new : List (List ℕ)) (x : List ℕ) (n m k : ℕ) → IsAbsent below x → IsAbsent old x → new ≡ old ++ x ∷ [] → m ≡ length below
-    → k ≡ length old → n ≡ m + k → IsPutIn (below ++ old) (below ++ new) x n
-put_in below old new x n m k here there grown many more same =
-    let one : below ++ new ≡ (below ++ old) ++ x ∷ [] = rw grown (sym (append_assoc below old (x ∷ []))) in
-    let all : n ≡ length (below ++ old) = omega (arith, length-append below old, many, more, same) in
-    let end : slice_get ((below ++ old) ++ x ∷ []) (length (below ++ old) + 0) ≡ Some x = get_behind (below ++ old) (x ∷ []) 0 in
-    let last : length (below ++ old) + 0 ≡ n = omega (arith, all) in
-    record { at = rw one (rw last at end); grown = inr (one, all, absent_both below old x here there) }
+pub put_behind : (below old new : List (List ℕ)) (x : List ℕ) (n m i : ℕ) → IsAbsent below x → IsPutIn old new x i → m ≡ length below → n ≡ m + i → IsPutIn (below ++ old) (below ++ new) x n
+put_behind below old new x n m i absent put many same = record {
+  at = rw (same, many) (get_behind below new i ∙ put.at);
+  grown = elim put.grown [
+    | inl is ↦ inl (ap (λ xs. below ++ xs) is)
+    | inr w ↦ inr (ap (λ xs. below ++ xs) w.0 ∙ sym (append_assoc below old (x ∷ [])), omega (arith, length-append below old, many, same, w.1), absent_both below old x absent w.2)
+  ];
+}
 
 -- ---- apart
 

@@ -1,5 +1,5 @@
 -- The same element, and whether it still sends the same, by numbers.
-use Rattle.std.proofs.Common.{◌≡◌, ℕ, ◌+◌, ◌-◌, ◌<◌, ◌==◌, Bool, true, false, List, ◌++◌, Some, None, Option, option_and_then, slice_get, refl, sym, ◌∙◌, ap, inl, inr, arith}
+use Rattle.std.proofs.Common.{◌≡◌, ℕ, ◌+◌, ◌-◌, ◌<◌, ◌≤◌, ◌==◌, Bool, true, false, List, [], ◌∷◌, ◌++◌, length, Some, None, Option, option_and_then, slice_get, refl, sym, ◌∙◌, ap, ◌⊎◌, inl, inr, arith, append-nil, length-append}
 use Rattle.std.specs.Option.{option_map_or}
 use Rattle.std.proofs.lemmas.Bool.Decides.{eqb_tells}
 use Rattle.std.proofs.lemmas.Option.{slice_get_within}
@@ -19,10 +19,11 @@ use Rattle.page_looks.specs.inside.Nearest.{IsNearest, is_one_number}
 use Rattle.page_looks.specs.declared.finding.Nearest.{Nearest}
 use Rattle.page_looks.specs.declared.ranks.Ranked.{Ranked}
 use Rattle.page_looks.specs.declared.sent_numbers.SentNumbers.{SentNumbers}
-use Rattle.page_looks.proofs.Anchors.{there_or_not}
-use Rattle.page_looks.proofs.CounterpartLaws.{tree_one, tree_same, node_one, nearest_is, nearest_some, same_place_some, same_place_none, seen_from_place}
+use Rattle.page_looks.proofs.Anchors.{there_or_not, narrower}
+use Rattle.page_looks.proofs.CounterpartLaws.{tree_one, tree_same, node_one, node_same, nearest_is, nearest_some, nearest_lowest, same_place_some, same_place_none, seen_from_place}
 use Rattle.page_looks.proofs.FindLaws.{rank_from, stand_of, place_known, nearest_counterpart, found_same}
 use Rattle.page_looks.proofs.Outlines.{place_seen}
+use Rattle.page_looks.proofs.Splitting.{GoesOn, split}
 use Rattle.page_looks.proofs.RankLaws.{rank_at, seen_from-length, subtree_at}
 
 -- ---- ranks are the same whatever is told
@@ -150,3 +151,38 @@ sends_still fresh old new p q place still = around_there (nearest_around old new
           same = record { at = a.at; there = a.there; anchor = w.0; way = a.way; from = w.1; to = seen_from_place (a.there ++ a.way) new q to };
           sending = one_node a (node_at a.at (sends fresh old)) (node_at a.there (sends fresh new)) is;
         }
+
+-- and the other way round: where some anchor sends the same, the nearest does
+pub still_sent : (fresh : List (List ℕ)) (old new : Tree) (p q : List ℕ) → IsSameSending fresh old new p q → still_sends fresh old new p ≡ true
+still_sent fresh old new p q s = around_there (nearest_around old new p) refl
+  where
+    nothing : (m : List ℕ) → length m ≡ 0 → m ≡ []
+    nothing [] none = refl
+    nothing (i ∷ m) none = absurd (omega (arith, none))
+
+    ways : (a : Around) → length s.same.at ≤ length a.at → GoesOn s.same.at s.same.way a.at a.way ⊎ GoesOn a.at a.way s.same.at s.same.way
+        → GoesOn s.same.at s.same.way a.at a.way
+    ways a low (inl g) = g
+    ways a low (inr g) =
+        let none : g.mid ≡ [] = nothing g.mid (omega (arith, low, ap length g.on, length-append a.at g.mid)) in
+        let same : s.same.at ≡ a.at = g.on ∙ ap (λ m. a.at ++ m) none ∙ append-nil a.at in
+        record {
+          mid = [];
+          on = sym same ∙ sym (append-nil s.same.at);
+          left = sym (g.left ∙ ap (λ m. m ++ s.same.way) none);
+        }
+
+    around_there : (o : Option Around) → nearest_around old new p ≡ o
+        → option_map_or (λ a. option_map_or (is_node (node_at a.there (sends fresh new))) (node_at a.at (sends fresh old)) false) o false ≡ true
+    around_there None own =
+        let none : same_place old new p ≡ None = ap (option_and_then (λ x. place_seen_at (x.there ++ x.way) new)) own in
+        absurd (cc (none, same_place_some old new p q s.same))
+    around_there (Some a) own =
+        let w = nearest_some old new p a own in
+        let low = nearest_lowest old new p a own s.same.at s.same.there s.same.way s.same.anchor s.same.from in
+        let whole : s.same.at ++ s.same.way ≡ a.at ++ a.way = some_one (s.same.at ++ s.same.way) (a.at ++ a.way) (seen_place p old) s.same.from w.1 in
+        let g = ways a low (split s.same.at s.same.way a.at a.way whole) in
+        let sending : node_at a.at (sends fresh old) ≡ node_at a.there (sends fresh new) =
+        narrower fresh old new s.same.at s.same.there a.at a.there s.same.way a.way s.same.anchor w.0 g s.sending in
+        let (u, here) = there_or_not (sent fresh) old w.0.looks a.at w.0.before.there in
+        rw here (node_same (node_at a.there (sends fresh new)) u (sym sending ∙ here))

@@ -22,6 +22,8 @@ pub fn same_place_is_the_same()
         ((q : List ℕ) → ¬ IsSame old new p q) (IsSame old new p) }
     ensures sending { (fresh : List (List ℕ)) (old new : Tree) (p q : List ℕ) → same_place old new p ≡ Some q
         → still_sends fresh old new p ≡ true → IsSameSending fresh old new p q }
+    ensures sent { (fresh : List (List ℕ)) (old new : Tree) (p q : List ℕ) → IsSameSending fresh old new p q
+        → still_sends fresh old new p ≡ true }
 {}
 
 /// No two elements have one counterpart, no element has two, and the other way round it is the same relation.

@@ -8,6 +8,7 @@
 mod addresses;
 mod beside;
 mod finding;
+mod fresh_names;
 mod laws;
 mod looks;
 mod numbering;
@@ -20,6 +21,7 @@ mod telling;
 
 pub use addresses::without_fresh;
 pub use beside::{Beside, Same};
+pub use fresh_names::FreshNames;
 pub use laws::{
     anchors_agree, one_to_one, same_place_is_the_same, unchanged, what_is_the_same_is_alike,
 };

@@ -5,17 +5,20 @@ ghost use Rattle.page_looks.specs.inside.Numbering.{KnowsAll};
 ghost use Rattle.page_looks.specs.inside.Kept.{RanksPage};
 
 use crate::beside::Beside;
+use crate::fresh_names::FreshNames;
 use crate::numbering::{Shapes, number_node};
 use crate::ranks::{Ranked, first_places, last_places};
 use crate::sent_numbers::{SentNumbers, numbered_sends};
 use crate::telling::Telling;
 use page_tree::{NoMemory, Page, Text};
 use std::alloc::Global;
+use std::hash::RandomState;
 use std::marker::Model;
 
 /// The looks of a page and what its elements send, made once. Contracts see them as the page's tree, and the fresh names, whose values aren't told.
 #[derive(Drop)]
 pub struct Looks<'p> {
+    keys: RandomState,
     page: &'p Page,
     fresh: &'p [Text],
     shapes: Shapes<'p>,
@@ -43,15 +46,18 @@ impl<'p> Model for Looks<'p> {
 
 impl<'p> Looks<'p> {
     /// Those of a page, with the names whose values differ at each load. The time grows with its size, for a form also with how many nodes stand under it.
-    pub fn of(alloc: Global, page: &'p Page, fresh: &'p [Text]) -> Result<Looks<'p>, NoMemory>
+    pub fn of(alloc: Global, page: &'p Page, fresh: &'p FreshNames) -> Result<Looks<'p>, NoMemory>
         ensures { IfOk result (λ looks. looks ≡ (page.now, fresh.now)) }
     {
-        let below = Shapes::new(alloc);
-        let mut shapes = Shapes::new(alloc);
+        let FreshNames { names, keys } = fresh;
+        let (fresh, keys) = (names.as_slice(), *keys);
+        let below = Shapes::new(alloc, keys);
+        let mut shapes = Shapes::new(alloc, keys);
         let ranked = ranked_page(alloc, page, &below, &mut shapes)?;
-        let mut sent_shapes = Shapes::new(alloc);
+        let mut sent_shapes = Shapes::new(alloc, keys);
         let sent = numbered_sends(alloc, page, fresh, &ranked, &below, &mut sent_shapes)?;
         Ok(Looks {
+            keys,
             page,
             fresh,
             shapes,
@@ -80,9 +86,9 @@ impl<'p> Looks<'p> {
         ensures { IfOk result
             (λ both. both ≡ record { old = recorded.now; new = self.now.0; fresh = self.now.1 }) }
     {
-        let mut shapes = Shapes::new(alloc);
+        let mut shapes = Shapes::new(alloc, self.keys);
         let old = ranked_page(alloc, recorded, &self.shapes, &mut shapes)?;
-        let mut sent_shapes = Shapes::new(alloc);
+        let mut sent_shapes = Shapes::new(alloc, self.keys);
         let old_sent = numbered_sends(
             alloc,
             recorded,

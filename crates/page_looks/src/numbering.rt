@@ -18,6 +18,7 @@ use crate::telling::{Telling, told_of};
 use page_tree::{NoMemory, Page};
 use std::alloc::Global;
 use std::borrow::CowStr;
+use std::hash::RandomState;
 
 /// The texts of pages, and the keys of the looks on them, each kept once.
 #[derive(Drop)]
@@ -27,14 +28,14 @@ pub(crate) struct Shapes<'p> {
 }
 
 impl<'p> Shapes<'p> {
-    /// None yet.
-    pub(crate) fn new(alloc: Global) -> Shapes<'p>
+    /// None yet. They are hashed by these keys.
+    pub(crate) fn new(alloc: Global, keys: RandomState) -> Shapes<'p>
         ensures texts { result.texts ≡ [] }
         ensures keys { result.keys ≡ [] }
     {
         Shapes {
-            texts: TextTable::new(alloc),
-            keys: KeyTable::new(alloc),
+            texts: TextTable::new(alloc, keys),
+            keys: KeyTable::new(alloc, keys),
         }
     }
 }

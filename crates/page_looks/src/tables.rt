@@ -1,5 +1,5 @@
-//! TextTable and lists of numbers, each with its own number.
-ghost use Rattle.std.specs.Prelude.{◌≡◌, ◌++◌, ◌∷◌, ◌<◌, ◌^◌, [], Some, length, IfOk, OnOk, MatchOption, slice_get};
+//! Texts and lists of numbers, each with its own number. They are hashed by keys that nobody knows who writes a page.
+ghost use Rattle.std.specs.Prelude.{◌≡◌, ◌++◌, ◌<◌, ◌^◌, [], Some, length, IfOk, MatchOption, slice_get};
 ghost use Rattle.std.specs.Cow.{cow_str_bytes};
 ghost use Rattle.page_looks.specs.inside.Numbers.{IsAbsent, IsPutIn};
 
@@ -7,12 +7,13 @@ use indexmap::IndexSet;
 use page_tree::NoMemory;
 use std::alloc::{AllocError, Global};
 use std::borrow::CowStr;
+use std::hash::RandomState;
 use std::marker::Model;
 
-/// TextTable, each kept once.
+/// Texts, each kept once.
 #[derive(Drop)]
 pub(crate) struct TextTable<'p> {
-    set: IndexSet<CowStr<'p, Global>>,
+    set: IndexSet<CowStr<'p, Global>, RandomState>,
 }
 
 impl<'p> Model for TextTable<'p> {
@@ -25,11 +26,11 @@ impl<'p> Model for TextTable<'p> {
 }
 
 impl<'p> TextTable<'p> {
-    pub(crate) fn new(alloc: Global) -> TextTable<'p>
+    pub(crate) fn new(alloc: Global, keys: RandomState) -> TextTable<'p>
         ensures { result ≡ [] }
     {
         TextTable {
-            set: IndexSet::new(alloc),
+            set: IndexSet::with_hasher(alloc, keys),
         }
     }
 
@@ -46,19 +47,19 @@ impl<'p> TextTable<'p> {
         self.set.get_index_of(text)
     }
 
-    pub(crate) fn push(&mut self, text: CowStr<'p, Global>) -> Result<(), NoMemory>
-        requires { IsAbsent self.old (cow_str_bytes text) }
-        ensures { OnOk result (self.new ≡ self.old ++ cow_str_bytes text.entry ∷ []) }
+    /// The index of a text, which is put behind the others where it isn't there.
+    pub(crate) fn put(&mut self, text: CowStr<'p, Global>) -> Result<usize, NoMemory>
+        ensures { IfOk result (λ i. IsPutIn self.old self.new (cow_str_bytes text.entry) i) }
     {
-        self.set.insert_full(text)?;
-        Ok(())
+        let put = self.set.insert_full(text)?;
+        Ok(put.0)
     }
 }
 
 /// Lists of numbers, each kept once.
 #[derive(Drop)]
 pub(crate) struct KeyTable {
-    set: IndexSet<Vec<u32>>,
+    set: IndexSet<Vec<u32>, RandomState>,
 }
 
 impl Model for KeyTable {
@@ -70,11 +71,11 @@ impl Model for KeyTable {
 }
 
 impl KeyTable {
-    pub(crate) fn new(alloc: Global) -> KeyTable
+    pub(crate) fn new(alloc: Global, keys: RandomState) -> KeyTable
         ensures { result ≡ [] }
     {
         KeyTable {
-            set: IndexSet::new(alloc),
+            set: IndexSet::with_hasher(alloc, keys),
         }
     }
 
@@ -91,12 +92,12 @@ impl KeyTable {
         self.set.get_index_of(key)
     }
 
-    pub(crate) fn push(&mut self, key: Vec<u32>) -> Result<(), NoMemory>
-        requires { IsAbsent self.old key.items }
-        ensures { OnOk result (self.new ≡ self.old ++ key.items ∷ []) }
+    /// The index of a list, which is put behind the others where it isn't there.
+    pub(crate) fn put(&mut self, key: Vec<u32>) -> Result<usize, NoMemory>
+        ensures { IfOk result (λ i. IsPutIn self.old self.new key.items i) }
     {
-        self.set.insert_full(key)?;
-        Ok(())
+        let put = self.set.insert_full(key)?;
+        Ok(put.0)
     }
 }
 
@@ -119,23 +120,17 @@ pub(crate) fn text_number<'p>(
     ensures { IfOk result (λ n. IsPutIn (below.now ++ own.old) (below.now ++ own.new) (cow_str_bytes text.entry) n) }
 {
     let first = below.len();
-    let further = own.len();
     match below.find(text.as_str()) {
-        Some(at) => {
-            let known = few(at)?;
-            Ok(known)
+        Some(known) => {
+            let number = few(known)?;
+            Ok(number)
         }
-        None => match own.find(text.as_str()) {
-            Some(at) => {
-                let own_number = few(first + at)?;
-                Ok(own_number)
-            }
-            None => {
-                let new_number = few(first + further)?;
-                own.push(text)?;
-                Ok(new_number)
-            }
-        },
+        None => {
+            let place = own.put(text)?;
+            let at = few(place)?;
+            let further = few(first + at as usize)?;
+            Ok(further)
+        }
     }
 }
 
@@ -148,22 +143,16 @@ pub(crate) fn key_number(
     ensures { IfOk result (λ n. IsPutIn (below.now ++ own.old) (below.now ++ own.new) key.items n) }
 {
     let first = below.len();
-    let further = own.len();
     match below.find(key.as_slice()) {
-        Some(at) => {
-            let known = few(at)?;
-            Ok(known)
+        Some(known) => {
+            let number = few(known)?;
+            Ok(number)
         }
-        None => match own.find(key.as_slice()) {
-            Some(at) => {
-                let own_number = few(first + at)?;
-                Ok(own_number)
-            }
-            None => {
-                let new_number = few(first + further)?;
-                own.push(key)?;
-                Ok(new_number)
-            }
-        },
+        None => {
+            let place = own.put(key)?;
+            let at = few(place)?;
+            let further = few(first + at as usize)?;
+            Ok(further)
+        }
     }
 }

@@ -1,7 +1,8 @@
 //! Where events go by their elements: what a visit gives, and what its requests were.
 use crate::made::{Was, page, patch, site, text, told, visit_on};
-use page_tree::Text;
+use page_looks::FreshNames;
 use std::alloc::Global;
+use std::hash::RandomState;
 use std::process::Abort;
 use std::test::Fail;
 use visit_replay::{
@@ -20,28 +21,28 @@ const SECOND_ALONE: &str =
 const SECOND_CLICKED: Was = ((1, 0, 0), "/p", false, &[("/html/p[2]/a", 1)]);
 
 // Another name than the token's is declared as fresh.
-fn names(alloc: Global) -> Result<Vec<Text>, Fail> {
+fn names(alloc: Global, keys: RandomState) -> Result<FreshNames, Fail> {
     let mut names = Vec::new(alloc);
     names.push(text(alloc, "u")?)?;
-    Ok(names)
+    Ok(FreshNames::new(names, keys))
 }
 
 // What the visit gives by its elements, and what its requests were.
-fn given(alloc: Global) -> Result<(Outcome, Difference), Fail> {
+fn given(alloc: Global, keys: RandomState) -> Result<(Outcome, Difference), Fail> {
     let (site, patch) = (site(alloc, &["/p"], SECOND_ALONE)?, patch(alloc, &["/p"])?);
     let visit = visit_on(alloc, TWO, SECOND_CLICKED)?;
-    let finding = Finding::by_element(names(alloc)?);
+    let finding = Finding::by_element(names(alloc, keys)?);
     let outcome = replay(alloc, &site, &patch, &finding, &visit)?;
     let difference = told_difference(alloc, &site, &finding, &visit, &outcome)?;
     Ok((outcome, difference))
 }
 
 // The same beside a page whose looks were made before.
-fn given_beside(alloc: Global) -> Result<(Outcome, Difference), Fail> {
+fn given_beside(alloc: Global, keys: RandomState) -> Result<(Outcome, Difference), Fail> {
     let (site, patch) = (site(alloc, &["/p"], SECOND_ALONE)?, patch(alloc, &["/p"])?);
     let visit = visit_on(alloc, TWO, SECOND_CLICKED)?;
-    let (new, fresh) = (page(alloc, SECOND_ALONE)?, names(alloc)?);
-    let mut repaired = RepairedPage::of(alloc, &new, fresh.as_slice())?;
+    let (new, fresh) = (page(alloc, SECOND_ALONE)?, names(alloc, keys)?);
+    let mut repaired = RepairedPage::of(alloc, &new, &fresh)?;
     let outcome = replay_beside(alloc, &site, &patch, &mut repaired, &visit)?;
     let difference = told_beside(alloc, &mut repaired, &visit, &outcome)?;
     Ok((outcome, difference))
@@ -68,6 +69,10 @@ fn tells_both(rt: &impl Abort, alloc: Global, given: &(Outcome, Difference)) -> 
 
 #[test]
 fn what_requests_were_is_told(rt: HostRuntime) -> Result<(), Fail> {
-    tells_both(&rt, rt.alloc(), &given(rt.alloc())?)?;
-    tells_both(&rt, rt.alloc(), &given_beside(rt.alloc())?)
+    tells_both(&rt, rt.alloc(), &given(rt.alloc(), RandomState::new(&rt)?)?)?;
+    tells_both(
+        &rt,
+        rt.alloc(),
+        &given_beside(rt.alloc(), RandomState::new(&rt)?)?,
+    )
 }

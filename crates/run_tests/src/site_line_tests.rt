@@ -6,6 +6,7 @@ use serde_json::Value;
 use site_hooks::SiteHooks;
 use site_line::Site;
 use std::alloc::Global;
+use std::hash::RandomState;
 use std::process::Abort;
 use std::test::Fail;
 use visit_replay::affected;
@@ -51,7 +52,7 @@ fn is_one(decisions: &[Decision]) -> bool {
 #[test]
 fn reads_a_site(rt: HostRuntime) -> Result<(), Fail> {
     let alloc = rt.alloc();
-    let site = Site::read(alloc, LINE.as_bytes())?;
+    let site = Site::read(alloc, RandomState::new(&rt)?, LINE.as_bytes())?;
     let (page, other) = (page(alloc, PAGE)?, page(alloc, OTHER)?);
     assert!(rt; answers(&site, &page, &other)?);
     assert!(rt; affects(alloc, &site, page)?);

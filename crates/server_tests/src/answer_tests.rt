@@ -3,6 +3,7 @@ use byte_streams::Told;
 use client_log::Visit;
 use site_line::Site;
 use std::alloc::Global;
+use std::hash::RandomState;
 use std::test::Fail;
 use stream_fakes::lines::{ONE_CLICK, OTHER_SITE, SECOND_CLICK, with_members};
 use stream_fakes::{Refusal, Runs, Sips};
@@ -16,15 +17,15 @@ const REPORT: &str =
     "stop none\nclient c1 taken 3 end bye cost 187 lost 0\nvisit 1 cancelled K3 at 1\nclient c2 taken 3 end bye cost 187 lost 0\nvisit 1 kept K3 at 1\nload 0 \"/a\"\ndecide c2 1 keep ok\ndecide c1 1 cancel ok\n";
 
 // The page has two links now, and both clients' visits are decided.
-fn site(alloc: Global) -> Result<Site, Fail> {
+fn site(alloc: Global, keys: RandomState) -> Result<Site, Fail> {
     let decided = r#""decide":[["c2",1,"keep"],["c1",1,"cancel"]]"#;
     let line = with_members(alloc, OTHER_SITE, decided)?;
-    Ok(Site::read(alloc, line.as_bytes())?)
+    Ok(Site::read(alloc, keys, line.as_bytes())?)
 }
 
 fn answered(rt: &impl Runs, sips: &mut Sips) -> Result<Answered<Reader>, Fail> {
     let uploads = uploads(rt.alloc(), TWO_CLIENTS)?;
-    let site = site(rt.alloc())?;
+    let site = site(rt.alloc(), RandomState::new(rt)?)?;
     match answer(rt, &site, uploads, &mut Told::new(sips)) {
         Ok(answered) => Ok(answered),
         Err(_) => Err(Fail::from("no answer")),

@@ -5,6 +5,7 @@ use crate::fixtures::Lanes;
 use byte_streams::Fed;
 use std::alloc::Global;
 use std::cell::Cell;
+use std::hash::RandomState;
 use std::io;
 use std::io::ErrorKind;
 use std::net::{OpenListener, SocketAddr};
@@ -59,7 +60,7 @@ fn served(
     rounds: u32,
     sips: &mut Sips,
 ) -> Result<(Status, usize), Fail> {
-    let site = Site::read(rt.alloc(), SITE.as_bytes())?;
+    let site = Site::read(rt.alloc(), RandomState::new(rt)?, SITE.as_bytes())?;
     let called = Called::of(rt.alloc(), callers);
     if lanes == 0 || lanes > 16 {
         return Err(Fail::from("no round"));
@@ -170,7 +171,7 @@ pub(crate) fn queue_of(alloc: Global, callers: Lanes) -> io::Result<Queue> {
 
 // How serving these ends, in rounds of so many lanes.
 fn queued(rt: &impl Runs, queue: &mut Queue, lanes: u32, rounds: u32) -> Result<Status, Fail> {
-    let site = Site::read(rt.alloc(), SITE.as_bytes())?;
+    let site = Site::read(rt.alloc(), RandomState::new(rt)?, SITE.as_bytes())?;
     if lanes == 0 || lanes > 16 {
         return Err(Fail::from("no round"));
     }

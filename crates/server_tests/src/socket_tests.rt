@@ -1,5 +1,6 @@
 //! Uploads over sockets, by client threads.
 use std::alloc::{AllocError, Global};
+use std::hash::RandomState;
 use std::io::{ErrorKind, Read, Write};
 use std::net::{Net, Shutdown, SocketAddr, TcpListener, TcpStream};
 use std::sync::atomic::{AtomicU64, Ordering};
@@ -123,7 +124,7 @@ fn served(
     rounds: u32,
     writer: &mut AfterAll<'_>,
 ) -> Result<Status, Fail> {
-    let site = Site::read(rt.alloc(), SITE.as_bytes())?;
+    let site = Site::read(rt.alloc(), RandomState::new(rt)?, SITE.as_bytes())?;
     let closed = writer.closed;
     let (sent, status) = thread::join(
         rt,

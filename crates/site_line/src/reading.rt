@@ -17,10 +17,12 @@ use crate::decision::read_decision;
 use crate::fault::SiteFault;
 use client_log::Quota;
 use conflict_desk::Decision;
+use page_looks::FreshNames;
 use page_tree::{Page, Text};
 use serde_json::{Category, Map, Value};
 use site_hooks::Table;
 use std::alloc::Global;
+use std::hash::RandomState;
 use visit_replay::{Finding, MAX_WORKERS};
 use xpath_child::{Path, PathFaultKind};
 
@@ -106,8 +108,12 @@ pub(crate) fn read_patched(alloc: Global, value: &Value) -> Result<Vec<Text>, Si
     read_texts(alloc, items)
 }
 
-/// How events find their places: by their elements, where the names of fresh values are given.
-pub(crate) fn read_same(alloc: Global, value: &Value) -> Result<Finding, SiteFault>
+/// How events find their places: by their elements, where the names of fresh values are given. The texts of pages are hashed by these keys.
+pub(crate) fn read_same(
+    alloc: Global,
+    keys: RandomState,
+    value: &Value,
+) -> Result<Finding, SiteFault>
     ensures ok { IfOk result (λ finding. (same_in (view value.now) ≡ Some finding) × AreFewNames finding) }
     ensures fails { IfErr result
         (FailsWhere ((names : Option (List (List ℕ))) → same_in (view value.now) ≡ Some names → ¬ AreFewNames names)) }
@@ -120,7 +126,7 @@ pub(crate) fn read_same(alloc: Global, value: &Value) -> Result<Finding, SiteFau
     if names.len() > MAX_FRESH {
         return Err(SiteFault::BadMember);
     }
-    Ok(Finding::by_element(names))
+    Ok(Finding::by_element(FreshNames::new(names, keys)))
 }
 
 fn read_texts(alloc: Global, items: &[Value]) -> Result<Vec<Text>, SiteFault>

@@ -16,6 +16,7 @@ use conflict_desk::Decision;
 use serde_json::Value;
 use site_hooks::Table;
 use std::alloc::Global;
+use std::hash::RandomState;
 use visit_replay::{Finding, Patch};
 
 /// What was repaired, the pages that the site shows now, which texts of them must not have changed, how events find their places there, how much is kept of
@@ -38,19 +39,19 @@ impl Site {
     /// The site that a line says: a JSON object with `patched` (an array of address texts), `pages` (an object, from address to page), `watch` (an
     /// array of path texts), `same` (an array of 16 names at most; without it events go by their paths), `quota` (1 to 4,294,967,295 bytes, else 1,048,576),
     /// `workers` (1 to 32, else 1) and `decide` (an array of decisions, each an array of client, visit and choice), all optional. Unknown members are
-    /// ignored.
-    pub fn read(alloc: Global, line: &[u8]) -> Result<Site, SiteFault>
+    /// ignored. Where events go by their elements, the texts of pages are hashed by these keys, which nobody may know who writes a page.
+    pub fn read(alloc: Global, keys: RandomState, line: &[u8]) -> Result<Site, SiteFault>
         ensures ok { IfOk result (λ site. (plain : PlainSite) × IsSiteLine line.now plain × AnswersAs site plain) }
         ensures only { IfOk result (λ site. (plain : PlainSite) → IsSiteLine line.now plain → AnswersAs site plain) }
         ensures not_json { IsErrOf result NotJson → (d : Data) → ¬ IsJsonOf line.now d }
         ensures bad_member { IsErrOf result BadMember → (d : Data) × IsJsonOf line.now d × IsNoSite d }
     {
         let value = read_line(alloc, line)?;
-        Site::from_value(alloc, &value)
+        Site::from_value(alloc, keys, &value)
     }
 
     // Z2 where the value is no object, or a member is wrong.
-    fn from_value(alloc: Global, value: &Value) -> Result<Site, SiteFault>
+    fn from_value(alloc: Global, keys: RandomState, value: &Value) -> Result<Site, SiteFault>
         ensures ok { IfOk result (λ site. (plain : PlainSite) × IsSiteOf (view value.now) plain × AnswersAs site plain) }
         ensures fails { IfErr result (FailsWhere (IsNoSite (view value.now))) }
     {
@@ -58,7 +59,7 @@ impl Site {
         let patch = Patch::new(read_patched(alloc, value)?);
         let mut table = read_watched(alloc, value)?;
         read_pages(alloc, value, &mut table)?;
-        let finding = read_same(alloc, value)?;
+        let finding = read_same(alloc, keys, value)?;
         let quota = read_quota(value)?;
         let workers = read_workers(value)?;
         let decisions = read_decisions(alloc, value)?;

@@ -1,5 +1,6 @@
 //! What a test is given.
 use std::process::Abort;
+use std::random::RandomSource;
 use std::sync::Wait;
 use std::thread::Threads;
 
@@ -9,6 +10,6 @@ pub trait Asserts: Abort + AllocGlobal {}
 impl<T: Abort + AllocGlobal> Asserts for T {}
 
 /// Runs the server too.
-pub trait Runs: Asserts + Threads + Wait + Sync {}
+pub trait Runs: Asserts + RandomSource + Threads + Wait + Sync {}
 
-impl<T: Asserts + Threads + Wait + Sync> Runs for T {}
+impl<T: Asserts + RandomSource + Threads + Wait + Sync> Runs for T {}

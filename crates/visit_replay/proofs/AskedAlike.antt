@@ -1,12 +1,9 @@
 -- An event of a visit that is done asks for what it asked for.
-use Rattle.std.proofs.Common.{◌≡◌, ◌≢◌, ℕ, zero, suc, ◌+◌, ◌==◌, List, [], ◌∷◌, Bool, true, false, not, ◌&&◌, cond, if◌then◌else◌, is_some, unwrap_or, codes, Option, Some, None, option_map, option_and_then, slice_get, Result, Ok, Err, ◌⊎◌, inl, inr, refl, sym, ap, ap₂, ◌∙◌}
-use Rattle.std.specs.List.{position, position_from}
+use Rattle.std.proofs.Common.{◌≡◌, ◌≢◌, ◌<◌, ℕ, zero, suc, ◌+◌, ◌==◌, length, take, List, [], ◌∷◌, Bool, true, false, not, ◌&&◌, cond, if◌then◌else◌, is_some, unwrap_or, codes, Option, Some, None, option_map, option_and_then, slice_get, Result, Ok, Err, ◌⊎◌, inl, inr, refl, sym, ap, ap₂, ◌∙◌, arith}
+use Rattle.std.specs.List.{find, list_any, range_with_len}
 use Rattle.std.specs.Option.{option_map_or}
 use Rattle.std.specs.Str.{bytes_eq, str_eq_ignore_ascii_case}
 use Rattle.std.proofs.lemmas.Bool.Decides.{eqb_tells}
-use Rattle.std.proofs.lemmas.Iterator.Adapters.{position_from-zero}
-use Rattle.std.proofs.lemmas.List.Quantifiers.{position-Some}
-use Rattle.std.proofs.lemmas.Option.{slice_get-get_or}
 use Rattle.page_tree.specs.Tree.{Attribute, Tree}
 use Rattle.page_tree.specs.Look.{node_at, attribute_at, attributes_of, children_of, value_of}
 use Rattle.page_tree.specs.Control.{control_at, control_of, start_text_at}
@@ -23,55 +20,75 @@ use Rattle.upload_reader.specs.declared.message.Event.{Event}
 use Rattle.upload_reader.specs.declared.message.Event.TheVariants.{Input, Click, Submit}
 use Rattle.client_log.specs.declared.visit.Visit.{Visit}
 use Rattle.visit_replay.specs.declared.outcome.ConflictKind.{ConflictKind}
-use Rattle.visit_replay.specs.declared.outcome.ConflictKind.TheVariants.{NotAForm}
+use Rattle.visit_replay.specs.declared.outcome.ConflictKind.TheVariants.{NotAForm, Changed}
 use Rattle.visit_replay.specs.declared.outcome.Outcome.{Outcome}
 use Rattle.visit_replay.specs.declared.outcome.Outcome.TheVariants.{Done, Untouched}
 use Rattle.visit_replay.specs.declared.requests.Request.{Request}
-use Rattle.visit_replay.specs.Aim.{Aim, acts, nowhere, lost, aim_of, on_target, by_path, by_element, button_by_path, goes_by, path_of, by_of, on_found, counterpart, asks_by_link, needs_none, is_in_its_form, from_place, settled, unless_changed, is_kept, is_clicked_alike, is_check, pressed_in, form_around, are_forms_alike, is_one_state}
+use Rattle.visit_replay.specs.Aim.{Aim, acts, nowhere, lost, aim_of, on_target, by_path, by_element, button_by_path, goes_by, path_of, by_of, on_found, counterpart, asks_by_link, needs_none, is_in_its_form, from_place, settled, unless_changed, is_kept, is_clicked_alike, is_check, pressed_in, form_around, are_forms_alike, is_one_state, place_of_aim, is_submit, strays, has_strayed}
 use Rattle.page_tree.specs.Control.{start_checked_at}
 use Rattle.visit_replay.specs.Conflict.{conflict, conflict_at, conflict_by, input_conflict, is_unchanged, click_conflict, off_link, submit_conflict, has_button, is_disabled}
 use Rattle.visit_replay.specs.Form.{unless_empty}
-use Rattle.visit_replay.specs.Outcome.{outcome, is_affected, is_bad, conflict_of, first_conflict, on_page, at_event, at_end}
+use Rattle.visit_replay.specs.Outcome.{outcome, is_affected, conflict_of, first_conflict, on_page, at_event, at_end}
 use Rattle.visit_replay.specs.RepairedSite.{RepairedSite}
 use Rattle.visit_replay.specs.SameRequests.{AreLinksAlike, AreFormsAlike, ArePressedAlike, AsksAlike, AllAskAlike}
+use Rattle.visit_replay.proofs.Straying.{submit_strays}
 use Rattle.visit_replay.proofs.SentKinds.{apart, first_name, link_sends, link_first, address_told, form_sends, form_first, form_told}
 
 -- ---- no event of a done visit is bad
 
-abbrev NonePass : {X : Type 0} → (X → Bool) → ℕ → List X → Type 0
-NonePass {X} p i xs = position_from p i xs ≡ None → (k : ℕ) (x : X) → slice_get xs k ≡ Some x → p x ≡ false
-
-none_passes : {X : Type 0} (p : X → Bool) (i : ℕ) (xs : List X) → NonePass p i xs
-none_passes p i [] none k x at = cc
-none_passes p i (y ∷ xs) none k x at = go (p y) refl none (none_passes p (i + 1) xs) k at
+found_holds : {X : Type 0} (p : X → Bool) (xs : List X) (x : X) → find p xs ≡ Some x → p x ≡ true
+found_holds p [] x is = cc
+found_holds p (y ∷ ys) x is = go (p y) refl is (found_holds p ys x)
   where
-    go : (b : Bool) → p y ≡ b → cond b (Some i) (position_from p (i + 1) xs) ≡ None → NonePass p (i + 1) xs → (k : ℕ) → slice_get (y ∷ xs) k ≡ Some x → p x ≡ false
-    go true is none later k at = cc
-    go false is none later zero at = let same : y ≡ x = cc in ap p (sym same) ∙ is
-    go false is none later (suc k) at = later none k x at
+    go : (b : Bool) → p y ≡ b → cond b (Some y) (find p ys) ≡ Some x → (find p ys ≡ Some x → p x ≡ true) → p x ≡ true
+    go true holds is later = let one : y ≡ x = cc in ap p (sym one) ∙ holds
+    go false holds is later = later is
+
+none_found : (p : ℕ → Bool) (at n j : ℕ) → find p (range_with_len at n) ≡ None → j < n → p (at + j) ≡ false
+none_found p at zero j none below = absurd (omega (arith, below))
+none_found p at (suc n) j none below = go (p at) refl none (none_found p (at + 1) n) j below
+  where
+    go : (b : Bool) → p at ≡ b → cond b (Some at) (find p (range_with_len (at + 1) n)) ≡ None → ((i : ℕ) → find p (range_with_len (at + 1) n) ≡ None → i < n → p ((at + 1) + i) ≡ false)
+        → (i : ℕ) → i < suc n → p (at + i) ≡ false
+    go true is none later i below = cc
+    go false is none later zero below = let here : at + 0 ≡ at = omega arith in ap p here ∙ is
+    go false is none later (suc i) below = let next : at + suc i ≡ (at + 1) + i = omega arith in ap p next ∙ later i none (omega (arith, below))
+
+in_list : {X : Type 0} (xs : List X) (k : ℕ) (x : X) → slice_get xs k ≡ Some x → k < length xs
+in_list [] k x at = cc
+in_list (y ∷ ys) zero x at = omega arith
+in_list (y ∷ ys) (suc k) x at = omega (arith, in_list ys k x at)
 
 is_none : {X : Type 0} (o : Option X) → is_some o ≡ false → o ≡ None
 is_none None is = refl
 is_none (Some x) is = cc
 
-module _ (aim : Event → Aim) (old new : Tree) (events : List Event) where
-  first_good : first_conflict aim old new events ≡ None → (k : ℕ) (event : Event) → slice_get events k ≡ Some event → conflict aim old new event ≡ None
-  first_good none k event at = go (position (is_bad aim old new) events) refl none
+module _ (same : Option (List (List ℕ))) (old new : Tree) (events : List Event) where
+  first_good : first_conflict same old new events ≡ None → (k : ℕ) (event : Event) → slice_get events k ≡ Some event → conflict_of same old new events k ≡ None
+  first_good none k event at = go (find bad (range_with_len 0 (length events))) refl none
     where
+      reason : ℕ → Option ConflictKind
+      reason = conflict_of same old new events
+
+      bad : ℕ → Bool
+      bad j = is_some (reason j)
+
       kind_none : (o : Option ConflictKind) (j : ℕ) → option_map {U = ℕ × ConflictKind} (λ kind. (j, kind)) o ≡ None → o ≡ None
       kind_none None j is = refl
       kind_none (Some kind) j is = cc
 
-      go : (o : Option ℕ) → position (is_bad aim old new) events ≡ o
-          → option_and_then (λ j. option_map {U = ℕ × ConflictKind} (λ kind. (j, kind)) (conflict_of aim old new events j)) o ≡ None → conflict aim old new event ≡ None
-      go None is none = is_none (conflict aim old new event) (none_passes (is_bad aim old new) 0 events (sym (position_from-zero (is_bad aim old new) events) ∙ is) k event at)
+      go : (o : Option ℕ) → find bad (range_with_len 0 (length events)) ≡ o → option_and_then (λ j. option_map {U = ℕ × ConflictKind} (λ kind. (j, kind)) (reason j)) o ≡ None → reason k ≡ None
+      go None is none =
+          let here : k ≡ 0 + k = omega arith in
+          is_none (reason k) (ap bad here ∙ none_found bad 0 (length events) k is (in_list events k event at))
       go (Some j) is none =
-          let here = position-Some (is_bad aim old new) events j event is in
-          let kind : conflict_of aim old new events j ≡ None = kind_none (conflict_of aim old new events j) j none in
-          let bad : is_some (conflict_of aim old new events j) ≡ true =
-          ap (λ o. is_some (option_and_then (conflict aim old new) o)) (slice_get-get_or events j event here.0) ∙ here.1 in
-          let both : false ≡ true = sym (ap is_some kind) ∙ bad in
+          let both : false ≡ true = sym (ap is_some (kind_none (reason j) j none)) ∙ found_holds bad (range_with_len 0 (length events)) j is in
           cc
+
+-- an event that isn't bad: its form has the touched fields that it had, and it can act there
+judged_good : (strayed : Bool) (found : Option ConflictKind) → (if strayed then Some Changed else found) ≡ None → (strayed ≡ false) × (found ≡ None)
+judged_good true found is = cc
+judged_good false found is = (refl, is)
 
 abbrev by_affected : Bool → Outcome → Outcome
 by_affected affected own = if affected then own else Untouched
@@ -84,17 +101,22 @@ no_first : (aim : Event → Aim) (visit : Visit) (new : Tree) (requests : List R
 no_first aim visit new requests end None is = refl
 no_first aim visit new requests end (Some bad) is = cc
 
+abbrev IsGood : List (List ℕ) → Tree → Tree → List Event → Event → Type 0
+IsGood fresh old new before event = (has_strayed (Some fresh) old new before event ≡ false) × (conflict (by_element fresh old new) old new event ≡ None)
+
 pub done_good : (site : RepairedSite) (fresh : List (List ℕ)) (visit : Visit) (requests : List Request) (new : Tree) → site.same ≡ Some fresh → outcome site visit ≡ Done requests
-    → site.page_of visit.address ≡ Some new → (k : ℕ) (event : Event) → slice_get visit.events k ≡ Some event → conflict (by_element fresh visit.page new) visit.page new event ≡ None
-done_good site fresh visit requests new same done there =
+    → site.page_of visit.address ≡ Some new → (k : ℕ) (event : Event) → slice_get visit.events k ≡ Some event → IsGood fresh visit.page new (take k visit.events) event
+done_good site fresh visit requests new same done there k event at =
     let signalled = site.signals visit.address visit.page in
     let own : on_page site.same visit signalled (site.page_of visit.address) ≡ Done requests =
     was_affected (is_affected site.patch visit.address) (on_page site.same visit signalled (site.page_of visit.address)) requests done in
     let here : on_page (Some fresh) visit signalled (Some new) ≡ Done requests =
     ap₂ (λ (names : Option (List (List ℕ))) (page : Option Tree). on_page names visit signalled page) (sym same) (sym there) ∙ own in
     let aim : Event → Aim = aim_of (Some fresh) visit.page new in
-    first_good aim visit.page new visit.events
-    (no_first aim visit new requests (at_end aim visit new (signalled new)) (first_conflict aim visit.page new visit.events) here)
+    let good : conflict_of (Some fresh) visit.page new visit.events k ≡ None =
+    first_good (Some fresh) visit.page new visit.events (no_first aim visit new requests (at_end aim visit new (signalled new)) (first_conflict (Some fresh) visit.page new visit.events) here) k event at in
+    judged_good (has_strayed (Some fresh) visit.page new (take k visit.events) event) (conflict aim visit.page new event)
+    (sym (ap (option_and_then (λ e. if has_strayed (Some fresh) visit.page new (take k visit.events) e then Some Changed else conflict aim visit.page new e)) at) ∙ good)
 
 -- ---- where an event acts by its element
 
@@ -357,29 +379,37 @@ module _ (fresh : List (List ℕ)) (old new : Tree) (p q : List ℕ) (by pressed
         pressed_both (Some a.place) by (Some a.found) pressed button by_it buttons,
       )
 
-event_alike : (fresh : List (List ℕ)) (old new : Tree) (event : Event) (was now : Aim) → by_path old event ≡ was → by_element fresh old new event ≡ now
-    → conflict (by_element fresh old new) old new event ≡ None → AsksAlike fresh old new event was now
-event_alike fresh old new (Input at target value) (acts p by) (acts q pressed) was now free =
-    input_alike fresh old new p q by pressed at target value was now (free_at old new (Input at target value) (by_element fresh old new) q pressed now free)
-event_alike fresh old new (Click at target req) (acts p by) (acts q pressed) was now free =
-    click_alike fresh old new p q by pressed at target req was now (free_at old new (Click at target req) (by_element fresh old new) q pressed now free)
-event_alike fresh old new (Submit at target None req) (acts p by) (acts q pressed) was now free =
-    submit_alike fresh old new p q by pressed at target req was now (free_at old new (Submit at target None req) (by_element fresh old new) q pressed now free)
-event_alike fresh old new (Submit at target (Some path) req) (acts p by) (acts q pressed) was now free =
-    press_alike fresh old new p q by pressed at target path req was now (free_at old new (Submit at target (Some path) req) (by_element fresh old new) q pressed now free)
-event_alike fresh old new (Input at target value) (acts p by) nowhere was now free = tt
-event_alike fresh old new (Input at target value) (acts p by) (lost kind) was now free = tt
-event_alike fresh old new (Input at target value) nowhere now was is free = tt
-event_alike fresh old new (Input at target value) (lost kind) now was is free = tt
-event_alike fresh old new (Click at target req) (acts p by) nowhere was now free = tt
-event_alike fresh old new (Click at target req) (acts p by) (lost kind) was now free = tt
-event_alike fresh old new (Click at target req) nowhere now was is free = tt
-event_alike fresh old new (Click at target req) (lost kind) now was is free = tt
-event_alike fresh old new (Submit at target by req) (acts p button) nowhere was now free = tt
-event_alike fresh old new (Submit at target by req) (acts p button) (lost kind) was now free = tt
-event_alike fresh old new (Submit at target by req) nowhere now was is free = tt
-event_alike fresh old new (Submit at target by req) (lost kind) now was is free = tt
+-- no touched field stands under one of the two forms alone
+stays_alike : (fresh : List (List ℕ)) (old new : Tree) (before : List Event) (event : Event) (p q : List ℕ) (by pressed : Option (List ℕ)) → is_submit event ≡ true → by_path old event ≡ acts p by
+    → by_element fresh old new event ≡ acts q pressed → has_strayed (Some fresh) old new before event ≡ false → list_any (strays (by_element fresh old new) old p q) before ≡ false
+stays_alike fresh old new before event p q by pressed submit was now none =
+    sym (submit_strays fresh old new before event p q submit (ap only_place (path_selects old event p by was)) (ap place_of_aim now)) ∙ none
+
+event_alike : (fresh : List (List ℕ)) (old new : Tree) (before : List Event) (event : Event) (was now : Aim) → by_path old event ≡ was → by_element fresh old new event ≡ now
+    → IsGood fresh old new before event → AsksAlike fresh old new before event was now
+event_alike fresh old new before (Input at target value) (acts p by) (acts q pressed) was now free =
+    input_alike fresh old new p q by pressed at target value was now (free_at old new (Input at target value) (by_element fresh old new) q pressed now free.1)
+event_alike fresh old new before (Click at target req) (acts p by) (acts q pressed) was now free =
+    click_alike fresh old new p q by pressed at target req was now (free_at old new (Click at target req) (by_element fresh old new) q pressed now free.1)
+event_alike fresh old new before (Submit at target None req) (acts p by) (acts q pressed) was now free =
+    let both = submit_alike fresh old new p q by pressed at target req was now (free_at old new (Submit at target None req) (by_element fresh old new) q pressed now free.1) in
+    (both.0, (both.1, stays_alike fresh old new before (Submit at target None req) p q by pressed refl was now free.0))
+event_alike fresh old new before (Submit at target (Some path) req) (acts p by) (acts q pressed) was now free =
+    let both = press_alike fresh old new p q by pressed at target path req was now (free_at old new (Submit at target (Some path) req) (by_element fresh old new) q pressed now free.1) in
+    (both.0, (both.1, stays_alike fresh old new before (Submit at target (Some path) req) p q by pressed refl was now free.0))
+event_alike fresh old new before (Input at target value) (acts p by) nowhere was now free = tt
+event_alike fresh old new before (Input at target value) (acts p by) (lost kind) was now free = tt
+event_alike fresh old new before (Input at target value) nowhere now was is free = tt
+event_alike fresh old new before (Input at target value) (lost kind) now was is free = tt
+event_alike fresh old new before (Click at target req) (acts p by) nowhere was now free = tt
+event_alike fresh old new before (Click at target req) (acts p by) (lost kind) was now free = tt
+event_alike fresh old new before (Click at target req) nowhere now was is free = tt
+event_alike fresh old new before (Click at target req) (lost kind) now was is free = tt
+event_alike fresh old new before (Submit at target by req) (acts p button) nowhere was now free = tt
+event_alike fresh old new before (Submit at target by req) (acts p button) (lost kind) was now free = tt
+event_alike fresh old new before (Submit at target by req) nowhere now was is free = tt
+event_alike fresh old new before (Submit at target by req) (lost kind) now was is free = tt
 
 pub all_ask_alike : (site : RepairedSite) (fresh : List (List ℕ)) (visit : Visit) (requests : List Request) (new : Tree) → AllAskAlike site fresh visit requests new
 all_ask_alike site fresh visit requests new same done there k event at =
-    event_alike fresh visit.page new event (by_path visit.page event) (by_element fresh visit.page new event) refl refl (done_good site fresh visit requests new same done there k event at)
+    event_alike fresh visit.page new (take k visit.events) event (by_path visit.page event) (by_element fresh visit.page new event) refl refl (done_good site fresh visit requests new same done there k event at)

@@ -1,9 +1,8 @@
 -- What a visit asked for, event by event.
-use Rattle.std.proofs.Common.{◌≡◌, ◌<◌, ℕ, zero, suc, ◌+◌, ◌≤◌, length, get_or, subst, List, [], ◌∷◌, ◌++◌, Bool, true, false, ◌&&◌, take, ◌==◌, if◌then◌else◌, is_some, slice_get, codes, Option, Some, None, IfSome, option_map, option_and_then, refl, sym, ap, ap₂, ◌∙◌, append-nil, arith}
+use Rattle.std.proofs.Common.{◌≡◌, ◌<◌, ℕ, zero, suc, ◌+◌, ◌≤◌, length, get_or, subst, List, [], ◌∷◌, ◌++◌, Bool, true, false, not, take, ◌==◌, if◌then◌else◌, is_some, slice_get, codes, Option, Some, None, IfSome, option_map, option_and_then, refl, sym, ap, ap₂, ◌∙◌, append-nil, arith}
 use Rattle.std.specs.List.{find, filter_map, range_with_len, cons_option}
 use Rattle.std.specs.Option.{option_or}
 use Rattle.std.specs.Str.{bytes_eq}
-use Rattle.std.proofs.lemmas.Bool.{and_parts, and_from}
 use Rattle.std.proofs.lemmas.List.Elements.{filter_map-append}
 use Rattle.std.proofs.lemmas.List.Folds.{find-append}
 use Rattle.std.proofs.lemmas.Option.{slice_get-get_or}
@@ -21,7 +20,7 @@ use Rattle.upload_reader.specs.declared.message.Event.{Event}
 use Rattle.upload_reader.specs.declared.message.Event.TheVariants.{Input, Click, Submit}
 use Rattle.client_log.specs.declared.visit.Visit.{Visit}
 use Rattle.visit_replay.specs.Aim.{Aim, acts, on_target, path_of, by_of, button_by_path, by_path, by_element, place_of_aim, button_of_aim}
-use Rattle.visit_replay.specs.Difference.{was_asked, are_alike, asks_now, passing_over}
+use Rattle.visit_replay.specs.Difference.{was_asked, asks_now, passing_over}
 use Rattle.visit_replay.specs.Form.{form_request}
 use Rattle.visit_replay.specs.Requests.{link_request, request_at, event_request}
 use Rattle.visit_replay.specs.declared.requests.Request.{Request}
@@ -112,25 +111,19 @@ numbered_next visit k number request is =
     numbered_more visit k number ∙ ap (λ o. find p (xs ++ cons_option o [])) is ∙ find-append p xs (request ∷ [])
     ∙ ap (option_or (find p xs)) (find_one p request (request.number == number) refl)
 
-same_option : {X : Type 0} (o : Option X) → option_map (λ x. x) o ≡ o
-same_option None = refl
-same_option (Some x) = refl
-
-module _ (visit : Visit) (k number : ℕ) (request : Request) (is : was_asked visit k ≡ Some request) (kept : ℕ → Option Request)
-    (are : kept number ≡ find (λ r. r.number == number) (filter_map (was_asked visit) (range_with_len 0 k))) where
+module _ {Y : Type 0} (g : Request → Y) (visit : Visit) (k number : ℕ) (request : Request) (is : was_asked visit k ≡ Some request) (kept : ℕ → Option Y)
+    (are : kept number ≡ option_map g (find (λ r. r.number == number) (filter_map (was_asked visit) (range_with_len 0 k)))) where
   abbrev before : Option Request
   before = find (λ r. r.number == number) (filter_map (was_asked visit) (range_with_len 0 k))
 
-  pub numbered_stays : is_some (kept request.number) ≡ true → kept number ≡ find (λ r. r.number == number) (filter_map (was_asked visit) (range_with_len 0 (k + 1)))
-  numbered_stays there =
-      stays (λ r. r) before request kept request.number number (are ∙ sym (same_option before)) there
-      ∙ same_option (option_or before (next_if (request.number == number) request)) ∙ sym (numbered_next visit k number request is)
+  pub numbered_stays : is_some (kept request.number) ≡ true → kept number ≡ option_map g (find (λ r. r.number == number) (filter_map (was_asked visit) (range_with_len 0 (k + 1))))
+  numbered_stays there = stays g before request kept request.number number are there ∙ ap (option_map g) (sym (numbered_next visit k number request is))
 
-  pub numbered_comes : (new : Option Request) → is_some (kept request.number) ≡ false → new ≡ (if request.number == number then Some request else kept number)
-      → new ≡ find (λ r. r.number == number) (filter_map (was_asked visit) (range_with_len 0 (k + 1)))
-  numbered_comes new none updated =
-      comes (λ r. r) before request kept request.number number (are ∙ sym (same_option before)) request new none (λ same. refl) updated
-      ∙ same_option (option_or before (next_if (request.number == number) request)) ∙ sym (numbered_next visit k number request is)
+  pub numbered_comes : (y : Y) (new : Option Y) → is_some (kept request.number) ≡ false → (request.number ≡ number → y ≡ g request)
+      → new ≡ (if request.number == number then Some y else kept number)
+      → new ≡ option_map g (find (λ r. r.number == number) (filter_map (was_asked visit) (range_with_len 0 (k + 1))))
+  numbered_comes y new none value updated =
+      comes g before request kept request.number number are y new none value updated ∙ ap (option_map g) (sym (numbered_next visit k number request is))
 
 -- ---- what has no request asks for nothing
 
@@ -169,13 +162,13 @@ numbered_rest visit end (suc more) number none =
     ∙ numbered_none visit (end + more) number (none_asked visit (end + more) (none (end + more) (omega arith)))
     ∙ numbered_rest visit end more number none
 
--- ---- two requests
+-- ---- two texts
 
-pub equal_alike : (fresh : List (List ℕ)) (was is : Request) → (bytes_eq was.address is.address && bytes_eq was.pairs is.pairs) ≡ true → are_alike fresh was is ≡ true
-equal_alike fresh was is equal =
-    let (addresses, pairs) = and_parts (bytes_eq was.address is.address) (bytes_eq was.pairs is.pairs) equal in
-    let one : was.address ≡ is.address = bytes_one was.address is.address addresses in
-    let other : was.pairs ≡ is.pairs = bytes_one was.pairs is.pairs pairs in
-    and_from (bytes_eq (without_fresh fresh was.address) (without_fresh fresh is.address)) (bytes_eq (without_fresh fresh (codes "?" ++ was.pairs)) (without_fresh fresh (codes "?" ++ is.pairs)))
-    (bytes_same (without_fresh fresh was.address) (without_fresh fresh is.address) (ap (without_fresh fresh) one))
-    (bytes_same (without_fresh fresh (codes "?" ++ was.pairs)) (without_fresh fresh (codes "?" ++ is.pairs)) (ap (λ sent. without_fresh fresh (codes "?" ++ sent)) other))
+pub equal_counts : (fresh : List (List ℕ)) (was is : List ℕ) → bytes_eq was is ≡ true → not (bytes_eq (without_fresh fresh was) (without_fresh fresh is)) ≡ false
+equal_counts fresh was is equal =
+    ap not (bytes_same (without_fresh fresh was) (without_fresh fresh is) (ap (without_fresh fresh) (bytes_one was is equal)))
+
+pub equal_sent : (fresh : List (List ℕ)) (was is : List ℕ) → bytes_eq was is ≡ true
+    → not (bytes_eq (without_fresh fresh (codes "?" ++ was)) (without_fresh fresh (codes "?" ++ is))) ≡ false
+equal_sent fresh was is equal =
+    ap not (bytes_same (without_fresh fresh (codes "?" ++ was)) (without_fresh fresh (codes "?" ++ is)) (ap (λ sent. without_fresh fresh (codes "?" ++ sent)) (bytes_one was is equal)))

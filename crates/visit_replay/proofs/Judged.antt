@@ -6,9 +6,8 @@ use Rattle.upload_reader.specs.declared.message.Event.{Event}
 use Rattle.client_log.specs.declared.visit.Visit.{Visit}
 use Rattle.visit_replay.specs.declared.outcome.ConflictKind.{ConflictKind}
 use Rattle.visit_replay.specs.Aim.{by_path}
-use Rattle.visit_replay.specs.Conflict.{conflict}
+use Rattle.visit_replay.specs.Conflict.{conflict, is_bad}
 use Rattle.visit_replay.specs.Moved.{own_request}
-use Rattle.visit_replay.specs.Outcome.{is_bad}
 use Rattle.visit_replay.specs.Requests.{event_request}
 
 pub stands_at : (visit : Visit) (k : ℕ) (event : Event) → k < length visit.events → event ≡ get_or visit.events k event → slice_get visit.events k ≡ Some event

@@ -16,3 +16,5 @@ pub mod Judged
 pub mod Asking
 pub mod LeftBehind
 pub mod Places
+pub mod Straying
+pub mod BesideRequests

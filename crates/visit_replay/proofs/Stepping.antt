@@ -1,24 +1,23 @@
 -- A walk over events, as far as it has come.
-use Rattle.std.proofs.Common.{◌≡◌, ℕ, zero, suc, true, if◌then◌else◌, ◌+◌, ◌<◌, List, [], ◌∷◌, ◌++◌, length, take, get_or, Bool, Option, Some, None, is_some, option_and_then, refl, sym, ◌∙◌, ap, le-ltb, lt-ltb, arith}
-use Rattle.std.specs.List.{filter_map, range_with_len, position, cons_option}
+use Rattle.std.proofs.Common.{◌≡◌, ℕ, zero, suc, true, false, cond, if◌then◌else◌, ◌+◌, ◌<◌, List, [], ◌∷◌, ◌++◌, length, take, get_or, Bool, Option, Some, None, is_some, option_map, option_and_then, slice_get, refl, sym, ◌∙◌, ap, arith}
+use Rattle.std.specs.List.{filter_map, find, range_with_len, cons_option}
 use Rattle.std.specs.Option.{option_map_or}
 use Rattle.std.proofs.lemmas.List.Elements.{filter_map-append}
-use Rattle.std.proofs.lemmas.List.Sums.{position_or_len_is}
 use Rattle.std.proofs.lemmas.Option.{slice_get-get_or}
 use Rattle.page_tree.specs.Tree.{Tree}
 use Rattle.page_looks.specs.Counterpart.{PagePair}
 use Rattle.upload_reader.specs.declared.message.Event.{Event}
 use Rattle.visit_replay.specs.declared.requests.Request.{Request}
 use Rattle.visit_replay.specs.declared.outcome.ConflictKind.{ConflictKind}
-use Rattle.visit_replay.specs.Aim.{Aim, aim_of}
+use Rattle.visit_replay.specs.declared.outcome.ConflictKind.TheVariants.{Changed}
+use Rattle.visit_replay.specs.Aim.{Aim, aim_of, has_strayed}
 use Rattle.visit_replay.specs.Conflict.{conflict}
 use Rattle.visit_replay.specs.Requests.{event_request, nth_request, requests_before, load_request}
-use Rattle.visit_replay.proofs.Places.{some_there}
 use Rattle.client_log.specs.declared.visit.Visit.{Visit}
 use Rattle.visit_replay.specs.RepairedSite.{RepairedSite}
 use Rattle.visit_replay.specs.declared.outcome.Outcome.{Outcome}
 use Rattle.visit_replay.specs.declared.outcome.Outcome.TheVariants.{Untouched}
-use Rattle.visit_replay.specs.Outcome.{is_affected, is_bad, conflict_of, first_conflict, at_end, at_event, on_page, outcome}
+use Rattle.visit_replay.specs.Outcome.{is_affected, conflict_of, first_conflict, at_end, at_event, on_page, outcome}
 
 -- ---- requests
 
@@ -38,35 +37,61 @@ requests_more aim address new events i event below is =
 
 -- ---- the first that can't be replayed
 
-found_at : (aim : Event → Aim) (old new : Tree) (events : List Event) (event : Event) (k : ℕ) → k < length events → is_bad aim old new (get_or events k event) ≡ is_some (conflict_of aim old new events k)
-found_at aim old new events event k below = ap (λ o. is_some (option_and_then (conflict aim old new) o)) (sym (slice_get-get_or events k event below))
+first_in_range : (p : ℕ → Bool) (at n j : ℕ) → j < n → ((k : ℕ) → k < j → p (at + k) ≡ false) → p (at + j) ≡ true → find p (range_with_len at n) ≡ Some (at + j)
+first_in_range p at zero j below none is = absurd (omega (arith, below))
+first_in_range p at (suc n) zero below none is = let here : at + 0 ≡ at = omega arith in
+    ap (λ b. cond b (Some at) (find p (range_with_len (at + 1) n))) (ap p (sym here) ∙ is) ∙ ap Some (sym here)
+first_in_range p at (suc n) (suc j) below none is =
+    let here : at + 0 ≡ at = omega arith in
+    let there : at + suc j ≡ (at + 1) + j = omega arith in
+    ap (λ b. cond b (Some at) (find p (range_with_len (at + 1) n))) (ap p (sym here) ∙ none 0 (omega arith))
+    ∙ first_in_range p (at + 1) n j (omega (arith, below)) (λ k less. let next : (at + 1) + k ≡ at + suc k = omega arith in ap p next ∙ none (suc k) (omega (arith, less))) (ap p (sym there) ∙ is)
+    ∙ ap Some (sym there)
 
-pub stopped : (aim : Event → Aim) (old new : Tree) (events : List Event) (i : ℕ) (kind : ConflictKind) → ((k : ℕ) → k < i → conflict_of aim old new events k ≡ None) → i < length events → Some kind ≡ conflict_of aim old new events i
-    → first_conflict aim old new events ≡ Some (i, kind)
-stopped aim old new events i kind good below bad =
-    let (event, there) = some_there events i below in
-    let at = position_or_len_is (is_bad aim old new) events i event (omega arith) (λ k less. found_at aim old new events event k (omega arith) ∙ ap is_some (good k less)) (λ _. found_at aim old new events event i below ∙ ap is_some (sym bad)) in
-    let first : position (is_bad aim old new) events ≡ Some i = rw (at, lt-ltb i (length events) below) refl in
-    rw (first, ← bad) refl
+none_in_range : (p : ℕ → Bool) (at n : ℕ) → ((k : ℕ) → k < n → p (at + k) ≡ false) → find p (range_with_len at n) ≡ None
+none_in_range p at zero none = refl
+none_in_range p at (suc n) none =
+    let here : at + 0 ≡ at = omega arith in
+    ap (λ b. cond b (Some at) (find p (range_with_len (at + 1) n))) (ap p (sym here) ∙ none 0 (omega arith))
+    ∙ none_in_range p (at + 1) n (λ k less. let next : (at + 1) + k ≡ at + suc k = omega arith in ap p next ∙ none (suc k) (omega (arith, less)))
 
--- none can't
-pub passed : (aim : Event → Aim) (old new : Tree) (events : List Event) → ((k : ℕ) → k < length events → conflict_of aim old new events k ≡ None) → first_conflict aim old new events ≡ None
-passed aim old new [] good = refl
-passed aim old new (event ∷ rest) good =
-    let events = event ∷ rest in
-    let at = position_or_len_is (is_bad aim old new) events (length events) event (omega arith) (λ k less. found_at aim old new events event k less ∙ ap is_some (good k less)) (λ below. absurd (omega (arith, below))) in
-    let none : position (is_bad aim old new) events ≡ None = rw (at, le-ltb (length events) (length events) (omega arith)) refl in
-    rw none refl
+module _ (same : Option (List (List ℕ))) (old new : Tree) (events : List Event) where
+  pub stopped : (i : ℕ) (kind : ConflictKind) → ((k : ℕ) → k < i → conflict_of same old new events k ≡ None) → i < length events → Some kind ≡ conflict_of same old new events i → first_conflict same old new events ≡ Some (i, kind)
+  stopped i kind good below bad =
+      let reason = conflict_of same old new events in
+      let here : 0 + i ≡ i = omega arith in
+      ap (option_and_then (λ k. option_map {U = ℕ × ConflictKind} (λ found. (k, found)) (reason k)))
+      (first_in_range (λ k. is_some (reason k)) 0 (length events) i below (λ k less. let there : 0 + k ≡ k = omega arith in ap (λ n. is_some (reason n)) there ∙ ap is_some (good k less))
+      (ap (λ n. is_some (reason n)) here ∙ ap is_some (sym bad)) ∙ ap Some here)
+      ∙ ap (option_map {U = ℕ × ConflictKind} (λ found. (i, found))) (sym bad)
+
+  -- none can't
+  pub passed : ((k : ℕ) → k < length events → conflict_of same old new events k ≡ None) → first_conflict same old new events ≡ None
+  passed good =
+      let reason = conflict_of same old new events in
+      ap (option_and_then (λ k. option_map {U = ℕ × ConflictKind} (λ found. (k, found)) (reason k)))
+      (none_in_range (λ k. is_some (reason k)) 0 (length events) (λ k less. let there : 0 + k ≡ k = omega arith in ap (λ n. is_some (reason n)) there ∙ ap is_some (good k less)))
+
+-- of the event with k events before it
+pub judged_here : (same : Option (List (List ℕ))) (old new : Tree) (events : List Event) (k : ℕ) (event : Event) (strayed : Bool) (found : Option ConflictKind) → slice_get events k ≡ Some event
+    → has_strayed same old new (take k events) event ≡ strayed → conflict (aim_of same old new) old new event ≡ found → conflict_of same old new events k ≡ (if strayed then Some Changed else found)
+judged_here same old new events k event strayed found at first then_judged =
+    ap (option_and_then (λ e. if has_strayed same old new (take k events) e then Some Changed else conflict (aim_of same old new) old new e)) at
+    ∙ ap (λ b. if b then Some Changed else conflict (aim_of same old new) old new event) first ∙ ap (λ o. if strayed then Some Changed else o) then_judged
+
+pub strayed_here : (same : Option (List (List ℕ))) (old new : Tree) (events : List Event) (k : ℕ) (event : Event) → slice_get events k ≡ Some event
+    → has_strayed same old new (take k events) event ≡ true → conflict_of same old new events k ≡ Some Changed
+strayed_here same old new events k event at strayed = judged_here same old new events k event true (conflict (aim_of same old new) old new event) at strayed refl
 
 -- ---- the outcome
 
 -- behind the last event
 pub at_last : (same : Option (List (List ℕ))) (visit : Visit) (new : Tree) (told : Tree → Bool) (answer : Outcome)
-    → ((k : ℕ) → k < length visit.events → conflict_of (aim_of same visit.page new) visit.page new visit.events k ≡ None)
+    → ((k : ℕ) → k < length visit.events → conflict_of same visit.page new visit.events k ≡ None)
     → answer ≡ at_end (aim_of same visit.page new) visit new (told new) → answer ≡ on_page same visit told (Some new)
 at_last same visit new told answer good is =
     let aim = aim_of same visit.page new in
-    is ∙ sym (ap (λ first. option_map_or (at_event aim visit new) first (at_end aim visit new (told new))) (passed aim visit.page new visit.events good))
+    is ∙ sym (ap (λ first. option_map_or (at_event aim visit new) first (at_end aim visit new (told new))) (passed same visit.page new visit.events good))
 
 pub outcome_is : (site : RepairedSite) (visit : Visit) (new : Tree) (answer : Outcome) → is_affected site.patch visit.address ≡ true → site.page_of visit.address ≡ Some new
     → answer ≡ on_page site.same visit (site.signals visit.address visit.page) (Some new) → answer ≡ outcome site visit

@@ -1,12 +1,13 @@
 -- Where an event acts on the page that stands there now: where its path leads, or, if the site's law says so, where the
 -- element stands that it was made on (this project's own rule).
-use Rattle.std.specs.Prelude.{ℕ, List, [], ◌∷◌, ◌++◌, map, filter, take, length, ◌-◌, Bool, true, false, not, ◌&&◌, ◌==◌, if◌then◌else◌, Option, Some, None, option_and_then, slice_get, Result, Ok, Err, codes}
-use Rattle.std.specs.List.{last_or, position, range_with_len}
+use Rattle.std.specs.Prelude.{ℕ, List, [], ◌∷◌, ◌++◌, map, filter, take, length, ◌-◌, Bool, true, false, not, ◌&&◌, ◌==◌, if◌then◌else◌, Option, Some, None, option_map, option_and_then, slice_get, Result, Ok, Err, codes}
+use Rattle.std.specs.List.{last_or, list_any, position, range_with_len}
 use Rattle.std.specs.Option.{option_map_or}
 use Rattle.std.specs.Str.{bytes_eq}
 use Rattle.page_tree.specs.Tree.{Tree, element, words}
 use Rattle.page_tree.specs.Look.{node_at, name_at, child_count_at, attribute_at}
 use Rattle.page_tree.specs.Control.{control_at, start_checked_at}
+use Rattle.page_tree.specs.Under.{is_under}
 use Rattle.page_tree.specs.declared.control.Control.{Control}
 use Rattle.page_tree.specs.declared.control.Control.TheVariants as control
 use Rattle.page_looks.specs.Outline.{is_one_of, type_of}
@@ -226,3 +227,34 @@ by_element fresh old new event = on_target (target_in (goes_by event) old) (from
 abbrev pub aim_of : Option (List (List ℕ)) → Tree → Tree → Event → Aim
 aim_of None old new event = by_path new event
 aim_of (Some fresh) old new event = by_element fresh old new event
+
+-- ---- a submit whose form sends a touched field that it didn't send, or the other way round (K11)
+
+-- an input, or a click on a checkbox
+abbrev pub touches : Tree → Event → List ℕ → Bool
+touches old (Input at target value) p = true
+touches old (Click at target req) p = is_check (control_at p old)
+touches old (Submit at target by req) p = false
+
+-- of two fields and two forms: one field stands under its form, the other doesn't
+abbrev pub is_under_one : List ℕ → List ℕ → List ℕ → List ℕ → Bool
+is_under_one f g p q = not (is_one_state (is_under f p) (is_under g q))
+
+-- where the event's path led on the recorded page, and where it acts now
+abbrev pub both_places : (Event → Aim) → Tree → Event → Option (List ℕ × List ℕ)
+both_places aim old event = option_and_then (λ p. option_map (λ q. (p, q)) (place_of_aim (aim event)))
+    (only_place (target_in (path_of event) old))
+
+abbrev pub strays : (Event → Aim) → Tree → List ℕ → List ℕ → Event → Bool
+strays aim old f g event = option_map_or (λ at. touches old event at.0 && is_under_one f g at.0 at.1)
+    (both_places aim old event) false
+
+abbrev pub is_submit : Event → Bool
+is_submit (Submit at target by req) = true
+is_submit other = false
+
+-- an event before the submit touched a field that strays; by their paths none does
+abbrev pub has_strayed : Option (List (List ℕ)) → Tree → Tree → List Event → Event → Bool
+has_strayed None old new before event = false
+has_strayed (Some fresh) old new before event = let aim = by_element fresh old new in is_submit event
+    && option_map_or (λ forms. list_any (strays aim old forms.0 forms.1) before) (both_places aim old event) false

@@ -100,3 +100,6 @@ conflict_by (lost kind) found = Some kind
 
 abbrev pub conflict : (Event → Aim) → Tree → Tree → Event → Option ConflictKind
 conflict aim old new event = conflict_by (aim event) (conflict_at old new event)
+
+abbrev pub is_bad : (Event → Aim) → Tree → Tree → Event → Bool
+is_bad aim old new event = is_some (conflict aim old new event)

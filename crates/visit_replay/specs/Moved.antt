@@ -9,7 +9,7 @@ use Rattle.upload_reader.specs.Session.{request_of}
 use Rattle.client_log.specs.declared.visit.Visit.{Visit}
 use Rattle.page_looks.specs.Sending.{without_fresh}
 use Rattle.visit_replay.specs.Aim.{by_path}
-use Rattle.visit_replay.specs.Outcome.{is_bad}
+use Rattle.visit_replay.specs.Conflict.{is_bad}
 use Rattle.visit_replay.specs.Requests.{nth_request}
 use Rattle.visit_replay.specs.declared.requests.Request.{Request}
 use Rattle.visit_replay.specs.declared.outcome.Outcome.{Outcome}

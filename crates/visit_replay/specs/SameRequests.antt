@@ -1,7 +1,8 @@
 -- What is proved of a visit that is done by its elements: event by event it asks for what its recorded page would have
 -- asked for, but for the values of fresh names, start texts, and fields that nobody touched. (That the same bytes mean
 -- the same is no law.)
-use Rattle.std.specs.Prelude.{◌≡◌, ◌≢◌, ℕ, List, [], slice_get, true, false, Option, Some, None, option_map, codes}
+use Rattle.std.specs.Prelude.{◌≡◌, ◌≢◌, ℕ, List, [], take, slice_get, true, false, Option, Some, None, option_map, codes}
+use Rattle.std.specs.List.{list_any}
 use Rattle.std.specs.Option.{option_map_or}
 use Rattle.page_tree.specs.Tree.{Attribute, Tree}
 use Rattle.page_tree.specs.Look.{node_at, children_of, attribute_at}
@@ -11,7 +12,7 @@ use Rattle.page_looks.specs.Counterpart.{is_sent_alike}
 use Rattle.upload_reader.specs.declared.message.Event.{Event}
 use Rattle.upload_reader.specs.declared.message.Event.TheVariants.{Input, Click, Submit}
 use Rattle.client_log.specs.declared.visit.Visit.{Visit}
-use Rattle.visit_replay.specs.Aim.{Aim, acts, by_path, by_element, is_kept, is_clicked_alike}
+use Rattle.visit_replay.specs.Aim.{Aim, acts, by_path, by_element, is_kept, is_clicked_alike, strays}
 use Rattle.visit_replay.specs.Form.{is_post, action_of}
 use Rattle.visit_replay.specs.Outcome.{outcome}
 use Rattle.visit_replay.specs.RepairedSite.{RepairedSite}
@@ -42,18 +43,21 @@ module _ (fresh : List (List ℕ)) (old new : Tree) where
   ArePressedAlike by pressed = ⊥
 
   -- An input went into a field of the same name and start text, a click turned a checkbox of the same name, value and
-  -- start state, each in forms that send the same.
-  abbrev pub AsksAlike : Event → Aim → Aim → Type 0
-  AsksAlike (Input at target value) (acts p by) (acts q pressed) =
+  -- start state, each in forms that send the same. No field that one of these events before a submit touched stands
+  -- under one of its two forms alone.
+  abbrev pub AsksAlike : List Event → Event → Aim → Aim → Type 0
+  AsksAlike before (Input at target value) (acts p by) (acts q pressed) =
       (is_kept fresh old new p q ≡ true) × (start_text_at p old ≡ start_text_at q new)
-  AsksAlike (Click at target req) (acts p by) (acts q pressed) =
+  AsksAlike before (Click at target req) (acts p by) (acts q pressed) =
       (is_clicked_alike fresh old new p q ≡ true) × (req ≢ 0 → AreLinksAlike p q)
-  AsksAlike (Submit at target by req) (acts p button) (acts q pressed) =
-      AreFormsAlike p q × ArePressedAlike button pressed
-  AsksAlike event was now = Unit {0}
+  AsksAlike before (Submit at target by req) (acts p button) (acts q pressed) =
+      AreFormsAlike p q × (ArePressedAlike button pressed
+      × (list_any (strays (by_element fresh old new) old p q) before ≡ false))
+  AsksAlike before event was now = Unit {0}
 
 -- of each event of a visit that is done
 abbrev pub AllAskAlike : RepairedSite → List (List ℕ) → Visit → List Request → Tree → Type 0
 AllAskAlike site fresh visit requests new = site.same ≡ Some fresh → outcome site visit ≡ Done requests
     → site.page_of visit.address ≡ Some new → (k : ℕ) (event : Event) → slice_get visit.events k ≡ Some event
-    → AsksAlike fresh visit.page new event (by_path visit.page event) (by_element fresh visit.page new event)
+    → AsksAlike fresh visit.page new (take k visit.events) event (by_path visit.page event)
+    (by_element fresh visit.page new event)

@@ -4,3 +4,4 @@ pub mod OneEvent
 pub mod Moves
 pub mod Families
 pub mod Differing
+pub mod TouchedFields

@@ -77,13 +77,13 @@ fn is_clicked_alike(beside: &Beside<'_>, was: u32, is: u32) -> bool
     is_kept(beside, was, is) && is_one_state(before, now)
 }
 
-fn is_one_state(was: bool, is: bool) -> bool
+pub(crate) fn is_one_state(was: bool, is: bool) -> bool
     ensures { result ≡ is_one_state was is }
 {
     if was { is } else { !is }
 }
 
-fn is_check(control: Control) -> bool
+pub(crate) fn is_check(control: Control) -> bool
     ensures { result ≡ is_check control }
 {
     matches!(control, Control::Check)

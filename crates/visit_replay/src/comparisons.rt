@@ -1,37 +1,43 @@
-//! Requests that were compared a short while ago: most events ask for what one of the last few did.
-ghost use Rattle.std.specs.Prelude.{ℕ, List, ◌≡◌, IfOk, OnOk, IfSome};
+//! Texts that were compared a short while ago: most events ask for what one of the last few did.
+ghost use Rattle.std.specs.Prelude.{ℕ, List, Option, ◌≡◌, ◌++◌, not, IfOk, OnOk, IfSome, codes};
+ghost use Rattle.std.specs.Str.{bytes_eq};
+ghost use Rattle.page_looks.specs.Sending.{without_fresh};
 ghost use Rattle.visit_replay.specs.Difference.{are_alike};
-ghost use Rattle.visit_replay.specs.inside.Differing.{AreCompared};
+ghost use Rattle.visit_replay.specs.inside.Differing.{AreCompared, KnowsTexts};
 
-use crate::differing::{are_alike_but_fresh, are_equal};
-use crate::requests::Request;
+use crate::requests::{Request, differ, with_query};
 use page_tree::{NoMemory, Text};
 use std::alloc::Global;
 
-// How many are kept.
+// Once so many are kept, or so many bytes stand in them, all are forgotten.
 const MOST: usize = 256;
 
-/// Two requests, and whether they are alike.
+const ROOM: usize = 4_194_304;
+
+/// Two texts, and whether they differ but for the values of fresh names.
 #[derive(Drop)]
-pub(crate) struct Comparison<'r> {
-    pub(crate) was: &'r Request,
-    pub(crate) is: &'r Request,
-    pub(crate) alike: bool,
+pub(crate) struct Comparison {
+    was: Text,
+    is: Text,
+    apart: bool,
 }
 
-/// Some that were compared but for the values of the same names. Once there are too many, all are forgotten.
+/// Some that were compared but for the values of the same names.
 #[derive(Drop)]
-pub(crate) struct Comparisons<'r> {
-    all: Vec<Comparison<'r>>,
+pub(crate) struct Comparisons {
+    all: Vec<Comparison>,
+    bytes: usize,
 }
 
-impl<'r> Comparisons<'r> {
+impl Comparisons {
     /// None. It takes no memory.
-    pub(crate) fn new(alloc: Global) -> Comparisons<'r>
-        ensures { (fresh : List (List ℕ)) → AreCompared fresh result.all.items }
+    pub(crate) fn new(alloc: Global) -> Comparisons
+        ensures compared { (fresh : List (List ℕ)) → AreCompared fresh result.all.items }
+        ensures found { (same : Option (List (List ℕ))) → KnowsTexts same result }
     {
         Comparisons {
             all: Vec::new(alloc),
+            bytes: 0,
         }
     }
 
@@ -40,50 +46,108 @@ impl<'r> Comparisons<'r> {
         &mut self,
         alloc: Global,
         fresh: &[Text],
-        was: &'r Request,
-        is: &'r Request,
+        was: &Request,
+        is: &Request,
     ) -> Result<bool, NoMemory>
         requires { AreCompared fresh.now self.old.all.items }
         ensures known { OnOk result (AreCompared fresh.now self.new.all.items) }
         ensures alike { IfOk result (λ alike. alike ≡ are_alike fresh.now was.now is.now) }
     {
-        if are_equal(was, is) {
-            return Ok(true);
+        let elsewhere = self.differ(alloc, fresh, was.address.as_str(), is.address.as_str())?;
+        if elsewhere {
+            return Ok(false);
+        }
+        let apart = self.differ_sent(alloc, fresh, was.pairs.as_str(), is.pairs.as_str())?;
+        Ok(!apart)
+    }
+
+    /// Whether two texts differ but for the values of fresh names. Nothing is looked at of two that are equal.
+    pub(crate) fn differ(
+        &mut self,
+        alloc: Global,
+        fresh: &[Text],
+        was: &str,
+        is: &str,
+    ) -> Result<bool, NoMemory>
+        requires { AreCompared fresh.now self.old.all.items }
+        ensures known { OnOk result (AreCompared fresh.now self.new.all.items) }
+        ensures apart { IfOk result (λ apart. apart
+            ≡ not (bytes_eq (without_fresh fresh.now was.now) (without_fresh fresh.now is.now))) }
+    {
+        if was == is {
+            return Ok(false);
         }
         match answer_of(self.all.as_slice(), was, is) {
-            Some(alike) => Ok(alike),
+            Some(apart) => Ok(apart),
             None => self.compare(alloc, fresh, was, is),
         }
+    }
+
+    // The same of the pairs that are sent.
+    fn differ_sent(
+        &mut self,
+        alloc: Global,
+        fresh: &[Text],
+        was: &str,
+        is: &str,
+    ) -> Result<bool, NoMemory>
+        requires { AreCompared fresh.now self.old.all.items }
+        ensures known { OnOk result (AreCompared fresh.now self.new.all.items) }
+        ensures apart { IfOk result (λ apart. apart ≡ not (bytes_eq
+            (without_fresh fresh.now (codes "?" ++ was.now)) (without_fresh fresh.now (codes "?" ++ is.now)))) }
+    {
+        if was == is {
+            return Ok(false);
+        }
+        let before = with_query(alloc, "", was)?;
+        let now = with_query(alloc, "", is)?;
+        self.differ(alloc, fresh, before.as_str(), now.as_str())
     }
 
     fn compare(
         &mut self,
         alloc: Global,
         fresh: &[Text],
-        was: &'r Request,
-        is: &'r Request,
+        was: &str,
+        is: &str,
     ) -> Result<bool, NoMemory>
         requires { AreCompared fresh.now self.old.all.items }
         ensures known { OnOk result (AreCompared fresh.now self.new.all.items) }
-        ensures alike { IfOk result (λ alike. alike ≡ are_alike fresh.now was.now is.now) }
+        ensures apart { IfOk result (λ apart. apart
+            ≡ not (bytes_eq (without_fresh fresh.now was.now) (without_fresh fresh.now is.now))) }
     {
-        if self.all.len() >= MOST {
+        self.forget_if_full();
+        let apart = differ(alloc, fresh, was, is)?;
+        self.bytes = self.bytes.saturating_add(was.len());
+        self.bytes = self.bytes.saturating_add(is.len());
+        let before = Text::from_str(alloc, was)?;
+        let now = Text::from_str(alloc, is)?;
+        self.all.push(Comparison {
+            was: before,
+            is: now,
+            apart,
+        })?;
+        Ok(apart)
+    }
+
+    fn forget_if_full(&mut self)
+        ensures { (fresh : List (List ℕ)) → AreCompared fresh self.old.all.items → AreCompared fresh self.new.all.items }
+    {
+        if self.all.len() >= MOST || self.bytes >= ROOM {
             self.all.clear();
+            self.bytes = 0;
         }
-        let alike = are_alike_but_fresh(alloc, fresh, was, is)?;
-        self.all.push(Comparison { was, is, alike })?;
-        Ok(alike)
     }
 }
 
-// Whether these are alike, where two that ask for the same were compared.
-fn answer_of(all: &[Comparison<'_>], was: &Request, is: &Request) -> Option<bool>
-    ensures { IfSome result (λ alike. (fresh : List (List ℕ)) → AreCompared fresh all.now
-        → alike ≡ are_alike fresh was.now is.now) }
+// Whether these differ, where they were compared.
+fn answer_of(all: &[Comparison], was: &str, is: &str) -> Option<bool>
+    ensures { IfSome result (λ apart. (fresh : List (List ℕ)) → AreCompared fresh all.now → apart
+        ≡ not (bytes_eq (without_fresh fresh was.now) (without_fresh fresh is.now))) }
 {
     for known in all {
-        if are_equal(known.was, was) && are_equal(known.is, is) {
-            return Some(known.alike);
+        if known.was.as_str() == was && known.is.as_str() == is {
+            return Some(known.apart);
         }
     }
     None

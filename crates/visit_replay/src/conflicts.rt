@@ -176,7 +176,7 @@ fn is_button_of(new: &Page, form: u32, number: u32) -> bool
         && is_enabled_submit(new.control_of(number), is_disabled(new, number))
 }
 
-fn is_under(page: &Page, above: u32, number: u32) -> bool
+pub(crate) fn is_under(page: &Page, above: u32, number: u32) -> bool
     requires above { above < nodes page.now }
     requires there { number < nodes page.now }
     ensures { result ≡ is_under (place_numbered above page.now) (place_numbered number page.now) }

@@ -1,12 +1,13 @@
 //! What a visit asked for on the page that it was made on, where that differs from what its replay asks for.
-ghost use Rattle.std.specs.Prelude.{ℕ, ◌≡◌, ◌<◌, ◌≤◌, ◌+◌, [], ◌∷◌, ◌++◌, ◌&&◌, length, map, take, slice_get, Some, IfOk, IfSome, OnOk, OnErr, option_and_then};
-ghost use Rattle.std.specs.Str.{bytes_eq};
+ghost use Rattle.std.specs.Prelude.{ℕ, List, ◌≡◌, ◌<◌, ◌≤◌, [], ◌∷◌, ◌++◌, length, map, take, slice_get, Some, IfOk, IfSome, OnOk, OnErr, option_and_then};
+ghost use Rattle.std.specs.List.{Contains};
 ghost use Rattle.upload_reader.specs.Session.{request_of};
 ghost use Rattle.upload_reader.specs.declared.message.Event.{Event as PlainEvent};
 ghost use Rattle.client_log.specs.declared.visit.Visit.{Visit as PlainVisit};
 ghost use Rattle.visit_replay.specs.Aim.{Aim, by_path};
-ghost use Rattle.visit_replay.specs.Difference.{difference, was_asked, was_other, are_alike, asks_now};
+ghost use Rattle.visit_replay.specs.Difference.{difference, was_asked, was_other, asks_now};
 ghost use Rattle.visit_replay.specs.declared.difference.Contrast.TheVariants.{Changed};
+ghost use Rattle.visit_replay.specs.declared.requests.Request.{Request as PlainRequest};
 ghost use Rattle.visit_replay.specs.inside.Differing.{AreCompared, AreLookedUp, KnowsInputs, HasNumbered, IsTargetOf, asked_there};
 ghost use Rattle.visit_replay.specs.inside.KeptFields.{Keeps, TakesIn};
 ghost use Rattle.visit_replay.specs.inside.OneEvent.{AimsAt, IsBetween, aimed};
@@ -18,6 +19,7 @@ use crate::difference::{Contrast, Difference, Former};
 use crate::fields::Fields;
 use crate::finding::Finding;
 use crate::forms::Filled;
+use crate::kept_requests::{kept_of, only_by_number, take_in};
 use crate::known_inputs::KnownInputs;
 use crate::known_paths::KnownPaths;
 use crate::lookups::Lookups;
@@ -25,9 +27,9 @@ use crate::moving::{fields_behind, note_at};
 use crate::outcome::{ConflictKind, Outcome};
 use crate::passing::passing_over;
 use crate::repaired_page::RepairedPage;
-use crate::requests::{Request, differ, request_at, with_query};
+use crate::requests::{Request, request_at};
 use client_log::Visit;
-use page_looks::Looks;
+use page_looks::{FreshNames, Looks};
 use page_tree::{NoMemory, Page, Text};
 use site_hooks::SiteHooks;
 use std::alloc::Global;
@@ -52,7 +54,7 @@ pub fn told_difference<H: SiteHooks>(
     match outcome {
         Outcome::Untouched => Ok(Difference::none()),
         Outcome::Done { requests } => {
-            let was = all_former(alloc, fresh, visit, requests.as_slice())?;
+            let was = all_former(alloc, fresh.as_slice(), visit, requests.as_slice())?;
             Difference::of(alloc, Contrast::Done { was })
         }
         Outcome::Conflict {
@@ -105,8 +107,8 @@ fn all_former(
     ensures { IfOk result (λ all. all ≡ map (was_other fresh.now visit.now) requests.now) }
 {
     let mut all = Former::new(alloc);
-    let before = requests_by_number(alloc, visit)?;
     let mut compared = Comparisons::new(alloc);
+    let before = kept_by_number(alloc, fresh, visit, requests, &mut compared)?;
     for request in requests {
         let was = other_than(alloc, fresh, &before, request, &mut compared)?;
         all.push(was)?;
@@ -114,10 +116,19 @@ fn all_former(
     Ok(all)
 }
 
-// The visit's own requests by their numbers, the first of each. What stands behind its last event with a request isn't gone through.
-fn requests_by_number(alloc: Global, visit: &Visit) -> Result<BTreeMap<u64, Request>, NoMemory>
-    ensures { IfOk result (HasNumbered visit.now (length visit.now.events)) }
+// What is kept of the visit's own requests beside these, which are made now. What stands behind its last event with a request isn't gone through.
+fn kept_by_number(
+    alloc: Global,
+    fresh: &[Text],
+    visit: &Visit,
+    requests: &[Request],
+    compared: &mut Comparisons,
+) -> Result<BTreeMap<u64, Option<Request>>, NoMemory>
+    requires { AreCompared fresh.now compared.old.all.items }
+    ensures known { OnOk result (AreCompared fresh.now compared.new.all.items) }
+    ensures kept { IfOk result (HasNumbered fresh.now requests.now visit.now (length visit.now.events)) }
 {
+    let now = only_by_number(alloc, requests)?;
     let mut all = BTreeMap::new(alloc);
     let mut fields = Fields::new(alloc);
     let mut paths = KnownPaths::new(alloc);
@@ -125,7 +136,8 @@ fn requests_by_number(alloc: Global, visit: &Visit) -> Result<BTreeMap<u64, Requ
     for k in 0..asking_end(events) {
         let event = &events[k];
         let target = paths.target_of(&visit.page, event)?;
-        add_request(alloc, visit, &fields, k, event, target, &mut all)?;
+        let was = own_request(alloc, visit, &fields, k, event, target)?;
+        take_in(alloc, fresh, &now, was, compared, &mut all)?;
         note_at(&visit.page, event, target, &mut fields)?;
     }
     Ok(all)
@@ -141,31 +153,6 @@ fn asking_end(events: &[Event]) -> usize
         end -= 1;
     }
     end
-}
-
-fn add_request(
-    alloc: Global,
-    visit: &Visit,
-    fields: &Fields<'_>,
-    k: usize,
-    event: &Event,
-    target: Option<u32>,
-    all: &mut BTreeMap<u64, Request>,
-) -> Result<(), NoMemory>
-    requires there { k < length visit.now.events }
-    requires fields { Keeps (by_path visit.now.page) fields.now visit.now.page (take k visit.now.events) }
-    requires event { slice_get visit.now.events k ≡ Some event.now }
-    requires target { IsTargetOf visit.now.page event.now target }
-    ensures { OnOk result (HasNumbered visit.now k all.old → HasNumbered visit.now (k + 1) all.new) }
-{
-    let Some(request) = own_request(alloc, visit, fields, k, event, target)? else {
-        return Ok(());
-    };
-    if all.contains_key(&request.number) {
-        return Ok(());
-    }
-    all.insert(request.number, request)?;
-    Ok(())
 }
 
 // What the event with k events before it asked for at its target, by the fields as these left them.
@@ -224,50 +211,27 @@ fn request_there(
 }
 
 // What the request was, if that differs.
-fn other_than<'r>(
+fn other_than(
     alloc: Global,
     fresh: &[Text],
-    before: &'r BTreeMap<u64, Request>,
-    is: &'r Request,
-    compared: &mut Comparisons<'r>,
+    before: &BTreeMap<u64, Option<Request>>,
+    is: &Request,
+    compared: &mut Comparisons,
 ) -> Result<Option<Request>, NoMemory>
     requires { AreCompared fresh.now compared.old.all.items }
-    ensures other { IfOk result (λ other. (visit : PlainVisit) → HasNumbered visit (length visit.events) before.now
-        → other ≡ was_other fresh.now visit is.now) }
+    ensures other { IfOk result (λ other. (requests : List PlainRequest) (visit : PlainVisit) → Contains requests is.now
+        → HasNumbered fresh.now requests visit (length visit.events) before.now → other ≡ was_other fresh.now visit is.now) }
     ensures known { OnOk result (AreCompared fresh.now compared.new.all.items) }
 {
-    let Some(was) = before.get(&is.number) else {
+    let Some(was) = kept_of(before, is.number) else {
         return Ok(None);
     };
-    if compared.are_alike(alloc, fresh, was, is)? {
+    let alike = compared.are_alike(alloc, fresh, was, is)?;
+    if alike {
         return Ok(None);
     }
-    Ok(Some(copy_of(alloc, was)?))
-}
-
-/// Whether both ask for the same, but for the values of fresh names.
-pub(crate) fn are_alike_but_fresh(
-    alloc: Global,
-    fresh: &[Text],
-    was: &Request,
-    is: &Request,
-) -> Result<bool, NoMemory>
-    ensures { IfOk result (λ alike. alike ≡ are_alike fresh.now was.now is.now) }
-{
-    if differ(alloc, fresh, was.address.as_str(), is.address.as_str())? {
-        return Ok(false);
-    }
-    let before = with_query(alloc, "", was.pairs.as_str())?;
-    let now = with_query(alloc, "", is.pairs.as_str())?;
-    let apart = differ(alloc, fresh, before.as_str(), now.as_str())?;
-    Ok(!apart)
-}
-
-/// Whether they go to one address and send one text.
-pub(crate) fn are_equal(was: &Request, is: &Request) -> bool
-    ensures { result ≡ (bytes_eq was.now.address is.now.address && bytes_eq was.now.pairs is.now.pairs) }
-{
-    was.address.as_str() == is.address.as_str() && was.pairs.as_str() == is.pairs.as_str()
+    let copy = copy_of(alloc, was)?;
+    Ok(Some(copy))
 }
 
 fn copy_of(alloc: Global, request: &Request) -> Result<Request, NoMemory>
@@ -287,7 +251,7 @@ fn copy_of(alloc: Global, request: &Request) -> Result<Request, NoMemory>
 fn changed<H: SiteHooks>(
     alloc: Global,
     hooks: &H,
-    fresh: &[Text],
+    fresh: &FreshNames,
     visit: &Visit,
     k: usize,
 ) -> Result<Difference, NoMemory>

@@ -24,6 +24,7 @@ mod finding;
 mod following;
 mod forms;
 mod hidden_inputs;
+mod kept_requests;
 mod known_inputs;
 mod known_paths;
 mod laws;
@@ -38,6 +39,7 @@ mod patch;
 mod repaired_page;
 mod replaying;
 mod requests;
+mod touched;
 
 pub use difference::{Contrast, Difference, Former};
 pub use differing::{told_beside, told_difference};

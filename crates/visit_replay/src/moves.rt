@@ -7,9 +7,11 @@ ghost use Rattle.client_log.specs.declared.visit.Visit.{Visit};
 ghost use Rattle.visit_replay.specs.Aim.{by_path};
 ghost use Rattle.visit_replay.specs.Moved.{event_numbered, own_request, are_apart, is_moved};
 ghost use Rattle.visit_replay.specs.declared.outcome.Outcome.{Outcome};
+ghost use Rattle.visit_replay.specs.inside.Differing.{KnowsTexts};
 ghost use Rattle.visit_replay.specs.inside.KeptFields.{Keeps};
 ghost use Rattle.visit_replay.specs.inside.Moves.{IsFresh, IsRight, HasAddresses, MeetsOne, is_pending, answer_in};
 
+use crate::comparisons::Comparisons;
 use crate::fields::Fields;
 use crate::finding::Finding;
 use crate::moving::{goes_elsewhere, note, requests_of};
@@ -104,6 +106,7 @@ impl Asked {
         }
         let addresses = addresses_of(alloc, outcome)?;
         let mut fields = Fields::new(alloc);
+        let mut compared = Comparisons::new(alloc);
         let events = visit.events.as_slice();
         for k in 0..last_asked(events, &self.numbers) {
             meet(
@@ -113,6 +116,7 @@ impl Asked {
                 k,
                 &fields,
                 &addresses,
+                &mut compared,
                 &mut self.numbers,
             )?;
             note(&visit.page, &events[k], &mut fields)?;
@@ -163,18 +167,21 @@ fn meet(
     k: usize,
     fields: &Fields<'_>,
     addresses: &BTreeMap<u64, &str>,
+    compared: &mut Comparisons,
     numbers: &mut BTreeMap<u64, Option<bool>>,
 ) -> Result<(), NoMemory>
     requires there { k < length visit.now.events }
     requires fields { Keeps (by_path visit.now.page) fields.now visit.now.page (take k visit.now.events) }
-    ensures { OnOk result (MeetsOne finding.now visit.now k addresses.now numbers.old numbers.new) }
+    requires known { KnowsTexts finding.now compared.old }
+    ensures meets { OnOk result (MeetsOne finding.now visit.now k addresses.now numbers.old numbers.new) }
+    ensures known { OnOk result (KnowsTexts finding.now compared.new) }
 {
     let number = visit.events.as_slice()[k].request();
     if !is_pending(numbers, number) {
         return Ok(());
     }
     let now = addresses.get(&number).copied();
-    let apart = is_apart(alloc, finding, visit, fields, k, now)?;
+    let apart = is_apart(alloc, finding, visit, fields, k, now, compared)?;
     numbers.insert(number, Some(apart))?;
     Ok(())
 }
@@ -193,14 +200,17 @@ fn is_apart(
     fields: &Fields<'_>,
     k: usize,
     now: Option<&str>,
+    compared: &mut Comparisons,
 ) -> Result<bool, NoMemory>
     requires there { k < length visit.now.events }
     requires fields { Keeps (by_path visit.now.page) fields.now visit.now.page (take k visit.now.events) }
-    ensures { IfOk result
+    requires known { KnowsTexts finding.now compared.old }
+    ensures known { OnOk result (KnowsTexts finding.now compared.new) }
+    ensures apart { IfOk result
         (λ apart. apart ≡ are_apart finding.now (own_request visit.now k) (option_map (λ address. address.now) now.entry)) }
 {
     match now {
-        Some(now) => goes_elsewhere(alloc, finding, visit, fields, k, now),
+        Some(now) => goes_elsewhere(alloc, finding, visit, fields, k, now, compared),
         None => Ok(false),
     }
 }

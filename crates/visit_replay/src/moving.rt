@@ -3,9 +3,10 @@ ghost use Rattle.std.specs.Prelude.{◌≡◌, ◌<◌, length, take, Some, IfOk
 ghost use Rattle.visit_replay.specs.Aim.{by_path};
 ghost use Rattle.visit_replay.specs.Moved.{requests_of, address_now, event_numbered, own_request, are_apart, is_moved};
 ghost use Rattle.visit_replay.specs.inside.KeptFields.{Keeps, TakesIn};
-ghost use Rattle.visit_replay.specs.inside.Differing.{IsTargetOf};
+ghost use Rattle.visit_replay.specs.inside.Differing.{KnowsTexts, IsTargetOf};
 
 use crate::aims::{by_path, target_of};
+use crate::comparisons::Comparisons;
 use crate::conflicts::{Located, judged};
 use crate::fields::Fields;
 use crate::finding::Finding;
@@ -41,7 +42,9 @@ pub fn moved(
         return Ok(false);
     };
     let fields = fields_behind(alloc, &visit.page, events, k)?;
-    goes_elsewhere(alloc, finding, visit, &fields, k, now.address.as_str())
+    let mut compared = Comparisons::new(alloc);
+    let now = now.address.as_str();
+    goes_elsewhere(alloc, finding, visit, &fields, k, now, &mut compared)
 }
 
 // ---- what the replay asks for
@@ -83,10 +86,13 @@ pub(crate) fn goes_elsewhere(
     fields: &Fields<'_>,
     k: usize,
     now: &str,
+    compared: &mut Comparisons,
 ) -> Result<bool, NoMemory>
     requires there { k < length visit.now.events }
     requires fields { Keeps (by_path visit.now.page) fields.now visit.now.page (take k visit.now.events) }
-    ensures { IfOk result (λ answer. answer ≡ are_apart finding.now (own_request visit.now k) (Some now.now)) }
+    requires known { KnowsTexts finding.now compared.old }
+    ensures answer { IfOk result (λ answer. answer ≡ are_apart finding.now (own_request visit.now k) (Some now.now)) }
+    ensures known { OnOk result (KnowsTexts finding.now compared.new) }
 {
     let page = &visit.page;
     let event = &visit.events.as_slice()[k];
@@ -110,6 +116,7 @@ pub(crate) fn goes_elsewhere(
         target,
         finding,
         now,
+        compared,
     )
 }
 

@@ -2,8 +2,8 @@
 ghost use Rattle.std.specs.Prelude.{◌≡◌, IfOk};
 
 use crate::known_inputs::KnownInputs;
-use page_looks::Looks;
-use page_tree::{NoMemory, Page, Text};
+use page_looks::{FreshNames, Looks};
+use page_tree::{NoMemory, Page};
 use std::alloc::Global;
 use std::marker::Model;
 
@@ -35,7 +35,7 @@ impl<'p> RepairedPage<'p> {
     pub fn of(
         alloc: Global,
         page: &'p Page,
-        fresh: &'p [Text],
+        fresh: &'p FreshNames,
     ) -> Result<RepairedPage<'p>, NoMemory>
         ensures { IfOk result (λ repaired. repaired ≡ (page.now, fresh.now)) }
     {

@@ -1,5 +1,5 @@
 //! The outcome of a visit: the walk over its events, up to the first that can't be replayed, and what stands at its end.
-ghost use Rattle.std.specs.Prelude.{◌≡◌, ◌<◌, ◌+◌, length, IfOk, OnOk, IfSome, IfNone, Some};
+ghost use Rattle.std.specs.Prelude.{◌≡◌, ◌<◌, ◌+◌, length, take, IfOk, OnOk, IfSome, IfNone, Some};
 ghost use Rattle.visit_replay.specs.Requests.{requests_before};
 ghost use Rattle.visit_replay.specs.Outcome.{outcome, conflict_of, on_page, at_end};
 ghost use Rattle.visit_replay.specs.RepairedSite.{site_by};
@@ -7,6 +7,7 @@ ghost use Rattle.upload_reader.specs.declared.message.Event.{Event as PlainEvent
 ghost use Rattle.visit_replay.specs.Aim.{Aim};
 ghost use Rattle.visit_replay.specs.inside.Differing.{AreLookedUp, KnowsInputs};
 ghost use Rattle.visit_replay.specs.inside.OneEvent.{IsWalked, IsBetween, names_aimed, aimed};
+ghost use Rattle.visit_replay.specs.inside.TouchedFields.{AreTouched};
 
 use crate::aims::{Aiming, aim_at};
 use crate::conflicts::{Located, judged};
@@ -19,6 +20,7 @@ use crate::outcome::{ConflictKind, Outcome};
 use crate::patch::{Patch, affected};
 use crate::repaired_page::RepairedPage;
 use crate::requests::{Requests, load_request, request_at};
+use crate::touched::{Touched, has_strayed};
 use client_log::Visit;
 use page_looks::Looks;
 use page_tree::{NoMemory, Page};
@@ -134,6 +136,7 @@ fn replay_on<'v, H: SiteHooks>(
     ensures known { OnOk result (AreLookedUp visit.now.page new.now lookups.new) }
 {
     let mut fields = Fields::new(alloc);
+    let mut touched = Touched::new(alloc);
     let mut requests = Requests::new(alloc);
     requests.push(load_request(alloc, visit.address.as_str())?)?;
     for i in 0..visit.events.as_slice().len() {
@@ -145,6 +148,7 @@ fn replay_on<'v, H: SiteHooks>(
             i,
             lookups,
             &mut fields,
+            &mut touched,
             &mut requests,
         )? {
             let at = i as u64 + 1;
@@ -186,22 +190,30 @@ fn step<'a>(
     i: usize,
     lookups: &mut Lookups<'a, '_>,
     fields: &mut Fields<'a>,
+    touched: &mut Touched,
     requests: &mut Requests,
 ) -> Result<Option<ConflictKind>, NoMemory>
     requires there { i < length visit.now.events }
     requires between { IsBetween aiming.now visit.now.page new.now }
     requires known { AreLookedUp visit.now.page new.now lookups.old }
     requires so_far { IsWalked (aimed aiming.now visit.now.page new.now) visit.now new.now i fields.old requests.old }
+    requires touched { AreTouched (names_aimed aiming.now) visit.now.page new.now touched.old (take i visit.now.events) }
     ensures conflict { IfOk result (λ found. found
-        ≡ conflict_of (aimed aiming.now visit.now.page new.now) visit.now.page new.now visit.now.events i) }
+        ≡ conflict_of (names_aimed aiming.now) visit.now.page new.now visit.now.events i) }
     ensures known { OnOk result (AreLookedUp visit.now.page new.now lookups.new) }
     ensures stays { IfOk result (λ found. IfSome found (λ _. requests.new ≡ requests.old)) }
     ensures further { IfOk result (λ found. IfNone found
         (IsWalked (aimed aiming.now visit.now.page new.now) visit.now new.now (i + 1) fields.new requests.new)) }
+    ensures touched { IfOk result (λ found. IfNone found
+        (AreTouched (names_aimed aiming.now) visit.now.page new.now touched.new (take (i + 1) visit.now.events))) }
 {
     let event = &visit.events.as_slice()[i];
-    let aim = aim_at(alloc, aiming, &visit.page, new, event, lookups)?;
-    let (target, button) = match judged(&visit.page, new, event, aim, &lookups.paths)? {
+    let old = &visit.page;
+    let aim = aim_at(alloc, aiming, old, new, event, lookups)?;
+    if has_strayed(aiming, old, new, event, &aim, &lookups.paths, touched) {
+        return Ok(Some(ConflictKind::Changed));
+    }
+    let (target, button) = match judged(old, new, event, aim, &lookups.paths)? {
         Located::Bad(kind) => return Ok(Some(kind)),
         Located::Idle => return Ok(None),
         Located::At { target, button } => (target, button),
@@ -215,5 +227,6 @@ fn step<'a>(
         requests.push(request)?;
     }
     fields.note(new, event, target)?;
+    touched.note(aiming, old, new, event, target, &lookups.paths)?;
     Ok(None)
 }

@@ -8,10 +8,12 @@ ghost use Rattle.visit_replay.specs.Form.{sent_to};
 ghost use Rattle.visit_replay.specs.Requests.{load_request, link_request};
 ghost use Rattle.visit_replay.specs.inside.FieldsNow.{IsRequestAt, LeadsElsewhere, OfEncoded};
 ghost use Rattle.visit_replay.specs.Moved.{what_counts};
+ghost use Rattle.visit_replay.specs.inside.Differing.{KnowsTexts};
 ghost use Rattle.visit_replay.specs.inside.OneEvent.{IsWithin};
 
 use crate::address::bare;
 use crate::comparing::is_sent_to;
+use crate::comparisons::Comparisons;
 use crate::finding::Finding;
 use crate::forms::{self, Filled};
 use page_looks::without_fresh;
@@ -143,37 +145,48 @@ pub(crate) fn leads_elsewhere(
     target: u32,
     finding: &Finding,
     now: &str,
+    compared: &mut Comparisons,
 ) -> Result<bool, NoMemory>
     requires there { target < nodes filled.now.page.now }
     requires button { IsWithin filled.now.button filled.now.page.now }
-    ensures { IfOk result (LeadsElsewhere finding.now address.now filled.now event.now target now.now) }
+    requires known { KnowsTexts finding.now compared.old }
+    ensures leads { IfOk result (LeadsElsewhere finding.now address.now filled.now event.now target now.now) }
+    ensures known { OnOk result (KnowsTexts finding.now compared.new) }
 {
     let page = filled.page;
     match event {
         Event::Input { .. } => Ok(false),
         Event::Click { req: 0, .. } | Event::Submit { req: 0, .. } => Ok(false),
         Event::Click { .. } => match page.attribute_of(target, "href") {
-            Some(href) => are_apart(alloc, finding, href, now),
+            Some(href) => are_apart(alloc, finding, href, now, compared),
             None => Ok(false),
         },
         Event::Submit { .. } => {
             let action = forms::action_of(address, page, target);
             if forms::is_post(page, target) {
-                return are_apart(alloc, finding, action, now);
+                return are_apart(alloc, finding, action, now, compared);
             }
-            is_query_apart(alloc, filled, target, finding, bare(action), now)
+            is_query_apart(alloc, filled, target, finding, bare(action), now, compared)
         }
     }
 }
 
 // Whether two addresses differ: but for the values of fresh names, where events find their places by their elements.
-fn are_apart(alloc: Global, finding: &Finding, before: &str, now: &str) -> Result<bool, NoMemory>
-    ensures { IfOk result (λ apart. apart
+fn are_apart(
+    alloc: Global,
+    finding: &Finding,
+    before: &str,
+    now: &str,
+    compared: &mut Comparisons,
+) -> Result<bool, NoMemory>
+    requires { KnowsTexts finding.now compared.old }
+    ensures apart { IfOk result (λ apart. apart
         ≡ not (bytes_eq (what_counts finding.now before.now) (what_counts finding.now now.now))) }
+    ensures known { OnOk result (KnowsTexts finding.now compared.new) }
 {
     match finding.names() {
         None => Ok(before != now),
-        Some(fresh) => differ(alloc, fresh, before, now),
+        Some(fresh) => compared.differ(alloc, fresh.as_slice(), before, now),
     }
 }
 
@@ -185,23 +198,26 @@ fn is_query_apart(
     finding: &Finding,
     start: &str,
     now: &str,
+    compared: &mut Comparisons,
 ) -> Result<bool, NoMemory>
     requires there { form < nodes filled.now.page.now }
     requires button { IsWithin filled.now.button filled.now.page.now }
-    ensures { IfOk result (λ apart. OfEncoded filled.now form (λ pairs. apart
+    requires known { KnowsTexts finding.now compared.old }
+    ensures apart { IfOk result (λ apart. OfEncoded filled.now form (λ pairs. apart
         ≡ not (bytes_eq (what_counts finding.now (start.now ++ codes "?" ++ pairs)) (what_counts finding.now now.now)))) }
+    ensures known { OnOk result (KnowsTexts finding.now compared.new) }
 {
     match finding.names() {
         None => Ok(!is_sent_to(filled, form, start, now)?),
         Some(fresh) => {
             let pairs = forms::encoded(alloc, filled, form)?;
             let sent = with_query(alloc, start, pairs.as_str())?;
-            differ(alloc, fresh, sent.as_str(), now)
+            compared.differ(alloc, fresh.as_slice(), sent.as_str(), now)
         }
     }
 }
 
-/// Whether two addresses differ but for the values of these names.
+/// Whether two addresses differ but for the values of these names. Both are decoded: `Comparisons` does so once for those that come often.
 pub(crate) fn differ(
     alloc: Global,
     fresh: &[Text],

@@ -11,6 +11,7 @@ use crate::status::Status;
 use byte_streams::{LineFault, Lines, Source};
 use site_line::{Site, SiteFault};
 use std::alloc::Global;
+use std::hash::RandomState;
 use upload_reader::{HelloFault, Upload};
 
 /// The longest site line, in bytes, without its line end.
@@ -26,6 +27,7 @@ pub(crate) struct NoInput<R: Source> {
 /// The site that the first line says, and the upload behind it, up to its hello.
 pub(crate) fn read_input<R: Source>(
     alloc: Global,
+    keys: RandomState,
     lines: Lines<R>,
 ) -> Result<(Site, Upload<R>), NoInput<R>>
     requires fresh { lines ≡ fresh_lines lines.first }
@@ -36,7 +38,7 @@ pub(crate) fn read_input<R: Source>(
         → Meets (WasRead R.answers R.remaining lines.first none.reader) writes none.status) }
 {
     let mut lines = lines;
-    match read_site(alloc, &mut lines) {
+    match read_site(alloc, keys, &mut lines) {
         Err(status) => {
             let reader = lines.into_reader();
             Err(NoInput { reader, status })
@@ -71,8 +73,12 @@ fn read_hello<R: Source>(
     }
 }
 
-/// The site that the first line says; status 3 where it says none, 6 where a read failed.
-pub fn read_site<R: Source>(alloc: Global, lines: &mut Lines<R>) -> Result<Site, Status>
+/// The site that the first line says, which hashes texts by these keys; status 3 where it says none, 6 where a read failed.
+pub fn read_site<R: Source>(
+    alloc: Global,
+    keys: RandomState,
+    lines: &mut Lines<R>,
+) -> Result<Site, Status>
     requires fresh { lines.old ≡ fresh_lines lines.old.first }
     ensures reads { ReadsWhile (NoLineYet max_site_bytes lines.old.place) lines.old lines.new }
     ensures site { IfOk result (IsBehindSite lines.new) }
@@ -80,7 +86,7 @@ pub fn read_site<R: Source>(alloc: Global, lines: &mut Lines<R>) -> Result<Site,
 {
     match lines.advance(MAX_SITE_BYTES) {
         Err(fault) => Err(no_site(fault)),
-        Ok(()) => match Site::read(alloc, lines.line()) {
+        Ok(()) => match Site::read(alloc, keys, lines.line()) {
             Err(fault) => Err(bad_site(fault)),
             Ok(site) => Ok(site),
         },

@@ -13,6 +13,8 @@ use crate::status::Status;
 use byte_streams::{Lines, Sink, Source};
 use lanes_in_turn::{Gathered, LaneResult, gather_alone};
 use site_line::Site;
+use std::hash::RandomState;
+use std::random::RandomSource;
 use std::sync::Wait;
 use std::thread::Threads;
 use upload_reader::Upload;
@@ -22,7 +24,7 @@ use upload_reader::Upload;
 ///
 /// Status 0 says that the report was written. Nothing is written unless a site and a hello were read. A fault of a later line ends the upload and stands in the report; what stands behind it, or
 /// behind the bye, is not looked at.
-pub fn run<T: AllocGlobal + Threads + Wait + Sync, R: Source + Send, W: Sink>(
+pub fn run<T: AllocGlobal + RandomSource + Threads + Wait + Sync, R: Source + Send, W: Sink>(
     rt: &T,
     reader: &mut R,
     writer: &mut W,
@@ -30,10 +32,13 @@ pub fn run<T: AllocGlobal + Threads + Wait + Sync, R: Source + Send, W: Sink>(
     ensures { Meets (WasRead R.answers R.remaining reader.old reader.new)
         (writes_of W.puts W.contents writer.old writer.new) result }
 {
+    let Ok(keys) = RandomState::new(rt) else {
+        return Status::OutOfMemory;
+    };
     let Ok(lines) = Lines::over(rt.alloc(), &mut *reader) else {
         return Status::OutOfMemory;
     };
-    let Some((back, status)) = run_lines(rt, lines, writer) else {
+    let Some((back, status)) = run_lines(rt, keys, lines, writer) else {
         return Status::OutOfMemory;
     };
     let _reader = back;
@@ -43,6 +48,7 @@ pub fn run<T: AllocGlobal + Threads + Wait + Sync, R: Source + Send, W: Sink>(
 // The same of the source's lines, with their reader; or nothing is written, since an allocation was refused.
 fn run_lines<R: Source + Drop + Send, W: Sink, T: AllocGlobal + Threads + Wait + Sync>(
     rt: &T,
+    keys: RandomState,
     lines: Lines<R>,
     writer: &mut W,
 ) -> Option<(R, Status)>
@@ -52,7 +58,7 @@ fn run_lines<R: Source + Drop + Send, W: Sink, T: AllocGlobal + Threads + Wait +
         (writes_of W.puts W.contents writer.old writer.new) both.1) }
     ensures nothing { IfNone result (WritesNothing (writes_of W.puts W.contents writer.old writer.new)) }
 {
-    match read_input(rt.alloc(), lines) {
+    match read_input(rt.alloc(), keys, lines) {
         Err(none) => Some((none.reader, none.status)),
         Ok((site, upload)) => run_upload(rt, &site, upload, writer),
     }

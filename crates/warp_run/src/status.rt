@@ -10,7 +10,7 @@ pub enum Status {
     BadSite,
     /// What follows does not begin with a hello, or two uploads of a round are of one client.
     BadHello,
-    /// An allocation, or the start of a thread of a round, was refused.
+    /// An allocation, the start of a thread of a round, or random bytes at the start were refused.
     OutOfMemory,
     /// A read of the site line failed, a file or a port could not be opened, or too few callers came; or a write of the report failed or took nothing.
     InputOutput,

@@ -1,8 +1,11 @@
 -- A visit's own requests, and what was looked up on pages, as the code keeps them while it goes through the events.
-use Rattle.std.specs.Prelude.{ℕ, ◌≡◌, ◌==◌, List, All, Option, Some, None, IfSome, map, option_and_then, option_map, slice_get, take}
+use Rattle.std.specs.Prelude.{ℕ, ◌≡◌, ◌==◌, List, [], ◌∷◌, All, not, if◌then◌else◌, Option, Some, None, IfSome, map, option_and_then, option_map, slice_get, take}
+use Rattle.std.specs.Borrow.{Bor}
 use Rattle.std.specs.BTreeMap.{BTreeMap, get}
 use Rattle.std.specs.List.{find, filter, filter_map, range_with_len}
 use Rattle.std.specs.Ordering.{nat_cmp}
+use Rattle.std.specs.Str.{bytes_eq}
+use Rattle.page_looks.specs.Sending.{without_fresh}
 use Rattle.page_tree.specs.Tree.{Tree}
 use Rattle.page_tree.specs.Number.{place_numbered}
 use Rattle.upload_reader.specs.declared.message.Event.{Event}
@@ -13,6 +16,7 @@ use Rattle.visit_replay.specs.Aim.{Aim, place_of_aim, button_of_aim, by_path, hi
 use Rattle.visit_replay.specs.Difference.{was_asked, are_alike}
 use Rattle.visit_replay.specs.Requests.{request_at}
 use Rattle.visit_replay.specs.declared.comparisons.Comparison.{Comparison}
+use Rattle.visit_replay.specs.declared.comparisons.Comparisons.{Comparisons}
 use Rattle.visit_replay.specs.declared.known_inputs.KnownInputs.{KnownInputs}
 use Rattle.visit_replay.specs.declared.known_paths.KnownPath.{KnownPath}
 use Rattle.visit_replay.specs.declared.lookups.Lookups.{Lookups}
@@ -26,10 +30,30 @@ asked_there aim visit page k here = option_and_then (λ event. option_and_then
     (request_at aim visit.address page (take k visit.events) event (button_of_aim here)) (place_of_aim here))
     (slice_get visit.events k)
 
--- the first of each number among those of the first k events
-abbrev pub HasNumbered : Visit → ℕ → BTreeMap ℕ Request → Type 0
-HasNumbered visit k all = (number : ℕ) → get nat_cmp all number
-    ≡ find (λ r. r.number == number) (filter_map (was_asked visit) (range_with_len 0 k))
+-- the only request with that number, if there is one; none inside where there are several
+abbrev pub only_of : List Request → Option (Option Request)
+only_of [] = None
+only_of (one ∷ []) = Some (Some one)
+only_of (one ∷ other ∷ more) = Some None
+
+abbrev pub only_numbered : List Request → ℕ → Option (Option Request)
+only_numbered requests number = only_of (filter (λ r. r.number == number) requests)
+
+abbrev pub HasOnly : List Request → BTreeMap ℕ (Option (Bor Request)) → Type 0
+HasOnly requests all = (number : ℕ) →
+    option_map (λ only. option_map (λ r. r.now) only) (get nat_cmp all number) ≡ only_numbered requests number
+
+-- what is kept of a request: nothing where none is made now with its number, or the only one is alike
+abbrev pub kept_beside : List (List ℕ) → Option (Option Request) → Request → Option Request
+kept_beside fresh None was = None
+kept_beside fresh (Some None) was = Some was
+kept_beside fresh (Some (Some is)) was = if are_alike fresh was is then None else Some was
+
+-- what is kept, beside these requests, of the first of each number among those of the first k events
+abbrev pub HasNumbered : List (List ℕ) → List Request → Visit → ℕ → BTreeMap ℕ (Option Request) → Type 0
+HasNumbered fresh requests visit k all = (number : ℕ) → get nat_cmp all number
+    ≡ option_map (kept_beside fresh (only_numbered requests number))
+    (find (λ r. r.number == number) (filter_map (was_asked visit) (range_with_len 0 k)))
 
 -- the number of the only node that the event's path leads to, if there is one
 abbrev pub IsTargetOf : Tree → Event → Option ℕ → Type 0
@@ -62,6 +86,11 @@ abbrev pub AreLookedUp : Tree → Tree → Lookups → Type 0
 AreLookedUp old new lookups = KnowsPaths old lookups.paths.paths.items
     × KnowsInputs old lookups.recorded × KnowsInputs new lookups.repaired
 
--- what was found of requests that were compared
+-- what was found of texts that were compared
 abbrev pub AreCompared : List (List ℕ) → List Comparison → Type 0
-AreCompared fresh all = All (λ one. one.alike ≡ are_alike fresh one.was.now one.is.now) all
+AreCompared fresh all =
+    All (λ one. one.apart ≡ not (bytes_eq (without_fresh fresh one.was) (without_fresh fresh one.is))) all
+
+-- the same where events find their places by their elements
+abbrev pub KnowsTexts : Option (List (List ℕ)) → Comparisons → Type 0
+KnowsTexts same compared = IfSome same (λ fresh. AreCompared fresh compared.all.items)

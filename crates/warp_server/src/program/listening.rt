@@ -16,10 +16,11 @@ use crate::program::opens::{Machine, Opens};
 use crate::program::serving::serve_callers;
 use byte_streams::{Lines, Sink, Source};
 use site_line::Site;
-use std::alloc::Global;
 use std::fs::File;
+use std::hash::RandomState;
 use std::io::ErrorKind;
 use std::net::{IpAddr, Ipv4Addr, Net, SocketAddr, TcpListener, TcpStream};
+use std::random::RandomSource;
 use std::rt::Files;
 use std::sync::Wait;
 use std::thread::Threads;
@@ -32,6 +33,7 @@ pub fn listen<
     T: AllocGlobal
         + Files<File = File>
         + Net<Listener = TcpListener, Stream = TcpStream>
+        + RandomSource
         + Threads
         + Wait
         + Sync,
@@ -51,7 +53,7 @@ pub fn listen_by<
     C: Callers<Reader = R> + Drop,
     O: Opens<File = F, Callers = C>,
     W: Sink,
-    T: AllocGlobal + Threads + Wait + Sync,
+    T: AllocGlobal + RandomSource + Threads + Wait + Sync,
 >(rt: &T, opener: &O, listening: &Listening, writer: &mut W) -> Status
     requires lanes { AreRoundLanes listening.now.lanes }
     ensures { Listens O.opened O.bound (WasRead F.answers F.remaining)
@@ -62,7 +64,7 @@ pub fn listen_by<
         Ok(file) => file,
         Err(error) => return unopened_status(error.kind()),
     };
-    let site = match site_of_file(rt.alloc(), file) {
+    let site = match site_of_file(rt, file) {
         Ok(site) => site,
         Err(status) => return status,
     };
@@ -81,15 +83,21 @@ pub fn listen_by<
 }
 
 // The site that the first line of the file says.
-fn site_of_file<F: Source + Drop>(alloc: Global, file: F) -> Result<Site, Status>
+fn site_of_file<F: Source + Drop, T: AllocGlobal + RandomSource>(
+    rt: &T,
+    file: F,
+) -> Result<Site, Status>
     ensures { MatchResult result
         (λ site. ReadsFile (WasRead F.answers F.remaining) file (SaysSite site))
         (λ status. (status ≡ OutOfMemory) ⊎ ReadsFile (WasRead F.answers F.remaining) file (SaysNoSite status)) }
 {
-    let Ok(mut lines) = Lines::over(alloc, file) else {
+    let Ok(keys) = RandomState::new(rt) else {
         return Err(Status::OutOfMemory);
     };
-    let site = read_site(alloc, &mut lines);
+    let Ok(mut lines) = Lines::over(rt.alloc(), file) else {
+        return Err(Status::OutOfMemory);
+    };
+    let site = read_site(rt.alloc(), keys, &mut lines);
     let _read = lines.into_reader();
     site
 }

@@ -5,8 +5,8 @@ use Rattle.visit_replay.specs.Moved.{are_apart, own_request, address_now}
 use Rattle.visit_replay.proofs.Looking.{met_one, same_keys}
 use Rattle.visit_replay.proofs.moves.meet.Goals as goal
 
-pub returns : goal.returns
-returns c =
+pub returns-clause-meets : goal.returns-clause-meets
+returns-clause-meets c =
     let finding = c.args.finding.now in
     let visit = c.args.visit.now in
     let k = c.args.k in
@@ -20,6 +20,6 @@ returns c =
       met = λ outcome addressed.
           let there : option_map (λ address. address.now) c.copied-now.result ≡ address_now outcome n = search (rules, addressed n) in
           met_one finding visit outcome k c.index-as_slice-k.result n c.requires.there (rw c.as_slice.ensures at c.index-as_slice-k.is) c.request-number.ensures old new apart pending
-          (c.in_ok-apart.ensures ∙ ap (are_apart finding (own_request visit k)) there) put;
+          (c.in_ok-apart.ensures.apart ∙ ap (are_apart finding (own_request visit k)) there) put;
       same = same_keys old new n (Some apart) pending put;
     }

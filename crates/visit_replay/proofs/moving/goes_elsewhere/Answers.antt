@@ -12,8 +12,8 @@ use Rattle.visit_replay.proofs.moving.goes_elsewhere.Goals as goal
 pub judged-requires-clause-located : goal.judged-requires-clause-located
 judged-requires-clause-located c = (by_path c.args.visit.now.page c.index-as_slice-k.result, c.by_path-located.ensures)
 
-pub returns-in-Bad : goal.returns-in-Bad
-returns-in-Bad c =
+pub returns-in-Bad-clause-answer : goal.returns-in-Bad-clause-answer
+returns-in-Bad-clause-answer c =
     let visit = c.args.visit.now in
     let event = c.index-as_slice-k.result in
     let is : event ≡ get_or visit.events c.args.k event = rw c.as_slice.ensures at c.index-as_slice-k.is in
@@ -32,8 +32,8 @@ leads_elsewhere-requires-clause-button c =
     rw c.in-At.is at (c.in_ok-_kind.ensures (by_path c.args.visit.now.page) c.by_path-located.ensures) in
     located.1.1
 
-pub returns : goal.returns
-returns c =
+pub returns-clause-answer : goal.returns-clause-answer
+returns-clause-answer c =
     let visit = c.args.visit.now in
     let page = visit.page in
     let event = c.index-as_slice-k.result in
@@ -44,10 +44,10 @@ returns c =
     own_is visit c.args.k event None (stands_at visit c.args.k event c.requires.there is) located.0
     ∙ ap (λ a. option_and_then (request_at (by_path page) visit.address page before event (button_of_aim a)) (place_of_aim a)) located.1.2 in
     IfOk-weaker c.leads_elsewhere.result _ _
-    (λ answer told. rw c.as_str.ensures at (told (by_path page) before c.requires.fields) ∙ ap (λ r. are_apart c.args.finding.now r (Some c.args.now.now)) (sym own)) c.leads_elsewhere.ensures
+    (λ answer told. rw c.as_str.ensures at (told (by_path page) before c.requires.fields) ∙ ap (λ r. are_apart c.args.finding.now r (Some c.args.now.now)) (sym own)) c.leads_elsewhere.ensures.leads
 
-pub returns-in-Idle : goal.returns-in-Idle
-returns-in-Idle c =
+pub returns-in-Idle-clause-answer : goal.returns-in-Idle-clause-answer
+returns-in-Idle-clause-answer c =
     let visit = c.args.visit.now in
     let page = visit.page in
     let event = c.index-as_slice-k.result in

@@ -10,10 +10,10 @@ use Rattle.visit_replay.proofs.replaying.replay_on.Goals as goal
 pub returns-in-Some-clause-answer : goal.returns-in-Some-clause-answer
 returns-in-Some-clause-answer g c =
     let visit = c.args.visit.now in
-    let aim = aimed c.args.aiming.now visit.page c.args.new.now in
-    let bad : Some c.in-Some.kind ≡ conflict_of aim visit.page c.args.new.now visit.events c.loop-i.i = sym c.in-Some.is ∙ c.in_ok-kind.ensures.conflict in
+    let same_names = names_aimed c.args.aiming.now in
+    let bad : Some c.in-Some.kind ≡ conflict_of same_names visit.page c.args.new.now visit.events c.loop-i.i = sym c.in-Some.is ∙ c.in_ok-kind.ensures.conflict in
     let same : c.step.new.requests ≡ c.loop-i.requests = rw c.in-Some.is at c.in_ok-kind.ensures.stays in
-    rw (stopped aim visit.page c.args.new.now visit.events c.loop-i.i c.in-Some.kind c.loop-i.invariant.good (omega (arith, c.loop-i-test.true, ap length c.as_slice-i-end.ensures)) bad)
+    rw (stopped same_names visit.page c.args.new.now visit.events c.loop-i.i c.in-Some.kind c.loop-i.invariant.good (omega (arith, c.loop-i-test.true, ap length c.as_slice-i-end.ensures)) bad)
     (ap (λ requests. Conflict requests (c.loop-i.i + 1) c.in-Some.kind) (same ∙ c.loop-i.invariant.walked.requests))
 
 pub returns-clause-answer : goal.returns-clause-answer

@@ -2,6 +2,7 @@ use Rattle.std.proofs.Common.{◌≡◌, ℕ, take, is_some}
 use Rattle.std.specs.BTreeMap.{get}
 use Rattle.std.specs.Ordering.{nat_cmp}
 use Rattle.visit_replay.specs.Aim.{by_path}
+use Rattle.visit_replay.specs.inside.Differing.{KnowsTexts}
 use Rattle.visit_replay.specs.inside.KeptFields.{Keeps}
 use Rattle.visit_replay.specs.inside.Moves.{IsMet}
 use Rattle.visit_replay.proofs.moves.Asked.look.Given as goal
@@ -11,4 +12,5 @@ invariant-loop-k l = record {
   kept : Keeps (by_path l.visit.page) l.fields l.visit.page (take l.k l.visit.events);
   met : IsMet l.finding l.visit l.outcome l.k l.self.numbers;
   same : (number : ℕ) → is_some (get nat_cmp l.self.numbers number) ≡ is_some (get nat_cmp l.fn.self.numbers number);
+  known : KnowsTexts l.finding l.compared;
 }

@@ -6,5 +6,5 @@ pub returns : goal.returns
 returns g c =
     let read = c.read_site-site in
     let back = c.into_reader-read in
-    site_read (WasRead g.F.Source.answers g.F.Read.remaining) c.args.file back.result c.in-Ok.lines read.new.lines read.result c.in-Ok.ensures read.ensures.reads back.ensures.read back.ensures.ends
+    site_read (WasRead g.F.Source.answers g.F.Read.remaining) c.args.file back.result c.in-Ok-over.lines read.new.lines read.result c.in-Ok-over.ensures read.ensures.reads back.ensures.read back.ensures.ends
     read.ensures.site read.ensures.refused

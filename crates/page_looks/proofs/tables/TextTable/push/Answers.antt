@@ -1,8 +1,0 @@
-use Rattle.std.specs.Cow.{cow_str_bytes}
-use Rattle.page_looks.proofs.KeptOnce.{put_by}
-use Rattle.page_looks.proofs.tables.TextTable.push.Goals as goal
-
-pub returns : goal.returns
-returns c =
-    rw (← c.self.view_is)
-    (put_by cow_str_bytes c.args.text c.self.inside.set.keys c.insert_full.new.self.keys (rw (← c.self.view_is) at c.requires) c.in_ok-insert_full.ensures.keys)
