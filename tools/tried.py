@@ -16,6 +16,10 @@ TOP = pathlib.Path(__file__).resolve().parent.parent
 PORTS = itertools.cycle(random.sample(range(20_000, 32_000), 12_000))
 
 
+class Wrong(Exception):
+    """An answer that nothing promises."""
+
+
 def build(crate, words, path, *flags):
     """Builds the crate's program at that path. It is called with these words, of which None stands for a file that it
     reads first. `rt try` keeps no program, so it is copied while it is held up by that file, which nobody writes."""

@@ -102,7 +102,7 @@ fn open_file<R: Files<File = File>>(rt: &R, path: &str, new: bool) -> io::Result
         .write(true)
         .create_new(new)
         .open(rt, path)?;
-    DiskFile::new(file)
+    DiskFile::new(file, new)
 }
 
 impl<R: AllocGlobal + Files<File = File> + Eprint + Clone + Drop> Folder<DiskFile>

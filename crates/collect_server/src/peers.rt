@@ -4,7 +4,7 @@ ghost use Rattle.http_server.specs.Connection.{history};
 ghost use Rattle.http_server.specs.History.{new_history};
 ghost use Rattle.collect_http.specs.Answering.{Answers};
 ghost use Rattle.collect_server.specs.Rounds.{AreAt, AreAnswered, PlaceAnswers, PlaceBegins, PlaceKeeps, PlaceSends};
-ghost use Rattle.collect_server.specs.inside.Turns.{GivesTurn, next_turn, waits_for_turn, with_turn};
+ghost use Rattle.collect_server.specs.inside.Turns.{GivesTurn, next_turn, turn_now, waits_for_turn, with_turn};
 
 use crate::peer::Peer;
 use collect_http::Collector;
@@ -22,6 +22,8 @@ pub(crate) struct Peers {
     pub(crate) places: Vec<Option<Peer>>,
     // The place behind that of the last turn.
     pub(crate) turn: usize,
+    // The last round had a turn.
+    pub(crate) rests: bool,
 }
 
 impl Peers {
@@ -32,7 +34,11 @@ impl Peers {
         for _ in 0..MAX_PEERS {
             places.push(None)?;
         }
-        Ok(Peers { places, turn: 0 })
+        Ok(Peers {
+            places,
+            turn: 0,
+            rests: false,
+        })
     }
 
     /// A free place; without one that of the connection whose request lasts longest, which is closed.
@@ -86,14 +92,20 @@ impl Peers {
         }
     }
 
-    /// Gives the turn of this round to the next connection whose large request waits.
+    /// Gives the turn of this round to the next connection whose large request waits. Behind a round with a turn none has
+    /// it, so that who came meanwhile doesn't wait for a second one.
     pub(crate) fn give_turn(&mut self)
         ensures keeps { AreAt PlaceKeeps self.old.places.items self.new.places.items }
-        ensures gives { GivesTurn self.old self.new (next_turn self.old.turn self.old.places.items) }
+        ensures gives { GivesTurn self.old self.new (turn_now self.old) }
     {
+        if self.rests {
+            self.rests = false;
+            return;
+        }
         if let Some(place) = self.next_turn() {
             give_turn(&mut self.places[place]);
             self.turn = place + 1;
+            self.rests = true;
         }
     }
 

@@ -78,9 +78,9 @@ impl<
             ..
         } = collecting;
         let folder = DiskFolder::open(rt, folder.as_str(), MAX_FILES)?;
-        let keys = RandomState::new(rt)?;
+        let keys = secret_keys(rt)?;
         let clients = Clients::new(alloc, folder, limit, keys);
-        let names = Names::new(RandomState::new(rt)?, RandomState::new(rt)?);
+        let names = Names::new(secret_keys(rt)?, secret_keys(rt)?);
         let collector = Collector::new(alloc, clients, names, keys, string_of(origin), RECORDER);
         let mut listener = TcpListener::bind(rt, address)?;
         let poll = Poll::new(rt)?;
@@ -95,6 +95,14 @@ impl<
             events: Events::with_capacity(alloc, MAX_EVENTS)?,
             peers: Peers::new(alloc)?,
         })
+    }
+}
+
+// Without random bytes it ends as without memory.
+fn secret_keys<R: RandomSource>(rt: &R) -> Result<RandomState, ServeFault> {
+    match RandomState::new(rt) {
+        Ok(keys) => Ok(keys),
+        Err(_) => Err(ServeFault::NoMemory),
     }
 }
 

@@ -82,6 +82,20 @@ pub asked_now : (fresh : List (List ℕ)) (visit : Visit) (new : Tree) (k : ℕ)
     → asked_there (by_element fresh visit.page new) visit new k (passing_over visit.page new event) ≡ asks_now fresh visit new k
 asked_now fresh visit new k event at = rw at refl
 
+pub asked_lost : (aim : Event → Aim) (visit : Visit) (page : Tree) (k : ℕ) (here : Aim) → place_of_aim here ≡ None → asked_there aim visit page k here ≡ None
+asked_lost aim visit page k here none = go (slice_get visit.events k)
+  where
+    go : (o : Option Event) → option_and_then (λ event. option_and_then (request_at aim visit.address page (take k visit.events) event (button_of_aim here)) (place_of_aim here)) o ≡ None
+    go None = refl
+    go (Some event) = ap (option_and_then (request_at aim visit.address page (take k visit.events) event (button_of_aim here))) none
+
+pub asked_acting : (aim : Event → Aim) (visit : Visit) (page : Tree) (k : ℕ) (here : Aim) (event : Event) (place : List ℕ) (button : Option (List ℕ))
+    → slice_get visit.events k ≡ Some event → here ≡ acts place button
+    → request_at aim visit.address page (take k visit.events) event button place ≡ asked_there aim visit page k here
+asked_acting aim visit page k here event place button at is =
+    sym (ap (option_and_then (λ e. option_and_then (request_at aim visit.address page (take k visit.events) e (button_of_aim here)) (place_of_aim here))) at
+    ∙ ap (λ a. option_and_then (request_at aim visit.address page (take k visit.events) event (button_of_aim a)) (place_of_aim a)) is)
+
 -- a recorded page beside one whose looks were made
 abbrev pub beside_looks : Tree → Tree × List (List ℕ) → PagePair
 beside_looks old looks = record { old = old; new = looks.0; fresh = looks.1 }
@@ -138,7 +152,7 @@ none_at aim address new earlier (Click at target req) button place none = ap (λ
 none_at aim address new earlier (Submit at target by req) button place none =
     ap (λ n. if n == 0 then None else Some (form_request aim address new earlier button place n)) none
 
-none_asked : (visit : Visit) (k : ℕ) → IfSome (slice_get visit.events k) (λ event. request_of event ≡ 0) → was_asked visit k ≡ None
+pub none_asked : (visit : Visit) (k : ℕ) → IfSome (slice_get visit.events k) (λ event. request_of event ≡ 0) → was_asked visit k ≡ None
 none_asked visit k none = go (slice_get visit.events k) none
   where
     aim : Event → Aim

@@ -18,3 +18,4 @@ pub mod LeftBehind
 pub mod Places
 pub mod Straying
 pub mod BesideRequests
+pub mod FreshValues

@@ -5,7 +5,7 @@ ghost use Rattle.std.specs.Str.{bytes_eq};
 ghost use Rattle.form_urlencoded.specs.Form.{byte_serialize, extend_pairs, serialize_pair};
 ghost use Rattle.page_tree.specs.Limits.{nodes};
 ghost use Rattle.visit_replay.specs.inside.OneEvent.{IsWithin};
-ghost use Rattle.visit_replay.specs.inside.FieldsNow.{OfEncoded, left_behind, pair_of, pairs_now};
+ghost use Rattle.visit_replay.specs.inside.FieldsNow.{OfSent, left_behind, pair_of, pairs_now};
 
 use crate::forms::{Filled, SentPair, sent_by};
 use form_urlencoded::byte_serialize;
@@ -21,8 +21,8 @@ pub(crate) fn is_sent_to(
 ) -> Result<bool, NoMemory>
     requires there { form < nodes filled.now.page.now }
     requires button { IsWithin filled.now.button filled.now.page.now }
-    ensures { IfOk result (λ same. OfEncoded filled.now form
-        (λ pairs. same ≡ bytes_eq (start.now ++ codes "?" ++ pairs) address.now)) }
+    ensures { IfOk result (λ same. OfSent filled.now form
+        (λ pairs. same ≡ bytes_eq (start.now ++ codes "?" ++ extend_pairs [] pairs) address.now)) }
 {
     match query_behind(start, address) {
         Some(query) => are_pairs(filled, filled.page.nodes_under(form), query),

@@ -1,5 +1,5 @@
 //! What a visit asked for on the page that it was made on, where that differs from what its replay asks for.
-ghost use Rattle.std.specs.Prelude.{ℕ, List, ◌≡◌, ◌<◌, ◌≤◌, [], ◌∷◌, ◌++◌, length, map, take, slice_get, Some, IfOk, IfSome, OnOk, OnErr, option_and_then};
+ghost use Rattle.std.specs.Prelude.{ℕ, List, ◌≡◌, ◌+◌, ◌<◌, ◌≤◌, [], ◌∷◌, ◌++◌, length, map, take, slice_get, Some, IfOk, IfSome, OnOk, OnErr, option_and_then};
 ghost use Rattle.std.specs.List.{Contains};
 ghost use Rattle.upload_reader.specs.Session.{request_of};
 ghost use Rattle.upload_reader.specs.declared.message.Event.{Event as PlainEvent};
@@ -8,7 +8,8 @@ ghost use Rattle.visit_replay.specs.Aim.{Aim, by_path};
 ghost use Rattle.visit_replay.specs.Difference.{difference, was_asked, was_other, asks_now};
 ghost use Rattle.visit_replay.specs.declared.difference.Contrast.TheVariants.{Changed};
 ghost use Rattle.visit_replay.specs.declared.requests.Request.{Request as PlainRequest};
-ghost use Rattle.visit_replay.specs.inside.Differing.{AreCompared, AreLookedUp, KnowsInputs, HasNumbered, IsTargetOf, asked_there};
+ghost use Rattle.visit_replay.specs.inside.Differing.{AreCompared, AreLookedUp, HasOnly, KnowsInputs, HasNumbered, IsTargetOf, asked_there};
+ghost use Rattle.visit_replay.specs.inside.FieldsNow.{IsButFor};
 ghost use Rattle.visit_replay.specs.inside.KeptFields.{Keeps, TakesIn};
 ghost use Rattle.visit_replay.specs.inside.OneEvent.{AimsAt, IsBetween, aimed};
 
@@ -19,7 +20,7 @@ use crate::difference::{Contrast, Difference, Former};
 use crate::fields::Fields;
 use crate::finding::Finding;
 use crate::forms::Filled;
-use crate::kept_requests::{kept_of, only_by_number, take_in};
+use crate::kept_requests::{is_other, kept_of, only_by_number};
 use crate::known_inputs::KnownInputs;
 use crate::known_paths::KnownPaths;
 use crate::lookups::Lookups;
@@ -136,11 +137,49 @@ fn kept_by_number(
     for k in 0..asking_end(events) {
         let event = &events[k];
         let target = paths.target_of(&visit.page, event)?;
-        let was = own_request(alloc, visit, &fields, k, event, target)?;
-        take_in(alloc, fresh, &now, was, compared, &mut all)?;
+        take_in(
+            alloc, fresh, visit, &fields, k, target, &now, compared, &mut all,
+        )?;
         note_at(&visit.page, event, target, &mut fields)?;
     }
     Ok(all)
+}
+
+// Takes in what one event more asked for, beside the requests that are made now. The whole of it is made only where it differs.
+fn take_in(
+    alloc: Global,
+    fresh: &[Text],
+    visit: &Visit,
+    fields: &Fields<'_>,
+    k: usize,
+    target: Option<u32>,
+    now: &BTreeMap<u64, Option<&Request>>,
+    compared: &mut Comparisons,
+    all: &mut BTreeMap<u64, Option<Request>>,
+) -> Result<(), NoMemory>
+    requires there { k < length visit.now.events }
+    requires fields { Keeps (by_path visit.now.page) fields.now visit.now.page (take k visit.now.events) }
+    requires target { IfSome (slice_get visit.now.events k) (λ event. IsTargetOf visit.now.page event target) }
+    requires known { AreCompared fresh.now compared.old.all.items }
+    ensures known { OnOk result (AreCompared fresh.now compared.new.all.items) }
+    ensures kept { OnOk result ((requests : List PlainRequest) → HasOnly requests now.now
+        → HasNumbered fresh.now requests visit.now k all.old → HasNumbered fresh.now requests visit.now (k + 1) all.new) }
+{
+    let Some(was) = own_request(alloc, visit, fields, k, target, fresh)? else {
+        return Ok(());
+    };
+    let number = was.number;
+    if all.contains_key(&number) {
+        return Ok(());
+    }
+    let other = is_other(alloc, fresh, now, &was, compared)?;
+    if other {
+        let whole = own_request(alloc, visit, fields, k, target, &[])?;
+        all.insert(number, whole)?;
+        return Ok(());
+    }
+    all.insert(number, None)?;
+    Ok(())
 }
 
 // How many events there are up to the last one with a request.
@@ -155,21 +194,21 @@ fn asking_end(events: &[Event]) -> usize
     end
 }
 
-// What the event with k events before it asked for at its target, by the fields as these left them.
+// What the event with k events before it asked for at its target, by the fields as these left them; without the values of these names.
 fn own_request(
     alloc: Global,
     visit: &Visit,
     fields: &Fields<'_>,
     k: usize,
-    event: &Event,
     target: Option<u32>,
+    names: &[Text],
 ) -> Result<Option<Request>, NoMemory>
     requires there { k < length visit.now.events }
     requires fields { Keeps (by_path visit.now.page) fields.now visit.now.page (take k visit.now.events) }
-    requires event { slice_get visit.now.events k ≡ Some event.now }
-    requires target { IsTargetOf visit.now.page event.now target }
-    ensures { IfOk result (λ request. request ≡ was_asked visit.now k) }
+    requires target { IfSome (slice_get visit.now.events k) (λ event. IsTargetOf visit.now.page event target) }
+    ensures { IfOk result (λ request. IsButFor names.now request (was_asked visit.now k)) }
 {
+    let event = &visit.events.as_slice()[k];
     if event.request() == 0 {
         return Ok(None);
     }
@@ -178,7 +217,7 @@ fn own_request(
     };
     let button = button_of(&visit.page, event);
     let located = Located::At { target, button };
-    request_there(alloc, visit, &visit.page, fields, k, located)
+    request_there(alloc, visit, &visit.page, fields, k, located, names)
 }
 
 // That of the event which acts there on a page as it is filled in.
@@ -189,12 +228,13 @@ fn request_there(
     fields: &Fields<'_>,
     k: usize,
     located: Located,
+    names: &[Text],
 ) -> Result<Option<Request>, NoMemory>
     requires there { k < length visit.now.events }
     requires located { (here : Aim) × AimsAt page.now here located }
     ensures { IfOk result (λ request. (aim : PlainEvent → Aim) (here : Aim) → AimsAt page.now here located
         → Keeps aim fields.now page.now (take k visit.now.events)
-        → request ≡ asked_there aim visit.now page.now k here) }
+        → IsButFor names.now request (asked_there aim visit.now page.now k here)) }
 {
     let (target, button) = match located {
         Located::Bad(_kind) => return Ok(None),
@@ -207,7 +247,7 @@ fn request_there(
         button,
     };
     let event = &visit.events.as_slice()[k];
-    request_at(alloc, visit.address.as_str(), &filled, event, target)
+    request_at(alloc, visit.address.as_str(), &filled, event, target, names)
 }
 
 // What the request was, if that differs.
@@ -297,9 +337,8 @@ fn asked_before(alloc: Global, visit: &Visit, k: usize) -> Result<Option<Request
         return Ok(None);
     }
     let fields = fields_behind(alloc, &visit.page, events, k)?;
-    let event = &events[k];
-    let target = target_of(&visit.page, event);
-    own_request(alloc, visit, &fields, k, event, target)
+    let target = target_of(&visit.page, &events[k]);
+    own_request(alloc, visit, &fields, k, target, &[])
 }
 
 fn asks_now(
@@ -328,7 +367,7 @@ fn asks_now(
     let mut lookups = Lookups::new(alloc, &visit.page, inputs.take(alloc));
     let fields = fields_beside(alloc, &aiming, visit, new, k, &mut lookups)?;
     *inputs = lookups.repaired;
-    request_there(alloc, visit, new, &fields, k, located)
+    request_there(alloc, visit, new, &fields, k, located, &[])
 }
 
 // The fields of the page that stands there now, as the first so many events left them.

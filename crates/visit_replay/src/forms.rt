@@ -1,14 +1,15 @@
 //! What a form sends.
-ghost use Rattle.std.specs.Prelude.{◌≡◌, ◌<◌, ◌==◌, [], false, Some, IfOk, OnOk, option_map};
+ghost use Rattle.std.specs.Prelude.{◌≡◌, ◌<◌, ◌==◌, [], map, false, Some, IfOk, OnOk, option_map};
 ghost use Rattle.std.specs.List.{cons_option};
 ghost use Rattle.std.specs.Option.{option_map_or};
-ghost use Rattle.form_urlencoded.specs.Form.{append_pair};
+ghost use Rattle.form_urlencoded.specs.Form.{append_pair, extend_pairs};
+ghost use Rattle.page_looks.specs.Outline.{is_one_of};
 ghost use Rattle.page_tree.specs.Limits.{nodes};
 ghost use Rattle.page_tree.specs.Number.{place_numbered};
 ghost use Rattle.visit_replay.specs.Form.{unless_empty, sent_name, value_or, is_post, action_of};
 ghost use Rattle.visit_replay.specs.inside.KeptFields.{text_now};
 ghost use Rattle.visit_replay.specs.inside.OneEvent.{IsWithin};
-ghost use Rattle.visit_replay.specs.inside.FieldsNow.{pair_of, pair_now, pairs_now, with_pairs, IsEncoded};
+ghost use Rattle.visit_replay.specs.inside.FieldsNow.{pair_of, pair_now, pairs_now, with_pairs, emptied, OfSent};
 
 use crate::conflicts::is_disabled;
 use crate::fields::Fields;
@@ -33,14 +34,21 @@ pub(crate) struct SentPair<'a> {
     pub(crate) value: CowStr<'a, Global>,
 }
 
-/// The form's pairs as `application/x-www-form-urlencoded`, in one pass over the nodes under it.
-pub(crate) fn encoded(alloc: Global, filled: &Filled<'_, '_>, form: u32) -> Result<Text, NoMemory>
+/// The form's pairs as `application/x-www-form-urlencoded`, in one pass over the nodes under it. Those of these names have no value: a long one that doesn't
+/// count needn't be encoded.
+pub(crate) fn encoded(
+    alloc: Global,
+    filled: &Filled<'_, '_>,
+    form: u32,
+    names: &[Text],
+) -> Result<Text, NoMemory>
     requires there { form < nodes filled.now.page.now }
     requires button { IsWithin filled.now.button filled.now.page.now }
-    ensures { IfOk result (IsEncoded filled.now form) }
+    ensures { IfOk result (λ text. OfSent filled.now form
+        (λ pairs. text ≡ extend_pairs [] (map (emptied names.now) pairs))) }
 {
     let mut pairs = Serializer::new(String::new(alloc));
-    add_pairs(&mut pairs, filled, filled.page.nodes_under(form))?;
+    add_pairs(&mut pairs, filled, filled.page.nodes_under(form), names)?;
     Ok(Text::from(pairs.finish()))
 }
 
@@ -77,23 +85,50 @@ fn add_pairs(
     pairs: &mut Serializer,
     filled: &Filled<'_, '_>,
     numbers: Range<u32>,
+    names: &[Text],
 ) -> Result<(), NoMemory>
-    ensures { OnOk result (pairs.new ≡ with_pairs pairs.old (pairs_now filled.now numbers.start numbers.end)) }
+    ensures { OnOk result (pairs.new
+        ≡ with_pairs pairs.old (map (emptied names.now) (pairs_now filled.now numbers.start numbers.end))) }
 {
     for number in numbers.start..numbers.end {
-        add_pair(pairs, filled, number)?;
+        add_pair(pairs, filled, number, names)?;
     }
     Ok(())
 }
 
 // Adds what the node with that number sends, if anything.
-fn add_pair(pairs: &mut Serializer, filled: &Filled<'_, '_>, number: u32) -> Result<(), NoMemory>
-    ensures { OnOk result (pairs.new ≡ with_pairs pairs.old (cons_option (pair_now filled.now number) [])) }
+fn add_pair(
+    pairs: &mut Serializer,
+    filled: &Filled<'_, '_>,
+    number: u32,
+    names: &[Text],
+) -> Result<(), NoMemory>
+    ensures { OnOk result (pairs.new
+        ≡ with_pairs pairs.old (map (emptied names.now) (cons_option (pair_now filled.now number) []))) }
 {
     match sent_by(filled, number)? {
-        Some(sent) => pairs.append_pair(sent.name, sent.value.as_str()),
+        Some(sent) => {
+            let value = sent.value.as_str();
+            pairs.append_pair(sent.name, value_unless(names, sent.name, value))
+        }
         None => Ok(()),
     }
+}
+
+// The value, or none under one of these names.
+fn value_unless<'a>(names: &[Text], name: &str, value: &'a str) -> &'a str
+    ensures { (name.now, result.now) ≡ emptied names.now (name.now, value.now) }
+{
+    if is_among(names, name) {
+        return "";
+    }
+    value
+}
+
+fn is_among(names: &[Text], name: &str) -> bool
+    ensures { result ≡ is_one_of names.now name.now }
+{
+    names.iter().any(|one| name == one.as_str())
 }
 
 // ---- one node

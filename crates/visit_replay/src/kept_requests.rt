@@ -1,12 +1,10 @@
 //! What is kept of a visit's own requests: of each number the first, where it may differ from what the replay asks for. Many requests may hold long texts,
 //! and most are what they were.
-ghost use Rattle.std.specs.Prelude.{ℕ, List, ◌≡◌, ◌+◌, IfOk, OnOk, None, Some, if◌then◌else◌, is_some, option_map, option_and_then};
+ghost use Rattle.std.specs.Prelude.{List, ◌≡◌, IfOk, OnOk, None, Some, if◌then◌else◌, is_some, option_map, option_and_then};
 ghost use Rattle.std.specs.BTreeMap.{get};
 ghost use Rattle.std.specs.Ordering.{nat_cmp};
-ghost use Rattle.client_log.specs.declared.visit.Visit.{Visit as PlainVisit};
-ghost use Rattle.visit_replay.specs.Difference.{was_asked};
 ghost use Rattle.visit_replay.specs.declared.requests.Request.{Request as PlainRequest};
-ghost use Rattle.visit_replay.specs.inside.Differing.{AreCompared, HasNumbered, HasOnly, kept_beside, only_numbered};
+ghost use Rattle.visit_replay.specs.inside.Differing.{AreCompared, HasOnly, kept_beside, only_numbered};
 
 use crate::comparisons::Comparisons;
 use crate::requests::Request;
@@ -43,52 +41,26 @@ fn only_if_first<'r>(
     }
 }
 
-/// Takes in what one event more asked for, beside the requests that are made now.
-pub(crate) fn take_in(
+/// Whether a visit's own request is to be kept: not where none of its number is made now, or the only one is alike. It may be without the values of fresh
+/// names, since these don't count.
+pub(crate) fn is_other(
     alloc: Global,
     fresh: &[Text],
     now: &BTreeMap<u64, Option<&Request>>,
-    was: Option<Request>,
+    was: &Request,
     compared: &mut Comparisons,
-    all: &mut BTreeMap<u64, Option<Request>>,
-) -> Result<(), NoMemory>
+) -> Result<bool, NoMemory>
     requires { AreCompared fresh.now compared.old.all.items }
     ensures known { OnOk result (AreCompared fresh.now compared.new.all.items) }
-    ensures kept { OnOk result ((requests : List PlainRequest) (visit : PlainVisit) (k : ℕ) → HasOnly requests now.now
-        → was ≡ was_asked visit k → HasNumbered fresh.now requests visit k all.old
-        → HasNumbered fresh.now requests visit (k + 1) all.new) }
-{
-    let Some(request) = was else {
-        return Ok(());
-    };
-    let number = request.number;
-    if all.contains_key(&number) {
-        return Ok(());
-    }
-    let kept = unless_alike(alloc, fresh, now, request, compared)?;
-    all.insert(number, kept)?;
-    Ok(())
-}
-
-// The request, unless none of its number is made now, or the only one is alike.
-fn unless_alike(
-    alloc: Global,
-    fresh: &[Text],
-    now: &BTreeMap<u64, Option<&Request>>,
-    was: Request,
-    compared: &mut Comparisons,
-) -> Result<Option<Request>, NoMemory>
-    requires { AreCompared fresh.now compared.old.all.items }
-    ensures known { OnOk result (AreCompared fresh.now compared.new.all.items) }
-    ensures kept { IfOk result (λ kept. (requests : List PlainRequest) → HasOnly requests now.now
-        → kept ≡ kept_beside fresh.now (only_numbered requests was.number) was) }
+    ensures other { IfOk result (λ other. (requests : List PlainRequest) → HasOnly requests now.now
+        → kept_beside fresh.now (only_numbered requests was.now.number) was.now ≡ (if other then Some was.now else None)) }
 {
     match now.get(&was.number).copied() {
-        None => Ok(None),
-        Some(None) => Ok(Some(was)),
+        None => Ok(false),
+        Some(None) => Ok(true),
         Some(Some(is)) => {
-            let alike = compared.are_alike(alloc, fresh, &was, is)?;
-            if alike { Ok(None) } else { Ok(Some(was)) }
+            let alike = compared.are_alike(alloc, fresh, was, is)?;
+            Ok(!alike)
         }
     }
 }

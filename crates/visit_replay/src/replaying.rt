@@ -223,7 +223,7 @@ fn step<'a>(
         fields,
         button,
     };
-    if let Some(request) = request_at(alloc, visit.address.as_str(), &filled, event, target)? {
+    if let Some(request) = request_at(alloc, visit.address.as_str(), &filled, event, target, &[])? {
         requests.push(request)?;
     }
     fields.note(new, event, target)?;

@@ -2,11 +2,12 @@
 ghost use Rattle.std.specs.Prelude.{◌≡◌, ◌<◌, [], ◌∷◌, ◌++◌, not, List, IfOk, OnOk, OnErr, option_map, codes};
 ghost use Rattle.std.specs.Str.{bytes_eq};
 ghost use Rattle.page_looks.specs.Sending.{without_fresh};
+ghost use Rattle.form_urlencoded.specs.Form.{extend_pairs};
 ghost use Rattle.page_tree.specs.Limits.{nodes};
 ghost use Rattle.page_tree.specs.Number.{place_numbered};
-ghost use Rattle.visit_replay.specs.Form.{sent_to};
+ghost use Rattle.visit_replay.specs.Form.{bare, sent_to};
 ghost use Rattle.visit_replay.specs.Requests.{load_request, link_request};
-ghost use Rattle.visit_replay.specs.inside.FieldsNow.{IsRequestAt, LeadsElsewhere, OfEncoded};
+ghost use Rattle.visit_replay.specs.inside.FieldsNow.{IsRequestAt, LeadsElsewhere, OfSent};
 ghost use Rattle.visit_replay.specs.Moved.{what_counts};
 ghost use Rattle.visit_replay.specs.inside.Differing.{KnowsTexts};
 ghost use Rattle.visit_replay.specs.inside.OneEvent.{IsWithin};
@@ -110,17 +111,18 @@ pub(crate) fn load_request(alloc: Global, address: &str) -> Result<Request, NoMe
     })
 }
 
-/// That of an event whose target has that number, if it makes one, on the page as it is filled in before the event.
+/// That of an event whose target has that number, if it makes one, on the page as it is filled in before the event; without the values of these names.
 pub(crate) fn request_at(
     alloc: Global,
     address: &str,
     filled: &Filled<'_, '_>,
     event: &Event,
     target: u32,
+    names: &[Text],
 ) -> Result<Option<Request>, NoMemory>
     requires there { target < nodes filled.now.page.now }
     requires button { IsWithin filled.now.button filled.now.page.now }
-    ensures { IfOk result (IsRequestAt address.now filled.now event.now target) }
+    ensures { IfOk result (IsRequestAt names.now address.now filled.now event.now target) }
 {
     let new = filled.page;
     match event {
@@ -129,7 +131,7 @@ pub(crate) fn request_at(
         Event::Click { req, .. } => link_request(alloc, new, *req, target),
         Event::Submit { req, .. } => {
             let action = forms::action_of(address, new, target);
-            let pairs = forms::encoded(alloc, filled, target)?;
+            let pairs = forms::encoded(alloc, filled, target, names)?;
             let post = forms::is_post(new, target);
             Ok(Some(form_request(alloc, post, *req, action, pairs)?))
         }
@@ -166,7 +168,7 @@ pub(crate) fn leads_elsewhere(
             if forms::is_post(page, target) {
                 return are_apart(alloc, finding, action, now, compared);
             }
-            is_query_apart(alloc, filled, target, finding, bare(action), now, compared)
+            is_query_apart(alloc, filled, target, finding, action, now, compared)
         }
     }
 }
@@ -190,31 +192,47 @@ fn are_apart(
     }
 }
 
-// The same of what a form sends behind that start.
+// The same of what a form sends under get. Values of fresh names don't count, so they aren't encoded.
 fn is_query_apart(
     alloc: Global,
     filled: &Filled<'_, '_>,
     form: u32,
     finding: &Finding,
-    start: &str,
+    action: &str,
     now: &str,
     compared: &mut Comparisons,
 ) -> Result<bool, NoMemory>
     requires there { form < nodes filled.now.page.now }
     requires button { IsWithin filled.now.button filled.now.page.now }
     requires known { KnowsTexts finding.now compared.old }
-    ensures apart { IfOk result (λ apart. OfEncoded filled.now form (λ pairs. apart
-        ≡ not (bytes_eq (what_counts finding.now (start.now ++ codes "?" ++ pairs)) (what_counts finding.now now.now)))) }
+    ensures apart { IfOk result (λ apart. OfSent filled.now form (λ pairs. apart ≡ not (bytes_eq
+        (what_counts finding.now (bare action.now ++ codes "?" ++ extend_pairs [] pairs)) (what_counts finding.now now.now)))) }
     ensures known { OnOk result (KnowsTexts finding.now compared.new) }
 {
     match finding.names() {
-        None => Ok(!is_sent_to(filled, form, start, now)?),
+        None => Ok(!is_sent_to(filled, form, bare(action), now)?),
         Some(fresh) => {
-            let pairs = forms::encoded(alloc, filled, form)?;
-            let sent = with_query(alloc, start, pairs.as_str())?;
+            let sent = counted_address(alloc, fresh.as_slice(), filled, form, action)?;
             compared.differ(alloc, fresh.as_slice(), sent.as_str(), now)
         }
     }
+}
+
+// An address that counts as the one that it goes to.
+fn counted_address(
+    alloc: Global,
+    fresh: &[Text],
+    filled: &Filled<'_, '_>,
+    form: u32,
+    action: &str,
+) -> Result<Text, NoMemory>
+    requires there { form < nodes filled.now.page.now }
+    requires button { IsWithin filled.now.button filled.now.page.now }
+    ensures { IfOk result (λ sent. OfSent filled.now form (λ pairs. without_fresh fresh.now sent
+        ≡ without_fresh fresh.now (bare action.now ++ codes "?" ++ extend_pairs [] pairs))) }
+{
+    let pairs = forms::encoded(alloc, filled, form, fresh)?;
+    with_query(alloc, bare(action), pairs.as_str())
 }
 
 /// Whether two addresses differ but for the values of these names. Both are decoded: `Comparisons` does so once for those that come often.

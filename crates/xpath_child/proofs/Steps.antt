@@ -1,5 +1,5 @@
 -- One child more, and what stays once a search is settled.
-use Rattle.std.proofs.Common.{◌≡◌, ℕ, zero, suc, ◌+◌, ◌-◌, ◌≤◌, ◌<◌, ◌==◌, ◌⊎◌, inl, inr, Bool, true, false, ◌&&◌, cond, List, [], ◌∷◌, ◌++◌, map, length, nat_le, is_some, Option, Some, None, refl, sym, ◌∙◌, ap, arith, zero-add, fold, filter, flat_map, count_by, leb-true, le-leb, ne_eqb}
+use Rattle.std.proofs.Common.{◌≡◌, ℕ, zero, suc, ◌+◌, ◌-◌, ◌≤◌, ◌<◌, ◌==◌, Bool, true, false, ◌&&◌, cond, List, [], ◌∷◌, ◌++◌, map, length, nat_le, is_some, Option, Some, None, refl, sym, ◌∙◌, ap, arith, zero-add, fold, filter, flat_map, count_by, leb-true, le-leb, eq-eqb, ne_eqb}
 use Rattle.std.specs.Option.{option_map_or}
 use Rattle.std.specs.List.{range_with_len}
 use Rattle.std.proofs.lemmas.Bool.{and_right}
@@ -73,9 +73,6 @@ module _ (page : Tree) (step : Step) (rest : List Step) (at : List ℕ) where
       ap (λ b. cond b (i ∷ filter (selects page step at) (range_with_len (i + 1) n)) (filter (selects page step at) (range_with_len (i + 1) n))) (and_right (matches step.test (name_at (at ++ i ∷ []) page)) _ (past-nth step.index _ h))
       ∙ none_past (i + 1) n (past_next step.index i h)
 
-  past_stays : (i n : ℕ) → option_map_or (λ m. nat_le m (matching_before page step.test at i)) step.index false ≡ true → through (i + n) ≡ through i
-  past_stays i n past = through_split i n ∙ ap (λ ks. through i ++ flat_map (λ k. places_below page rest (at ++ k ∷ [])) ks) (none_past i n past) ∙ append-nil (through i)
-
   -- ---- what the look at one child gives
 
   module _ (child : List ℕ) (i before : ℕ) (count : before ≡ matching_before page step.test at i) (there : child ≡ at ++ i ∷ []) where
@@ -88,29 +85,55 @@ module _ (page : Tree) (step : Step) (rest : List Step) (at : List ℕ) where
         ∙ ap (λ n. fold note now (cond (matches step.test (name_at (at ++ i ∷ []) page) && is_nth step.index n) (places_below page rest (at ++ i ∷ [])) [])) count
         ∙ ap (λ t. fold note t (cond (selects page step at i) (places_below page rest (at ++ i ∷ [])) [])) so_far ∙ sym (through_next found i)
 
-  -- a search that stops before the last child
-  pub settled : (path : List Step) (found now : Target) (i n before : ℕ) → path ≡ step ∷ rest → n ≡ child_count_at at page → i ≤ n → before ≡ matching_before page step.test at i → now ≡ fold note found (through i)
-      → (now ≡ Several) ⊎ (option_map_or (λ m. nat_le m before) step.index false ≡ true) → now ≡ fold note found (places_below page path at)
-  settled path found now i n before is all h count so_far why =
+  -- a search that stops at a second node
+  pub settled : (found now : Target) (i n : ℕ) → n ≡ child_count_at at page → i ≤ n → now ≡ fold note found (through i) → now ≡ Several → now ≡ fold note found (places_below page (step ∷ rest) at)
+  settled found now i n all h so_far several =
       let split : i + (n - i) ≡ child_count_at at page = omega (arith, all) in
-      let whole = ap (λ m. fold note found (through m)) split ∙ sym (ap (λ p. fold note found (places_below page p at)) is) in
-      elim why [
-        | inl several ↦ several ∙ several_stays found i (n - i) (sym several ∙ so_far) ∙ whole
-        | inr past ↦ so_far ∙ ap (fold note found) (sym (past_stays i (n - i) (ap (λ b. option_map_or (λ m. nat_le m b) step.index false) (sym count) ∙ past))) ∙ whole
-      ]
+      several ∙ several_stays found i (n - i) (sym several ∙ so_far) ∙ ap (λ m. fold note found (through m)) split
 
--- ---- a child that matches, and one that doesn't
+-- ---- a child that matches, and one that doesn't, where the step has no index
 
-module _ (page : Tree) (step : Step) (rest : List Step) (child : List ℕ) (before : ℕ) where
-  pub match_noted : (index : Option ℕ) (left : List Step) (now next : Target) → matches step.test (name_at child page) ≡ true → index ≡ step.index → left ≡ rest
-      → next ≡ fold note now (cond (is_nth index before) (places_below page left child) []) → next ≡ fold note now (cond (matches step.test (name_at child page) && is_nth step.index before) (places_below page rest child) [])
-  match_noted index left now next matched same same_rest e =
-      e ∙ ap (λ n. fold note now (cond (is_nth n before) (places_below page left child) [])) same
-      ∙ ap (λ steps. fold note now (cond (is_nth step.index before) (places_below page steps child) [])) same_rest
-      ∙ ap (λ m. fold note now (cond (m && is_nth step.index before) (places_below page rest child) [])) (sym matched)
+module _ (page : Tree) (test : Option (List ℕ)) (rest : List Step) (child : List ℕ) (now next : Target) where
+  pub match_noted : matches test (name_at child page) ≡ true → next ≡ fold note now (places_below page rest child) → next ≡ fold note now (cond (matches test (name_at child page) && true) (places_below page rest child) [])
+  match_noted matched e = e ∙ ap (λ m. fold note now (cond (m && true) (places_below page rest child) [])) (sym matched)
 
-  pub other_noted : (now : Target) → matches step.test (name_at child page) ≡ false → now ≡ fold note now (cond (matches step.test (name_at child page) && is_nth step.index before) (places_below page rest child) [])
-  other_noted now other = ap (λ m. fold note now (cond (m && is_nth step.index before) (places_below page rest child) [])) (sym other)
+  pub other_noted : matches test (name_at child page) ≡ false → next ≡ now → next ≡ fold note now (cond (matches test (name_at child page) && true) (places_below page rest child) [])
+  other_noted other e = e ∙ ap (λ m. fold note now (cond (m && true) (places_below page rest child) [])) (sym other)
+
+-- ---- the n-th child that matches
+
+module _ (page : Tree) (test : Option (List ℕ)) (nth : ℕ) (at child : List ℕ) (i before : ℕ) (count : before ≡ matching_before page test at i) (there : child ≡ at ++ i ∷ []) where
+  abbrev nth_step : Step
+  nth_step = record { test = test; index = Some nth }
+
+  chosen : selects page nth_step at i ≡ (matches test (name_at child page) && is_nth (Some nth) before)
+  chosen =
+      ap (λ p. matches test (name_at p page) && is_nth (Some nth) (matching_before page test at i)) (sym there)
+      ∙ ap (λ n. matches test (name_at child page) && is_nth (Some nth) n) (sym count)
+
+  next_one : (b : Bool) → (matches test (name_at child page) && is_nth (Some nth) before) ≡ b → selected_positions page nth_step at i ≡ [] → selected_positions page nth_step at (i + 1) ≡ cond b (i ∷ []) []
+  next_one b is none =
+      ap (filter (selects page nth_step at)) (range_split i 1) ∙ filter-append (selects page nth_step at) (range_with_len 0 i) (range_with_len i 1)
+      ∙ ap (λ ks. ks ++ cond (selects page nth_step at i) (i ∷ []) []) none ∙ ap (λ c. cond c (i ∷ []) []) (chosen ∙ is)
+
+  pub none_yet : (matches test (name_at child page) && is_nth (Some nth) before) ≡ false → selected_positions page nth_step at i ≡ [] → selected_positions page nth_step at (i + 1) ≡ []
+  none_yet other none = next_one false other none
+
+  pub only_one : (n : ℕ) → n ≡ child_count_at at page → i < n → matches test (name_at child page) ≡ true → before + 1 ≡ nth → selected_positions page nth_step at i ≡ []
+      → (rest : List Step) → places_below page (nth_step ∷ rest) at ≡ places_below page rest child
+  only_one n all inside fits last none rest =
+      let more = n - (i + 1) in
+      let split : child_count_at at page ≡ i + 1 + more = omega (arith, all, inside) in
+      let nth_here : is_nth (Some nth) before ≡ true = eq-eqb nth (suc before) (omega (arith, last)) in
+      let matched : (matches test (name_at child page) && is_nth (Some nth) before) ≡ true = rw (fits, nth_here) refl in
+      let counts : matching_before page test at (i + 1) ≡ before + 1 =
+      sym (counted page nth_step rest at child i before count there true (sym fits)) in
+      let past : option_map_or (λ m. nat_le m (matching_before page test at (i + 1))) (Some nth) false ≡ true = le-leb _ _ (omega (arith, counts, last)) in
+      let only : selected_positions page nth_step at (i + 1 + more) ≡ i ∷ [] =
+      ap (filter (selects page nth_step at)) (range_split (i + 1) more) ∙ filter-append (selects page nth_step at) (range_with_len 0 (i + 1)) (range_with_len (i + 1) more)
+      ∙ ap (λ ks. ks ++ filter (selects page nth_step at) (range_with_len (i + 1) more)) (next_one true matched none) ∙ ap (λ ks. i ∷ ks) (none_past page nth_step rest at (i + 1) more past) in
+      ap (λ m. flat_map (λ k. places_below page rest (at ++ k ∷ [])) (selected_positions page nth_step at m)) split ∙ ap (flat_map (λ k. places_below page rest (at ++ k ∷ []))) only
+      ∙ append-nil (places_below page rest (at ++ i ∷ [])) ∙ ap (places_below page rest) (sym there)
 
 -- ---- a child without children, from which further steps reach nothing
 
@@ -118,10 +141,9 @@ none_below : (page : Tree) (texts : List (List ℕ)) (at : List ℕ) → 0 < len
 none_below page [] at some none = absurd (omega arith)
 none_below page (text ∷ texts) at some none = ap (through page (step_in text) (map step_in texts) at) none
 
-pub nothing_noted : (page : Tree) (left : Option (List ℕ)) (at : List ℕ) (found : Target) (b : Bool) → is_some left ≡ true → child_count_at at page ≡ 0 → found ≡ fold note found (cond b (places_below page (steps_in left) at) [])
-nothing_noted page None at found b more none = cc
-nothing_noted page (Some text) at found true more none = sym (ap (fold note found) (none_below page (written_steps text) at (omega (arith, length-slice_split (λ c. c == 47) text)) none))
-nothing_noted page (Some text) at found false more none = refl
+pub nothing_noted : (page : Tree) (left : Option (List ℕ)) (at : List ℕ) (found : Target) → is_some left ≡ true → child_count_at at page ≡ 0 → found ≡ fold note found (places_below page (steps_in left) at)
+nothing_noted page None at found more none = cc
+nothing_noted page (Some text) at found more none = sym (ap (fold note found) (none_below page (written_steps text) at (omega (arith, length-slice_split (λ c. c == 47) text)) none))
 
 -- ---- a whole path
 

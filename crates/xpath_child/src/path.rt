@@ -1,5 +1,5 @@
 //! Paths, and what they select on a page.
-ghost use Rattle.std.specs.Prelude.{◌≡◌, ◌≢◌, ◌↔◌, ◌<◌, ℕ, List, IsTrue, Ok, Some, None, IfSome, IfOk, IfErr, option_map};
+ghost use Rattle.std.specs.Prelude.{◌≡◌, ◌≢◌, ◌↔◌, ◌<◌, ℕ, List, [], ◌∷◌, IsTrue, Ok, Some, None, MatchOption, IfSome, IfOk, IfErr, option_map};
 ghost use Rattle.page_tree.specs.Tree.{Tree};
 ghost use Rattle.page_tree.specs.Limits.{nodes};
 ghost use Rattle.page_tree.specs.Name.{is_name};
@@ -10,7 +10,7 @@ ghost use Rattle.xpath_child.specs.Fault.{path_in, path_fault, GivesPath};
 ghost use Rattle.xpath_child.specs.Reaches.{IsTarget};
 ghost use Rattle.xpath_child.specs.Targets.{target_in, only_place, place_found};
 ghost use Rattle.xpath_child.specs.declared.fault.PathFaultKind.TheVariants.{NoMemory};
-ghost use Rattle.xpath_child.specs.inside.Search.{AreSteps, note, Notes, hits_from, hits_behind};
+ghost use Rattle.xpath_child.specs.inside.Search.{AreSteps, steps_in, step_for, note, Notes, hits};
 
 use crate::fault::PathFault;
 use crate::shared_text::SharedText;
@@ -84,9 +84,10 @@ impl Path {
             return Found::Missing;
         };
         let test = test_of(steps);
+        let tail = Tail::of(steps, test.len());
         let mut found = Found::Missing;
-        if is_match(test, page.name_of(0)) {
-            visit_child(page, Tail::of(steps, test.len()), 0, 0, &mut found);
+        if is_match(test, page.name_of(0)) && tail.picks_first() {
+            visit_child(page, tail.rest, 0, &mut found);
         }
         found
     }
@@ -185,7 +186,7 @@ impl Found {
 #[inline(never)]
 fn visit(page: &Page, steps: Option<&str>, at: u32, found: &mut Found)
     requires { AreSteps (option_map (λ text. text.now) steps) }
-    ensures { Notes page.now found.old found.new (hits_from page.now (option_map (λ text. text.now) steps.entry) at) }
+    ensures { Notes page.now found.old found.new (hits page.now (steps_in (option_map (λ text. text.now) steps.entry)) at) }
 {
     let Some(text) = steps else {
         found.note(at);
@@ -193,13 +194,27 @@ fn visit(page: &Page, steps: Option<&str>, at: u32, found: &mut Found)
     };
     let test = test_of(text);
     let tail = Tail::of(text, test.len());
+    let Some(nth) = tail.index else {
+        visit_each(page, test, tail.rest, at, found);
+        return;
+    };
+    if let Some(child) = nth_child(page, test, nth, at) {
+        visit_child(page, tail.rest, child, found);
+    }
+}
+
+// The same, where the first step has that test and no index.
+#[cycle(visit)]
+fn visit_each(page: &Page, test: &[u8], rest: Option<&str>, at: u32, found: &mut Found)
+    requires { AreSteps (option_map (λ text. text.now) rest) }
+    ensures { Notes page.now found.old found.new
+        (hits page.now (step_for test.now None ∷ steps_in (option_map (λ text. text.now) rest.entry)) at) }
+{
     let mut child = page.nodes_under(at).start;
-    let mut before = 0;
     for i in 0..page.children_of(at) {
         if is_match(test, page.name_of(child)) {
-            visit_child(page, tail, child, before, found);
-            before += 1;
-            if found.is_several() || tail.is_past(before) {
+            visit_child(page, rest, child, found);
+            if found.is_several() {
                 return;
             }
         }
@@ -207,20 +222,36 @@ fn visit(page: &Page, steps: Option<&str>, at: u32, found: &mut Found)
     }
 }
 
-// Notes the nodes that are reached behind a child that matches, before which so many siblings match. It stands within the loop of `visit`, so that a child
-// which isn't picked costs no call.
+// The same from a child that matches. It stands within the loop, so that a child from which nothing is reached costs no call.
 #[cycle(visit)]
 #[inline(always)]
-fn visit_child(page: &Page, tail: Tail<'_>, child: u32, before: u32, found: &mut Found)
-    requires { AreSteps (option_map (λ text. text.now) tail.rest) }
-    ensures { Notes page.now found.old found.new (hits_behind page.now tail.entry before child) }
+fn visit_child(page: &Page, rest: Option<&str>, child: u32, found: &mut Found)
+    requires { AreSteps (option_map (λ text. text.now) rest) }
+    ensures { Notes page.now found.old found.new
+        (hits page.now (steps_in (option_map (λ text. text.now) rest.entry)) child) }
 {
-    if !tail.picks(before) {
-        return;
-    }
     // (further steps reach nothing from a child without children)
-    if tail.rest.is_some() && page.children_of(child) == 0 {
+    if rest.is_some() && page.children_of(child) == 0 {
         return;
     }
-    visit(page, tail.rest, child, found);
+    visit(page, rest, child, found);
+}
+
+// The n-th child of those that match: from there alone further steps lead on. The loop calls and writes nothing, since it goes over each sibling.
+fn nth_child(page: &Page, test: &[u8], nth: u32, at: u32) -> Option<u32>
+    ensures { MatchOption result ((rest : List Plain) → hits page.now (step_for test.now (Some nth) ∷ rest) at ≡ [])
+        (λ child. (rest : List Plain) → hits page.now (step_for test.now (Some nth) ∷ rest) at ≡ hits page.now rest child) }
+{
+    let mut sibling = page.nodes_under(at).start;
+    let mut count = 0;
+    for i in 0..page.children_of(at) {
+        if is_match(test, page.name_of(sibling)) {
+            count += 1;
+            if count == nth {
+                return Some(sibling);
+            }
+        }
+        sibling = page.nodes_under(sibling).end;
+    }
+    None
 }

@@ -1,5 +1,5 @@
 //! The steps of a path: how they stand in its text, their faults, and which nodes they match.
-ghost use Rattle.std.specs.Prelude.{◌≡◌, ◌+◌, ◌^◌, ◌<◌, ◌==◌, length, drop, option_map, if◌then◌else◌, nat_le, IsTrue, false, Some, None, IfSome};
+ghost use Rattle.std.specs.Prelude.{◌≡◌, ◌+◌, ◌^◌, ◌<◌, ◌==◌, length, drop, option_map, if◌then◌else◌, IsTrue, Some, None, IfSome};
 ghost use Rattle.std.specs.List.{list_all, before_first, position};
 ghost use Rattle.std.specs.Char.{is_ascii_digit};
 ghost use Rattle.std.specs.Option.{option_map_or};
@@ -17,7 +17,7 @@ use page_tree::is_name;
 /// What stands behind the test of a step: its index, counted from 1, and the steps that follow, if there are any.
 #[derive(Clone, Copy)]
 pub(crate) struct Tail<'a> {
-    index: Option<u32>,
+    pub(crate) index: Option<u32>,
     pub(crate) rest: Option<&'a str>,
 }
 
@@ -47,23 +47,13 @@ impl<'a> Tail<'a> {
         }
     }
 
-    /// Whether the index, if there is one, picks a match before which so many stand.
-    pub(crate) fn picks(&self, before: u32) -> bool
-        ensures { result ≡ is_nth self.now.index before }
+    /// Whether the index, if there is one, picks the first match.
+    pub(crate) fn picks_first(&self) -> bool
+        ensures { result ≡ is_nth self.now.index 0 }
     {
         match self.index {
             None => true,
-            Some(n) => n.checked_sub(1) == Some(before),
-        }
-    }
-
-    /// Whether the index picks none of the matches before which so many or more stand.
-    pub(crate) fn is_past(&self, before: u32) -> bool
-        ensures { result ≡ option_map_or (λ n. nat_le n before) self.now.index false }
-    {
-        match self.index {
-            None => false,
-            Some(n) => n <= before,
+            Some(nth) => nth == 1,
         }
     }
 }

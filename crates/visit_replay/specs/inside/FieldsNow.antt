@@ -1,15 +1,17 @@
 -- What a form sends, by the fields as they are kept and without the events that changed them. Nodes go by their
 -- numbers.
-use Rattle.std.specs.Prelude.{◌≡◌, ℕ, ◌-◌, List, [], ◌∷◌, Bool, false, ◌==◌, if◌then◌else◌, Option, Some, None}
+use Rattle.std.specs.Prelude.{◌≡◌, ℕ, ◌-◌, List, [], ◌∷◌, ◌++◌, Bool, false, ◌==◌, if◌then◌else◌, Option, Some, None, option_map, codes}
 use Rattle.std.specs.Cow.{cow_str_bytes}
 use Rattle.std.specs.List.{filter_map, range_with_len}
 use Rattle.std.specs.Option.{option_map_or}
 use Rattle.page_tree.specs.Number.{place_numbered}
 use Rattle.upload_reader.specs.declared.message.Event.{Event}
-use Rattle.form_urlencoded.specs.Form.{extend_pairs}
+use Rattle.form_urlencoded.specs.Form.{extend_pairs, serialize_pair}
 use Rattle.form_urlencoded.specs.Target.{Target}
+use Rattle.page_looks.specs.Outline.{is_one_of}
+use Rattle.page_looks.specs.Sending.{pair_name, without_fresh}
 use Rattle.visit_replay.specs.Aim.{Aim}
-use Rattle.visit_replay.specs.Form.{Pair, sent_pair, encoded_pairs}
+use Rattle.visit_replay.specs.Form.{Pair, sent_pair, pairs_of}
 use Rattle.visit_replay.specs.Moved.{are_apart}
 use Rattle.visit_replay.specs.Requests.{request_at}
 use Rattle.visit_replay.specs.inside.KeptFields.{Keeps, text_now, is_on_now}
@@ -38,20 +40,33 @@ with_pairs target pairs = record target { form = extend_pairs target.form pairs 
 
 -- ---- behind events that its fields stand for
 
--- it is so of the text of the pairs that the form with that number sends
-abbrev pub OfEncoded : Filled → ℕ → (List ℕ → Type 0) → Type 0
-OfEncoded filled form IsSo = let new = filled.page.now in
+-- it is so of the pairs that the form with that number sends
+abbrev pub OfSent : Filled → ℕ → (List Pair → Type 0) → Type 0
+OfSent filled form IsSo = let new = filled.page.now in
     (aim : Event → Aim) (before : List Event) → Keeps aim filled.fields.now new before
-    → IsSo (encoded_pairs aim new before (places_numbered filled.button new) (place_numbered form new))
+    → IsSo (pairs_of aim new before (places_numbered filled.button new) (place_numbered form new))
 
-abbrev pub IsEncoded : Filled → ℕ → List ℕ → Type 0
-IsEncoded filled form text = OfEncoded filled form (λ pairs. text ≡ pairs)
+-- a pair, without its value where it has one of these names
+abbrev pub emptied : List (List ℕ) → Pair → Pair
+emptied names pair = if is_one_of names (pair_name (serialize_pair pair)) then (pair.0, []) else pair
 
--- the request of an event whose target has that number
-abbrev pub IsRequestAt : List ℕ → Filled → Event → ℕ → Option Request → Type 0
-IsRequestAt address filled event target request = let new = filled.page.now in
-    (aim : Event → Aim) (before : List Event) → Keeps aim filled.fields.now new before
-    → request ≡ request_at aim address new before event (places_numbered filled.button new) (place_numbered target new)
+-- a request without the pairs of these names
+abbrev pub without_those : List (List ℕ) → Request → Request
+without_those names r = record r {
+  address = without_fresh names r.address;
+  pairs = without_fresh names (codes "?" ++ r.pairs);
+}
+
+-- it is that request, but for the values of these names
+abbrev pub IsButFor : List (List ℕ) → Option Request → Option Request → Type 0
+IsButFor names it request = (names ≡ [] → it ≡ request)
+    × (option_map (without_those names) it ≡ option_map (without_those names) request)
+
+-- so is it the request of an event whose target has that number
+abbrev pub IsRequestAt : List (List ℕ) → List ℕ → Filled → Event → ℕ → Option Request → Type 0
+IsRequestAt names address filled event target it = let new = filled.page.now in
+    (aim : Event → Aim) (before : List Event) → Keeps aim filled.fields.now new before → IsButFor names it
+    (request_at aim address new before event (places_numbered filled.button new) (place_numbered target new))
 
 -- whether that goes to another address than this
 abbrev pub LeadsElsewhere : Option (List (List ℕ)) → List ℕ → Filled → Event → ℕ → List ℕ → Bool → Type 0

@@ -1,12 +1,11 @@
 -- The search for a target in the code: the steps that are left in the text, and what it has found so far.
-use Rattle.std.specs.Prelude.{◌≡◌, ℕ, ◌+◌, List, [], ◌==◌, if◌then◌else◌, Option, None, option_map, map, drop, fold}
+use Rattle.std.specs.Prelude.{◌≡◌, ℕ, ◌+◌, List, [], ◌==◌, Option, None, option_map, map, drop, fold}
 use Rattle.std.specs.List.{before_first, position}
 use Rattle.std.specs.Option.{option_map_or, IfSome}
 use Rattle.page_tree.specs.Tree.{Tree}
 use Rattle.page_tree.specs.Number.{place_numbered}
 use Rattle.xpath_child.specs.Path.{Step}
-use Rattle.xpath_child.specs.Fault.{first_step_fault, written_steps, step_in}
-use Rattle.xpath_child.specs.Reaches.{is_nth}
+use Rattle.xpath_child.specs.Fault.{test_in, first_step_fault, written_steps, step_in}
 use Rattle.xpath_child.specs.Targets.{places_below, place_found}
 use Rattle.xpath_child.specs.declared.step.Tail.{Tail}
 use Rattle.xpath_child.specs.declared.path.Found.{Found}
@@ -43,11 +42,10 @@ note other place = Several
 abbrev pub Notes : Tree → Found → Found → List (List ℕ) → Type 0
 Notes page old new more = place_found page new ≡ fold note (place_found page old) more
 
--- the places that these steps reach from a node
-abbrev pub hits_from : Tree → Option (List ℕ) → ℕ → List (List ℕ)
-hits_from page left number = places_below page (steps_in left) (place_numbered number page)
+-- the step with that test and index, as they stand in a text
+abbrev pub step_for : List ℕ → Option ℕ → Step
+step_for test index = record { test = test_in test; index = index }
 
--- those that they reach behind a child that matches, before which so many siblings match
-abbrev pub hits_behind : Tree → Tail → ℕ → ℕ → List (List ℕ)
-hits_behind page tail before child =
-    if is_nth tail.index before then hits_from page (option_map (λ text. text.now) tail.rest) child else []
+-- the places that these steps reach from a node
+abbrev pub hits : Tree → List Step → ℕ → List (List ℕ)
+hits page steps number = places_below page steps (place_numbered number page)

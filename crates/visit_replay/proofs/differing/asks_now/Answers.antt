@@ -1,4 +1,4 @@
-use Rattle.std.proofs.Common.{◌≡◌, ◌<◌, length, subst, sym, ap, ◌∙◌, take, Some, arith}
+use Rattle.std.proofs.Common.{◌≡◌, ◌<◌, length, subst, sym, ap, ◌∙◌, take, Some, refl, arith}
 use Rattle.std.proofs.lemmas.Result.{IfOk-weaker}
 use Rattle.visit_replay.specs.Aim.{by_element, aim_of}
 use Rattle.visit_replay.specs.Difference.{asks_now, passing_over}
@@ -36,6 +36,6 @@ returns-clause-asks c =
     let below : c.args.k < length c.as_slice-events.result.now = omega arith in
     let stands = stands_in visit c.as_slice-events.result.now c.args.k event c.as_slice-events.ensures below c.index-events-k.is in
     IfOk-weaker c.request_there.result _ _
-    (λ request told. told (by_element fresh visit.page new) (passing_over visit.page new event) there kept ∙ asked_now fresh visit new c.args.k event stands
+    (λ request told. (told (by_element fresh visit.page new) (passing_over visit.page new event) there kept).0 refl ∙ asked_now fresh visit new c.args.k event stands
     ∙ ap (λ page. asks_now fresh visit page c.args.k) c.page-new.ensures)
     c.request_there.ensures

@@ -1,19 +1,23 @@
-use Rattle.std.proofs.Common.{◌≡◌, ℕ, ◌+◌, ◌-◌, ◌<◌, ◌≤◌, ◌==◌, [], ◌∷◌, ◌++◌, length, take, slice_get, IfSome, option_map, sym, ap, subst, ◌∙◌, arith}
+use Rattle.std.proofs.Common.{◌≡◌, ℕ, ◌+◌, ◌-◌, ◌<◌, ◌≤◌, ◌==◌, [], ◌∷◌, ◌++◌, length, take, slice_get, IfSome, Some, option_map, sym, ap, subst, ◌∙◌, arith}
 use Rattle.std.specs.BTreeMap.{get}
 use Rattle.std.specs.List.{find, filter_map, range_with_len}
 use Rattle.std.specs.Ordering.{nat_cmp}
 use Rattle.upload_reader.specs.Session.{request_of}
 use Rattle.visit_replay.specs.Aim.{by_path}
 use Rattle.visit_replay.specs.Difference.{was_asked}
-use Rattle.visit_replay.specs.inside.Differing.{kept_beside, only_numbered}
+use Rattle.visit_replay.specs.inside.Differing.{IsTargetOf, kept_beside, only_numbered}
 use Rattle.visit_replay.specs.inside.KeptFields.{Keeps}
 use Rattle.visit_replay.proofs.Asking.{numbered_rest, stands_in}
 use Rattle.visit_replay.proofs.Places.{taken_here}
 use Rattle.visit_replay.proofs.differing.kept_by_number.Goals as goal
 
-pub own_request-requires-clause-event : goal.own_request-requires-clause-event
-own_request-requires-clause-event c =
-    stands_in c.args.visit.now c.as_slice-events.result.now c.loop-k.k c.index-events-k.result c.as_slice-events.ensures (omega (arith, c.loop-k-test.true, c.asking_end-k-end.ensures.within)) c.index-events-k.is
+pub take_in-requires-clause-target : goal.take_in-requires-clause-target
+take_in-requires-clause-target c =
+    let visit = c.args.visit.now in
+    let event = c.index-events-k.result in
+    let at : slice_get visit.events c.loop-k.k ≡ Some event =
+    stands_in visit c.as_slice-events.result.now c.loop-k.k event c.as_slice-events.ensures (omega (arith, c.loop-k-test.true, c.asking_end-k-end.ensures.within)) c.index-events-k.is in
+    subst (λ o. IfSome o (λ e. IsTargetOf visit.page e c.in_ok-target.target)) (sym at) c.in_ok-target.ensures.target
 
 pub returns-clause-kept : goal.returns-clause-kept
 returns-clause-kept c = λ number.
@@ -39,6 +43,6 @@ loop-k-preserved c =
     record {
       kept = subst (λ before. Keeps (by_path visit.page) c.note_at.new.fields visit.page before) (sym taken) (c.in_ok-note_at.ensures (take k visit.events) c.loop-k.invariant.kept);
       known = c.in_ok-target.ensures.known;
-      all = c.in_ok-take_in.ensures.kept c.args.requests.now visit k c.in_ok-now.ensures c.in_ok-was.ensures c.loop-k.invariant.all;
+      all = c.in_ok-take_in.ensures.kept c.args.requests.now c.in_ok-now.ensures c.loop-k.invariant.all;
       compared = c.in_ok-take_in.ensures.known;
     }

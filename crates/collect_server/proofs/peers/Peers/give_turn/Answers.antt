@@ -9,3 +9,6 @@ returns-in-Some-clause-keeps c = at_set PlaceKeeps keeps_same c.args.self.now.pl
 
 pub returns-in_default-clause-keeps : goal.returns-in_default-clause-keeps
 returns-in_default-clause-keeps c = at_same PlaceKeeps keeps_same c.args.self.now.places.items
+
+pub returns-then-self-clause-keeps : goal.returns-then-self-clause-keeps
+returns-then-self-clause-keeps c = at_same PlaceKeeps keeps_same c.args.self.now.places.items
