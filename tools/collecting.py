@@ -35,7 +35,7 @@ SHUT_TEXTS = [b'{"why":"the client\'s file is closed"}\n', b'{"why":"a file can\
 # that goes through by half come the rest of it, the look how long the file is, the cut, and the round's sync.
 REFUSALS = {
     "allocation": {"": f"503, {AGAIN}|no answer, {AGAIN}|200"},
-    "open": {" 24": f"503, {AGAIN}", " 28": f"507, {AGAIN}"},
+    "open": {" 24": "200", " 28": f"507, {AGAIN}"},
     "statx": {" 5": f"503, {AGAIN}"},
     "pread": {" 5": f"503, {AGAIN}"},
     "pwrite": {

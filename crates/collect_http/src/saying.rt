@@ -42,6 +42,11 @@ pub(crate) fn refuse(response: &mut Response, untold: Untold) -> Result<(), NoMe
                 b"{\"why\":\"come again\"}\n",
             )
         }
+        Untold::Crowded => say_why(
+            response,
+            StatusCode::SERVICE_UNAVAILABLE,
+            b"{\"why\":\"too many files are open\"}\n",
+        ),
         Untold::NoMemory => say_why(
             response,
             StatusCode::SERVICE_UNAVAILABLE,

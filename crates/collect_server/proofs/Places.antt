@@ -1,11 +1,11 @@
 -- Places, one after another.
-use Rattle.std.proofs.Common.{◌≡◌, inl, inr, ℕ, zero, suc, ◌+◌, ◌<◌, ◌≤◌, List, [], ◌∷◌, ◌++◌, length, take, drop, get_or, set, Option, Some, None, refl, sym, ap, ◌∙◌, subst, arith}
-use Rattle.std.proofs.lemmas.List.{take_more, take_more_set, take_all, drop_more, get_or-drop, drop-set-lt, length-set}
+use Rattle.std.proofs.Common.{◌≡◌, inl, inr, ℕ, zero, suc, ◌+◌, ◌<◌, ◌≤◌, List, [], ◌∷◌, ◌++◌, length, take, drop, get_or, set, Option, Some, None, refl, sym, ap, ◌∙◌, subst, arith, length-append}
+use Rattle.std.proofs.lemmas.List.{drop_at, take_at, take-append-drop, take_more, take_more_set, take_all, drop_more, get_or-drop, drop-set-lt, length-set}
 use Rattle.http.specs.declared.request.Request.{Request}
 use Rattle.http_server.specs.Connection.{history}
 use Rattle.http_server.specs.History.{new_history}
 use Rattle.http_server.specs.declared.response.Response.{Response}
-use Rattle.collect_server.specs.Rounds.{AreAt, AreAnswered, PlaceAnswers, PlaceBegins, PlaceKeeps}
+use Rattle.collect_server.specs.Rounds.{AreAt, AreAnswered, AreAnsweredFrom, PlaceAnswers, PlaceBegins, PlaceKeeps}
 use Rattle.collect_server.specs.inside.Turns.{with_turn}
 use Rattle.collect_server.specs.declared.peer.Peer.{Peer}
 
@@ -111,6 +111,28 @@ over_all Gone n olds news over ended =
     subst (λ xs. Gone xs news) (take_all n olds (omega (arith, ended, over.long))) (subst (Gone (take n olds)) (take_all n news ended) over.gone)
 
 module _ {S : Type 0} (answers : S → Request (List ℕ) → Response → S → Type 0) where
+  answered_long : (called next : S) (xs ys : List (Option Peer)) → AreAnswered answers called xs ys next → length ys ≡ length xs
+  answered_long called next [] [] all = refl
+  answered_long called next (a ∷ xs) (b ∷ ys) all = ap suc (answered_long all.0 next xs ys all.2)
+  answered_long called next [] (b ∷ ys) all = absurd all
+  answered_long called next (a ∷ xs) [] all = absurd all
+
+  -- those from some place on are answered, and then those before it
+  pub answered_from : (first len : ℕ) (olds before behind front back rest : List (Option Peer)) (called mid next : S) → before ≡ take first olds → behind ≡ drop first olds → length before ≡ first
+      → len ≡ length olds → AreAnswered answers called behind back mid → AreAnswered answers mid before front next
+      → AreAnsweredFrom answers first called olds (take len ((front ++ back) ++ rest)) next
+  answered_from first len olds before behind front back rest called mid next is_front is_back count all later sooner =
+      let front_long : length front ≡ first = answered_long mid next before front sooner ∙ count in
+      let back_long : length back ≡ length (drop first olds) = answered_long called mid behind back later ∙ ap length is_back in
+      let before_long : length (take first olds) ≡ first = ap length (sym is_front) ∙ count in
+      let both : length olds ≡ length (take first olds) + length (drop first olds) = ap length (sym (take-append-drop first olds)) ∙ length-append (take first olds) (drop first olds) in
+      let long : length (front ++ back) ≡ len = omega (arith, length-append front back, front_long, back_long, before_long, both, all) in
+      let whole : take len ((front ++ back) ++ rest) ≡ front ++ back = take_at (front ++ back) rest len long in (
+        mid,
+        subst (λ news. AreAnswered answers called (drop first olds) news mid) (sym (ap (drop first) whole ∙ drop_at front back first front_long)) (subst (λ xs. AreAnswered answers called xs back mid) is_back later),
+        subst (λ news. AreAnswered answers mid (take first olds) news next) (sym (ap (take first) whole ∙ take_at front back first front_long)) (subst (λ xs. AreAnswered answers mid xs front next) is_front sooner),
+      )
+
   pub answered_more : (called mid next : S) (xs ys : List (Option Peer)) (x y : Option Peer) → AreAnswered answers called xs ys mid → PlaceAnswers answers mid x y next
       → AreAnswered answers called (xs ++ x ∷ []) (ys ++ y ∷ []) next
   answered_more called mid next [] [] x y all here = (next, subst (λ s. PlaceAnswers answers s x y next) all here, refl)

@@ -1,7 +1,7 @@
 -- How the collector may be called, and what is answered to another call: this project's own rule.
-use Rattle.std.specs.Prelude.{ℕ, ◌*◌, List, [], ◌∷◌, length, drop, ◌&&◌, ◌||◌, if◌then◌else◌, nat_eq, nat_lt, nat_le, Bool, Option, Some, None, Result, codes, bytes_eq}
+use Rattle.std.specs.Prelude.{ℕ, ◌*◌, List, [], ◌∷◌, length, drop, ◌&&◌, ◌||◌, if◌then◌else◌, nat_eq, nat_lt, nat_le, not, Bool, Option, Some, None, Result, codes, bytes_eq}
 use Rattle.std.specs.Option.{option_and_then, ok_or}
-use Rattle.std.specs.List.{list_all, starts_with}
+use Rattle.std.specs.List.{list_all, ends_with, starts_with}
 use Rattle.std.specs.Char.{is_ascii_digit}
 use Rattle.std.specs.Str.Parse.{digits_value}
 use Rattle.std.specs.declared.io.ErrorKind.{ErrorKind}
@@ -25,10 +25,20 @@ abbrev pub written_number : List ℕ → Option ℕ
 written_number word = let n = digits_value 10 word in
     if is_written_number word && nat_le 1 n && nat_le n 65535 then Some n else None
 
--- The origin of a page has one of these schemes.
+-- a small letter or a digit, or one of `-.:[]_`
+abbrev pub is_of_host : ℕ → Bool
+is_of_host c = (nat_le 97 c && nat_le c 122) || (is_ascii_digit c || (nat_le 45 c && nat_le c 46))
+    || (nat_eq c 58 || (nat_eq c 91 || (nat_eq c 93 || nat_eq c 95)))
+
+-- with that scheme, and a host, but not with the port that the scheme has anyhow
+abbrev pub is_origin_by : List ℕ → List ℕ → List ℕ → Bool
+is_origin_by scheme port word = starts_with nat_eq word scheme && not (ends_with nat_eq word port)
+    && nat_lt (length scheme) (length word) && list_all is_of_host (drop (length scheme) word)
+
+-- the origin of a page, as a browser sends it (RFC 6454, section 6.2)
 abbrev pub is_origin : List ℕ → Bool
 is_origin word =
-    starts_with nat_eq word (codes "http://") || starts_with nat_eq word (codes "https://")
+    is_origin_by (codes "http://") (codes ":80") word || is_origin_by (codes "https://") (codes ":443") word
 
 abbrev pub mebibyte : ℕ
 mebibyte = 1048576

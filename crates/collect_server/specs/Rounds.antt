@@ -1,5 +1,5 @@
 -- What connections and the collector do in a round: this project's own rule.
-use Rattle.std.specs.Prelude.{◌≡◌, ◌⊎◌, ◌<◌, ℕ, List, [], ◌∷◌, ◌++◌, length, Bool, true, false, Option, Some, None, ⊤}
+use Rattle.std.specs.Prelude.{◌≡◌, ◌⊎◌, ◌<◌, ℕ, List, [], ◌∷◌, ◌++◌, length, take, drop, Bool, true, false, Option, Some, None, ⊤}
 use Rattle.http.specs.declared.request.Request.{Request}
 use Rattle.http_server.specs.Connection.{history}
 use Rattle.http_server.specs.Exchange.{Calls}
@@ -61,6 +61,13 @@ AreAnswered {S} answers called (old ∷ olds) (new ∷ news) next =
     (then : S) × PlaceAnswers answers called old new then × AreAnswered answers then olds news next
 AreAnswered answers called olds news next = ⊥
 
+-- the same from some place on, and then those before it
+abbrev pub AreAnsweredFrom : {S : Type 0} → (S → Request (List ℕ) → Response → S → Type 0) → ℕ
+    → S → List (Option Peer) → List (Option Peer) → S → Type 0
+AreAnsweredFrom {S} answers first called olds news next = (between : S)
+    × AreAnswered answers called (drop first olds) (drop first news) between
+    × AreAnswered answers between (take first olds) (take first news) next
+
 -- Connections begin, what comes is answered, there is one settle, and what stands is sent.
 pub record IsServingRound {S : Type 0} (answers : S → Request (List ℕ) → Response → S → Type 0)
     (settles : S → Bool → S → Type 0) (old : S) (peers : List (Option Peer)) (new : S) (after : List (Option Peer))
@@ -69,7 +76,8 @@ pub record IsServingRound {S : Type 0} (answers : S → Request (List ℕ) → R
   pub begin : AreAt PlaceBegins peers begun
   pub read : List (Option Peer)
   pub called : S
-  pub answered : AreAnswered answers old begun read called
+  pub first : ℕ
+  pub answered : AreAnsweredFrom answers first old begun read called
   pub stands : Bool
   pub settled : settles called stands new
   pub sent : AreAt (PlaceSends stands) read after

@@ -6,7 +6,7 @@ ghost use Rattle.std.specs.IoError.{error_kind};
 ghost use Rattle.std.specs.Net.Socket.{socket_ip, socket_port};
 ghost use Rattle.std.specs.Vec.Iter.{into_iter_items};
 ghost use Rattle.std.specs.declared.net.ip_addr.IpAddr.TheVariants.{V4};
-ghost use Rattle.collect_server.specs.Call.{is_written_number, written_number, is_origin, collecting_at, with_choices, collecting_of, named_collect, collect_by, unread_fault, fault_exit_code, fault_error_line};
+ghost use Rattle.collect_server.specs.Call.{is_written_number, written_number, is_origin, is_origin_by, is_of_host, collecting_at, with_choices, collecting_of, named_collect, collect_by, unread_fault, fault_exit_code, fault_error_line};
 
 use page_tree::Text;
 use std::env::Args;
@@ -198,5 +198,30 @@ fn are_digits(bytes: &[u8]) -> bool
 fn is_origin(word: &str) -> bool
     ensures { result ≡ is_origin word.now }
 {
-    word.as_bytes().starts_with(b"http://") || word.as_bytes().starts_with(b"https://")
+    is_origin_by(b"http://", b":80", word.as_bytes())
+        || is_origin_by(b"https://", b":443", word.as_bytes())
+}
+
+fn is_origin_by(scheme: &[u8], port: &[u8], word: &[u8]) -> bool
+    ensures { result ≡ is_origin_by scheme.now port.now word.now }
+{
+    word.starts_with(scheme)
+        && !word.ends_with(port)
+        && scheme.len() < word.len()
+        && are_of_host(&word[scheme.len()..])
+}
+
+fn are_of_host(bytes: &[u8]) -> bool
+    ensures { result ≡ list_all is_of_host bytes.now }
+{
+    bytes.iter().all(|c| is_of_host(*c))
+}
+
+// A small letter or a digit, or one of `-.:[]_`.
+fn is_of_host(c: u8) -> bool
+    ensures { result ≡ is_of_host c }
+{
+    (b'a' <= c && c <= b'z')
+        || (c.is_ascii_digit() || (b'-' <= c && c <= b'.'))
+        || (c == b':' || (c == b'[' || (c == b']' || c == b'_')))
 }

@@ -105,6 +105,19 @@ fn open_file<R: Files<File = File>>(rt: &R, path: &str, new: bool) -> io::Result
     DiskFile::new(file, new)
 }
 
+impl<R: Eprint> DiskFolder<'_, R> {
+    // Writes a line on standard error.
+    fn say_broken(&self) {
+        let path = self.path.as_str();
+        match eprintln!(self.rt;
+            "warp_server: the folder {path} can't be synced: no file is opened until the next start"
+        ) {
+            Ok(()) => {}
+            Err(_) => {}
+        }
+    }
+}
+
 impl<R: AllocGlobal + Files<File = File> + Eprint + Clone + Drop> Folder<DiskFile>
     for DiskFolder<'_, R> {
     ghost lies = { λ _ _. None };
@@ -143,6 +156,7 @@ impl<R: AllocGlobal + Files<File = File> + Eprint + Clone + Drop> Folder<DiskFil
                     Ok(()) => Ok(file),
                     Err(_) => {
                         self.broken = true;
+                        self.say_broken();
                         Err(FileFault::Failed)
                     }
                 }

@@ -8,6 +8,7 @@ mod peer;
 mod peers;
 mod serve_fault;
 mod serving;
+mod work;
 
 pub use call::{CollectFault, Collecting, accept_call};
 pub use disk_file::DiskFile;

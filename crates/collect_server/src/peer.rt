@@ -101,12 +101,13 @@ impl Peer {
         self.unanswered > LARGE_BYTES && !self.has_turn
     }
 
-    /// Reads once, and has what came answered, unless that waits for its turn. Nothing is sent.
+    /// Reads once, and has what came answered, unless that waits for its turn. Nothing is sent. It gives the bytes of a
+    /// small request that is answered; a large one has its turn.
     pub(crate) fn read<F: GrowingFile + Drop, D: Folder<F>>(
         &mut self,
         collector: &mut Collector<F, D>,
         now: Instant,
-    )
+    ) -> usize
         ensures calls { Calls (Answers F.seen F.durable F.lost D.lies D.known) collector.old collector.new
             (history self.old.connection).calls (history self.new.connection).calls }
         ensures sent { (history self.new.connection).sent ≡ (history self.old.connection).sent }
@@ -114,11 +115,14 @@ impl Peer {
             × ((history self.new.connection).received ≡ (history self.old.connection).received ++ more) }
     {
         self.receive(now);
-        if self.may_answer() {
+        let bytes = if self.has_turn { 0 } else { self.unanswered };
+        let answers = self.may_answer();
+        if answers {
             self.answer(collector);
         }
         self.waits = self.is_held() && self.has_input();
         self.has_turn = false;
+        if answers { bytes } else { 0 }
     }
 
     fn may_answer(&self) -> bool {

@@ -1,12 +1,13 @@
 //! The connections of the server.
-ghost use Rattle.std.specs.Prelude.{◌≡◌, None, IfOk, position, replicate};
+ghost use Rattle.std.specs.Prelude.{◌≡◌, ℕ, None, IfOk, position, replicate};
 ghost use Rattle.http_server.specs.Connection.{history};
 ghost use Rattle.http_server.specs.History.{new_history};
 ghost use Rattle.collect_http.specs.Answering.{Answers};
-ghost use Rattle.collect_server.specs.Rounds.{AreAt, AreAnswered, PlaceAnswers, PlaceBegins, PlaceKeeps, PlaceSends};
+ghost use Rattle.collect_server.specs.Rounds.{AreAt, AreAnswered, AreAnsweredFrom, PlaceAnswers, PlaceBegins, PlaceKeeps, PlaceSends};
 ghost use Rattle.collect_server.specs.inside.Turns.{GivesTurn, next_turn, turn_now, waits_for_turn, with_turn};
 
 use crate::peer::Peer;
+use crate::work::Work;
 use collect_http::Collector;
 use std::alloc::{AllocError, Global};
 use std::time::Instant;
@@ -24,6 +25,8 @@ pub(crate) struct Peers {
     pub(crate) turn: usize,
     // The last round had a turn.
     pub(crate) rests: bool,
+    // The place from which on the next round reads.
+    pub(crate) first: usize,
 }
 
 impl Peers {
@@ -38,6 +41,7 @@ impl Peers {
             places,
             turn: 0,
             rests: false,
+            first: 0,
         })
     }
 
@@ -120,18 +124,27 @@ impl Peers {
         }
     }
 
-    /// Reads once from each connection, and has what came answered, but for large requests without a turn.
+    /// Reads once from each connection, and has what came answered, but for large requests without a turn. It goes round
+    /// from behind the place where the last round had no work left, until this one has none.
     pub(crate) fn read<F: GrowingFile + Drop, D: Folder<F>>(
         &mut self,
         collector: &mut Collector<F, D>,
         now: Instant,
     )
-        ensures { AreAnswered (Answers F.seen F.durable F.lost D.lies D.known)
-            collector.old self.old.places.items self.new.places.items collector.new }
+        ensures { (first : ℕ) × AreAnsweredFrom (Answers F.seen F.durable F.lost D.lies D.known)
+            first collector.old self.old.places.items self.new.places.items collector.new }
     {
-        for peer in self.places.iter_mut() {
-            read(peer, collector, now);
-        }
+        let first = if self.first < self.places.len() {
+            self.first
+        } else {
+            0
+        };
+        let mut work = Work::begin(first);
+        let (before, behind) = self.places.split_at_mut(first);
+        read_all(behind, collector, &mut work, now);
+        work.go_round();
+        read_all(before, collector, &mut work, now);
+        self.first = work.next(first);
     }
 
     /// Sends what waits where the round stands. Else connections where something waits are over.
@@ -196,17 +209,48 @@ fn sweep(peer: &mut Option<Peer>)
     }
 }
 
-fn read<F: GrowingFile + Drop, D: Folder<F>>(
+fn read_all<F: GrowingFile + Drop, D: Folder<F>>(
+    places: &mut [Option<Peer>],
+    collector: &mut Collector<F, D>,
+    work: &mut Work,
+    now: Instant,
+)
+    ensures { AreAnswered (Answers F.seen F.durable F.lost D.lies D.known)
+        collector.old places.old places.new collector.new }
+{
+    for peer in places.iter_mut() {
+        read_next(peer, collector, work, now);
+    }
+}
+
+fn read_next<F: GrowingFile + Drop, D: Folder<F>>(
     peer: &mut Option<Peer>,
     collector: &mut Collector<F, D>,
+    work: &mut Work,
     now: Instant,
 )
     ensures { PlaceAnswers (Answers F.seen F.durable F.lost D.lies D.known)
         collector.old peer.old peer.new collector.new }
 {
+    if !work.goes_on() {
+        return;
+    }
+    let bytes = read(peer, collector, now);
+    work.count(bytes, collector.has_read_enough());
+}
+
+// Gives the bytes of a small request that is answered.
+fn read<F: GrowingFile + Drop, D: Folder<F>>(
+    peer: &mut Option<Peer>,
+    collector: &mut Collector<F, D>,
+    now: Instant,
+) -> usize
+    ensures { PlaceAnswers (Answers F.seen F.durable F.lost D.lies D.known)
+        collector.old peer.old peer.new collector.new }
+{
     match peer {
         Some(peer) => peer.read(collector, now),
-        None => {}
+        None => 0,
     }
 }
 

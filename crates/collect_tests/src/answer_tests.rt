@@ -20,13 +20,16 @@ fn begin<R: AllocGlobal + RandomSource>(
     room: u64,
     limit: u64,
 ) -> Result<Collecting, Fail> {
+    begin_over(rt, MemoryFolder::new(rt.alloc(), fails_at, room), limit)
+}
+
+fn begin_over<R: AllocGlobal + RandomSource>(
+    rt: &R,
+    folder: MemoryFolder,
+    limit: u64,
+) -> Result<Collecting, Fail> {
     let keys = RandomState::new(rt)?;
-    let clients = Clients::new(
-        rt.alloc(),
-        MemoryFolder::new(rt.alloc(), fails_at, room),
-        limit,
-        keys,
-    );
+    let clients = Clients::new(rt.alloc(), folder, limit, keys);
     let names = Names::new(RandomState::new(rt)?, RandomState::new(rt)?);
     let origin = String::from_str(rt.alloc(), "https://pages.example")?;
     Ok(Collector::new(rt.alloc(), clients, names, keys, Some(origin), b"recorder"))
@@ -369,5 +372,45 @@ fn what_is_told_is_told_again_whatever_call_of_a_file_fails(rt: HostRuntime) -> 
     for fails_at in 0..24 {
         assert!(rt; is_told_again(&rt, fails_at)?);
     }
+    Ok(())
+}
+
+// Whether the first line of a client's visit is answered with that status. The names of clients differ in the digit.
+fn has_posted<R: AllocGlobal + RandomSource>(
+    rt: &R,
+    collector: &mut Collecting,
+    digit: u64,
+    status: u64,
+) -> Result<bool, Fail> {
+    let head = format!(in rt.alloc();
+        "POST /upload HTTP/1.1\r\nCookie: yugdemor=0123456789abcdef0123456789abcde{digit}\r\nContent-Type: text/plain"
+    )?;
+    let answer = ask(rt, collector, head.as_str(), A1)?;
+    has_status(rt.alloc(), answer.as_str(), status)
+}
+
+#[test]
+fn four_files_are_made_in_a_round(rt: HostRuntime) -> Result<(), Fail> {
+    let mut all = begin(&rt, NEVER, 9, 1 << 20)?;
+    for digit in 0..4 {
+        assert!(rt; has_posted(&rt, &mut all, digit, 200)?);
+    }
+    assert!(rt; has_posted(&rt, &mut all, 4, 503)?);
+    assert!(rt; all.settle() && has_posted(&rt, &mut all, 4, 200)?);
+    Ok(())
+}
+
+// The fourth client's file closes those of the others, of which two are read back in the next round.
+#[test]
+fn files_that_were_closed_are_read_back_in_turn(rt: HostRuntime) -> Result<(), Fail> {
+    let folder = MemoryFolder::new(rt.alloc(), NEVER, 9).with_most(3);
+    let mut all = begin_over(&rt, folder, 1 << 20)?;
+    for digit in 0..4 {
+        assert!(rt; has_posted(&rt, &mut all, digit, 200)? && all.settle());
+    }
+    assert!(rt; has_posted(&rt, &mut all, 0, 200)?);
+    assert!(rt; has_posted(&rt, &mut all, 1, 200)?);
+    assert!(rt; has_posted(&rt, &mut all, 2, 503)?);
+    assert!(rt; all.settle() && has_posted(&rt, &mut all, 2, 200)?);
     Ok(())
 }

@@ -97,3 +97,18 @@ fn what_is_settled_is_there_whatever_call_fails(rt: HostRuntime) -> Result<(), F
     }
     Ok(())
 }
+
+// How many calls it takes to open a file with these bytes.
+const OPENING_CALLS: u64 = 5;
+
+#[test]
+fn what_was_synced_isnt_synced_again(rt: HostRuntime) -> Result<(), Fail> {
+    let keys = RandomState::new(&rt)?;
+    let Some(mut file) = open(rt.alloc(), keys, STORED, OPENING_CALLS)? else {
+        return Err(Fail::new("not opened"));
+    };
+    assert!(rt; file.settle().is_ok());
+    assert!(rt; file.take(rt.alloc(), A1).is_ok() && file.settle().is_ok());
+    assert!(rt; file.into_file().sync().is_err());
+    Ok(())
+}

@@ -8,7 +8,7 @@ use Rattle.page_looks.proofs.KeptOnce.{get_first, get_either, get_behind, apart_
 
 -- ---- the lists that keys are made of
 
-told_length : (told : List Attribute) → length (told_texts told) ≡ 2 * length told
+pub told_length : (told : List Attribute) → length (told_texts told) ≡ 2 * length told
 told_length [] = refl
 told_length (a ∷ rest) = omega (arith, told_length rest)
 

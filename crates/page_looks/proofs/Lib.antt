@@ -14,5 +14,6 @@ pub mod LooksLaws
 pub mod SameLaws
 pub mod AddressLaws
 pub mod SendingLaws
+pub mod FormLaws
 pub mod CounterpartLaws
 pub mod GoodLaws

@@ -13,7 +13,7 @@ use Rattle.page_looks.specs.inside.Shapes.{Knows}
 use Rattle.page_looks.specs.inside.Numbering.{KnowsAll, NumbersNode}
 use Rattle.page_looks.specs.inside.Sends.{AreSent}
 use Rattle.page_looks.specs.inside.Kept.{AreLooksOf, AreSendsOf, RanksPage, SendsPage, AreBeside}
-use Rattle.page_looks.specs.declared.numbering.Shapes.{Shapes}
+use Rattle.page_looks.specs.declared.shapes.Shapes.{Shapes}
 use Rattle.page_looks.specs.declared.ranks.Ranked.{Ranked}
 use Rattle.page_looks.specs.declared.sent_numbers.SentNumbers.{SentNumbers}
 use Rattle.page_looks.proofs.KeptOnce.{stand_more}

@@ -9,7 +9,7 @@ use Rattle.page_looks.specs.inside.Numbers.{IsPutIn, StandFor}
 use Rattle.page_looks.specs.inside.Shapes.{listed, IsKey}
 use Rattle.page_looks.specs.inside.Ranks.{subtrees, subtrees_in, seen_from, seen_in}
 use Rattle.page_looks.specs.inside.Numbering.{KnowsAll, PushesTexts, NumbersNode, NumbersParts, key_head, key_texts}
-use Rattle.page_looks.specs.declared.numbering.Shapes.{Shapes}
+use Rattle.page_looks.specs.declared.shapes.Shapes.{Shapes}
 use Rattle.page_looks.proofs.KeptOnce.{stand_more, stand_length}
 use Rattle.page_looks.proofs.KeyLaws.{knows_key}
 use Rattle.page_looks.proofs.NumberingLaws.{knows_texts}

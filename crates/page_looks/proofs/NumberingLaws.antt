@@ -1,18 +1,18 @@
 -- Texts and looks that are numbered one after another.
-use Rattle.std.proofs.Common.{◌≡◌, ℕ, zero, suc, ◌+◌, ◌<◌, List, [], ◌∷◌, ◌++◌, length, Some, None, Option, slice_get, refl, sym, ◌∙◌, ap, inl, inr, arith, append_assoc, append-nil, take, get_or, subst, option_and_then}
+use Rattle.std.proofs.Common.{◌≡◌, ℕ, zero, suc, ◌+◌, ◌<◌, List, [], ◌∷◌, ◌++◌, length, Some, None, Option, slice_get, refl, sym, ◌∙◌, ap, inl, inr, arith, append_assoc, append-nil, take, get_or, option_and_then}
 use Rattle.std.specs.Option.{option_map_or}
 use Rattle.std.specs.Global.{Global}
 use Rattle.std.specs.Cow.{cow_str_bytes}
 use Rattle.std.specs.declared.borrow.CowStr.{CowStr}
 use Rattle.page_looks.specs.inside.Told.{told_seen}
 use Rattle.page_tree.specs.inside.Kept.{attributes_at, children_at}
-use Rattle.page_tree.specs.Tree.{Attribute, Tree, element, words, Trees, no_trees}
+use Rattle.page_tree.specs.Tree.{Attribute, Tree, element, words, no_trees}
 use Rattle.page_tree.specs.Look.{value_of, node_at, name_at, text_at, name_of, text_of, attributes_of, children_of}
 use Rattle.page_looks.specs.Outline.{those_named}
 use Rattle.page_looks.specs.inside.Numbers.{IsPutIn}
 use Rattle.page_looks.specs.inside.Shapes.{told_texts}
 use Rattle.page_looks.specs.inside.Numbering.{KnowsAll, PushesTexts, BeginsNode, key_head, key_texts}
-use Rattle.page_looks.specs.declared.numbering.Shapes.{Shapes}
+use Rattle.page_looks.specs.declared.shapes.Shapes.{Shapes}
 use Rattle.page_looks.proofs.KeptOnce.{apart_more, stand_more, stand_append}
 use Rattle.page_looks.proofs.KeyLaws.{key_more}
 
@@ -155,22 +155,3 @@ pub element_begins : (told : Tree → List Attribute) (below old new : Shapes) (
     → Some name ≡ name_at place page → BeginsNode told below old new key (element name (attributes_at place page) (children_at place page))
     → BeginsNode told below old new key m
 element_begins told below old new page m place key name is named p = rw (element_is (node_at place page) m name is named) p
-
-map-length : (told : List (CowStr Global × CowStr Global)) → length (told_seen told) ≡ length told
-map-length [] = refl
-map-length (a ∷ told) = ap suc (map-length told)
-
-pub told_pushed : (below old mid new : Shapes) (told : List (CowStr Global × CowStr Global)) (name : List ℕ) (count : ℕ) (first key next : List ℕ)
-    → count ≡ length told + 1 → first ≡ count ∷ [] → PushesTexts below old mid first key (name ∷ [])
-    → PushesTexts below mid new key next (told_texts (told_seen told))
-    → PushesTexts below old new (suc (length (told_seen told)) ∷ []) next (name ∷ told_texts (told_seen told))
-told_pushed below old mid new told name count first key next many begins a b =
-    let head : count ≡ suc (length (told_seen told)) = omega (arith, many, map-length told) in
-    let whole = texts_join below old mid new first key next (name ∷ []) (told_texts (told_seen told)) a b in
-    subst (λ n. PushesTexts below old new (n ∷ []) next (name ∷ told_texts (told_seen told))) head (rw begins at whole)
-
-pub element_pushed : (tells : Tree → List Attribute) (below old new : Shapes) (told : List Attribute) (name : List ℕ) (attributes : List Attribute) (children : Trees)
-    (next : List ℕ) → told ≡ tells (element name attributes children) → PushesTexts below old new (suc (length told) ∷ []) next (name ∷ told_texts told)
-    → BeginsNode tells below old new next (element name attributes children)
-element_pushed tells below old new told name attributes children next is p =
-    subst (λ xs. PushesTexts below old new (suc (length xs) ∷ []) next (name ∷ told_texts xs)) is p

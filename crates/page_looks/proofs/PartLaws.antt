@@ -9,7 +9,7 @@ use Rattle.page_looks.specs.Outline.{is_seen, outlines, outline, open_children}
 use Rattle.page_looks.specs.inside.Shapes.{listed}
 use Rattle.page_looks.specs.inside.Ranks.{subtrees, subtrees_in, seen_from, seen_in}
 use Rattle.page_looks.specs.inside.Numbering.{KnowsAll, PushesLooks, NumbersParts}
-use Rattle.page_looks.specs.declared.numbering.Shapes.{Shapes}
+use Rattle.page_looks.specs.declared.shapes.Shapes.{Shapes}
 use Rattle.page_looks.proofs.KeptOnce.{stand_more, stand_append}
 
 -- ---- lists of children

@@ -1,21 +1,16 @@
 -- What is told of what an element sends.
-use Rattle.std.proofs.Common.{◌≡◌, ℕ, zero, suc, ◌<◌, ◌≤◌, List, [], ◌∷◌, ◌++◌, filter, not, Bool, true, false, ◌||◌, if◌then◌else◌, codes, Option, Some, None, option_and_then, is_some, unwrap_or, refl, sym, ◌∙◌, ap, arith, append_assoc, append-nil}
+use Rattle.std.proofs.Common.{◌≡◌, ℕ, List, [], ◌∷◌, ◌++◌, filter, not, Bool, true, false, if◌then◌else◌, codes, Option, Some, None, option_and_then, is_some, unwrap_or, refl, sym, ◌∙◌, ap, append_assoc}
 use Rattle.std.specs.List.{filter_map}
 use Rattle.std.specs.Option.{option_map_or}
-use Rattle.std.specs.Str.{bytes_eq}
 use Rattle.std.proofs.lemmas.List.Elements.{filter-append, filter_map-append}
-use Rattle.page_tree.specs.Tree.{Attribute, Tree, element, words, Trees, no_trees, tree}
-use Rattle.page_tree.specs.Look.{node_at, nth_child, children_of, attributes_of, value_of, name_of, count, child_count_at, attribute_at}
+use Rattle.page_tree.specs.Tree.{Attribute, Tree, element, words}
+use Rattle.page_tree.specs.Look.{node_at, attributes_of, value_of, name_of, attribute_at}
 use Rattle.page_tree.specs.Control.{control_of, element_control, is_text, start_text_of, start_text_at, start_checked_of, start_checked_at}
-use Rattle.page_tree.specs.Number.{place_numbered, first_trees}
 use Rattle.page_tree.specs.declared.control.Control.{Control}
 use Rattle.page_tree.specs.declared.control.Control.TheVariants as control
-use Rattle.page_tree.specs.inside.Kept.{children_at}
-use Rattle.page_tree.proofs.Numbers.{nth_there, node_at_child}
-use Rattle.page_looks.specs.Outline.{is_one_of, is_seen, those_named}
-use Rattle.page_looks.specs.Sending.{addresses_named, sent_by_control, untouched_value, untouched_pair, is_control_disabled, unseen_at, unseen_in, untouched_pairs}
+use Rattle.page_looks.specs.Outline.{is_one_of, those_named}
+use Rattle.page_looks.specs.Sending.{addresses_named, sent_by_control, untouched_value, untouched_pair, is_control_disabled, untouched_pairs}
 use Rattle.page_looks.proofs.NumberingLaws.{one_told}
-use Rattle.page_looks.proofs.PartLaws.{first_none, all_first}
 
 -- ---- lists of controls
 
@@ -23,98 +18,6 @@ pub pairs_append : (fresh : List (List ℕ)) (xs ys : List Tree) → untouched_p
 pairs_append fresh xs ys =
     ap (filter (λ pair. not (is_one_of ([] ∷ fresh) pair.0))) (filter_map-append untouched_pair xs ys)
     ∙ filter-append (λ pair. not (is_one_of ([] ∷ fresh) pair.0)) (filter_map untouched_pair xs) (filter_map untouched_pair ys)
-
-unseen_next : (covered : Bool) (ts : Trees) (i : ℕ) (c : Tree) → nth_child i ts ≡ Some c
-    → unseen_in covered (first_trees (suc i) ts) ≡ unseen_in covered (first_trees i ts) ++ unseen_at covered c
-unseen_next covered no_trees i c is = cc
-unseen_next covered (tree t ts) zero c is =
-    let same : t ≡ c = cc in
-    ap (λ us. unseen_at covered t ++ unseen_in covered us) (first_none ts) ∙ append-nil (unseen_at covered t) ∙ ap (unseen_at covered) same
-unseen_next covered (tree t ts) (suc i) c is =
-    ap (λ l. unseen_at covered t ++ l) (unseen_next covered ts i c is) ∙ sym (append_assoc (unseen_at covered t) (unseen_in covered (first_trees i ts)) (unseen_at covered c))
-
--- ---- the loop over children
-
-pub record UnseenSoFar (page : Tree) (number : ℕ) (covered : Bool) (fresh : List (List ℕ)) (told further : List Attribute) (child i : ℕ) : Type 0 where
-  pub place : i < child_count_at (place_numbered number page) page → place_numbered child page ≡ place_numbered number page ++ i ∷ []
-  pub told_is : further ≡ told ++ untouched_pairs fresh (unseen_in covered (first_trees i (children_at (place_numbered number page) page)))
-  pub behind : number < child
-
-pub unseen_begin : (page : Tree) (number : ℕ) (covered : Bool) (fresh : List (List ℕ)) (told : List Attribute) (child : ℕ)
-    → (0 < child_count_at (place_numbered number page) page → place_numbered child page ≡ place_numbered number page ++ 0 ∷ []) → child ≡ suc number
-    → UnseenSoFar page number covered fresh told told child 0
-unseen_begin page number covered fresh told child place first = record {
-  place = place;
-  told_is = sym (append-nil told)
-      ∙ ap (λ ts. told ++ untouched_pairs fresh (unseen_in covered ts)) (sym (first_none (children_at (place_numbered number page) page)));
-  behind = omega (arith, first);
-}
-
-some_count : (o : Option Tree) (i : ℕ) → i < option_map_or (λ n. count (children_of n)) o 0 → (m : Tree) × (o ≡ Some m)
-some_count None i less = absurd (omega (arith, less))
-some_count (Some m) i less = (m, refl)
-
-open_node : (o : Option Tree) (m : Tree) → o ≡ Some m → option_map_or children_of o no_trees ≡ children_of m
-open_node o m is = rw is refl
-
-pub unseen_goes_on : (page : Tree) (number : ℕ) (covered : Bool) (fresh : List (List ℕ)) (told further last : List Attribute) (child behind i : ℕ)
-    → i < child_count_at (place_numbered number page) page → UnseenSoFar page number covered fresh told further child i
-    → ((c : Tree) → node_at (place_numbered child page) page ≡ Some c → last ≡ further ++ untouched_pairs fresh (unseen_at covered c))
-    → (suc i < child_count_at (place_numbered number page) page → place_numbered behind page ≡ place_numbered number page ++ suc i ∷ [])
-    → child < behind → UnseenSoFar page number covered fresh told last behind (suc i)
-unseen_goes_on page number covered fresh told further last child behind i within u told_here place later =
-    let (m, is) = some_count (node_at (place_numbered number page) page) i within in
-    let (c, here) = nth_there i (children_of m) (rw is at within) in
-    let node : node_at (place_numbered child page) page ≡ Some c =
-    ap (λ q. node_at q page) (u.place within) ∙ node_at_child (place_numbered number page) page m i is ∙ here in
-    let children : children_at (place_numbered number page) page ≡ children_of m = open_node (node_at (place_numbered number page) page) m is in
-    let all = unseen_next covered (children_of m) i c here in
-    record {
-      place = place;
-      told_is = told_here c node ∙ ap (λ l. l ++ untouched_pairs fresh (unseen_at covered c)) u.told_is
-          ∙ append_assoc told _ _
-          ∙ ap (λ l. told ++ l)
-          (ap (λ ts. untouched_pairs fresh (unseen_in covered (first_trees i ts)) ++ untouched_pairs fresh (unseen_at covered c)) children
-          ∙ sym (pairs_append fresh (unseen_in covered (first_trees i (children_of m))) (unseen_at covered c))
-          ∙ ap (untouched_pairs fresh) (sym all) ∙ ap (λ ts. untouched_pairs fresh (unseen_in covered (first_trees (suc i) ts))) (sym children));
-      behind = omega (arith, u.behind, later);
-    }
-
-count_at : (o : Option Tree) → option_map_or (λ n. count (children_of n)) o 0 ≡ count (option_map_or children_of o no_trees)
-count_at None = refl
-count_at (Some m) = refl
-
-pub unseen_end : (page : Tree) (number : ℕ) (covered : Bool) (fresh : List (List ℕ)) (told further : List Attribute) (child i : ℕ)
-    → UnseenSoFar page number covered fresh told further child i → child_count_at (place_numbered number page) page ≤ i
-    → further ≡ told ++ untouched_pairs fresh (unseen_in covered (children_at (place_numbered number page) page))
-unseen_end page number covered fresh told further child i u done =
-    u.told_is ∙ ap (λ ts. told ++ untouched_pairs fresh (unseen_in covered ts))
-    (all_first (children_at (place_numbered number page) page) i (omega (arith, done, count_at (node_at (place_numbered number page) page))))
-
--- ---- a node and those under it
-
--- the parts: the node itself, and what stands under it
-pub node_unseen : (fresh : List (List ℕ)) (covered hidden closed : Bool) (o : Option Tree) (m : Tree) (told one last : List Attribute) → o ≡ Some m
-    → hidden ≡ (covered || not (is_seen m)) → closed ≡ (hidden || option_map_or (λ name. bytes_eq name (codes "textarea")) (option_and_then name_of o) false)
-    → one ≡ told ++ untouched_pairs fresh (if hidden then m ∷ [] else [])
-    → last ≡ one ++ untouched_pairs fresh (unseen_in closed (option_map_or children_of o no_trees)) → last ≡ told ++ untouched_pairs fresh (unseen_at covered m)
-node_unseen fresh covered hidden closed o (element name attributes children) told one last is hides closes own below =
-    let seen : closed ≡ (hidden || bytes_eq name (codes "textarea")) = rw is at closes in
-    let under : unseen_in closed (option_map_or children_of o no_trees) ≡ unseen_in (hidden || bytes_eq name (codes "textarea")) children =
-    ap (unseen_in closed) (open_node o (element name attributes children) is) ∙ ap (λ b. unseen_in b children) seen in
-    below ∙ ap (λ l. l ++ untouched_pairs fresh (unseen_in closed (option_map_or children_of o no_trees))) own ∙ append_assoc told _ _
-    ∙ ap (λ l. told ++ l) (sym (pairs_append fresh (if hidden then element name attributes children ∷ [] else []) (unseen_in closed (option_map_or children_of o no_trees)))
-    ∙ ap (λ l. untouched_pairs fresh ((if hidden then element name attributes children ∷ [] else []) ++ l)) under
-    ∙ ap (λ b. untouched_pairs fresh ((if b then element name attributes children ∷ [] else []) ++ unseen_in (b || bytes_eq name (codes "textarea")) children)) hides)
-node_unseen fresh covered hidden closed o (words text) told one last is hides closes own below =
-    let none : untouched_pairs fresh (if hidden then words text ∷ [] else []) ≡ [] = word_pairs fresh hidden text in
-    let empty : unseen_in closed (option_map_or children_of o no_trees) ≡ [] = ap (unseen_in closed) (open_node o (words text) is) in
-    below ∙ ap (λ l. l ++ untouched_pairs fresh (unseen_in closed (option_map_or children_of o no_trees))) (own ∙ ap (λ l. told ++ l) none ∙ append-nil told)
-    ∙ ap (λ l. told ++ untouched_pairs fresh l) empty
-  where
-    word_pairs : (fresh : List (List ℕ)) (b : Bool) (text : List ℕ) → untouched_pairs fresh (if b then words text ∷ [] else []) ≡ []
-    word_pairs fresh true text = refl
-    word_pairs fresh false text = refl
 
 -- ---- a form, and a control
 

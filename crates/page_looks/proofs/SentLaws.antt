@@ -22,7 +22,7 @@ use Rattle.page_looks.specs.inside.Ranks.{subtrees, AreFirst, IsRanked}
 use Rattle.page_looks.specs.inside.Numbering.{KnowsAll, PushesTexts, NumbersNode}
 use Rattle.page_looks.specs.inside.Sends.{own_leaf, leaf_at, NumbersLeaf, HasLeaves, NumbersLeaves, AreEven, AreSent}
 use Rattle.page_looks.specs.inside.Kept.{SendsPage}
-use Rattle.page_looks.specs.declared.numbering.Shapes.{Shapes}
+use Rattle.page_looks.specs.declared.shapes.Shapes.{Shapes}
 use Rattle.page_looks.specs.declared.ranks.Ranked.{Ranked}
 use Rattle.page_looks.specs.declared.sent_numbers.SentNumbers.{SentNumbers}
 use Rattle.page_looks.proofs.KeptOnce.{get_first, stand_more, stand_append, stand_length}

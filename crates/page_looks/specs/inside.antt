@@ -2,6 +2,7 @@ pub mod Numbers
 pub mod Shapes
 pub mod Ranks
 pub mod Told
+pub mod InForms
 pub mod Numbering
 pub mod Sends
 pub mod Kept

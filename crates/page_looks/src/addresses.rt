@@ -50,7 +50,7 @@ fn push_kept(alloc: Global, kept: &mut String, fresh: &[Text], query: &str) -> R
     let mut rest = query;
     let mut mark = "?";
     loop {
-        let (pair, next) = cut(rest);
+        let (pair, next) = first_pair(rest);
         mark = push_pair(alloc, kept, fresh, mark, pair)?;
         match next {
             None => return Ok(()),
@@ -80,8 +80,8 @@ fn push_pair(
     Ok("&")
 }
 
-// The first pair of a query, and what stands behind its `&`, if there is one.
-fn cut(query: &str) -> (&str, Option<&str>)
+/// The first pair of a query, and what stands behind its `&`, if there is one.
+pub fn first_pair(query: &str) -> (&str, Option<&str>)
     ensures pairs { MatchOption result.1 (slice_split (λ c. c == 38) query.now ≡ result.0.now ∷ [])
         (λ rest. slice_split (λ c. c == 38) query.now ≡ result.0.now ∷ slice_split (λ c. c == 38) rest.now) }
     ensures shorter { IfSome result.1 (λ rest. length rest.now < length query.now) }
@@ -92,8 +92,8 @@ fn cut(query: &str) -> (&str, Option<&str>)
     }
 }
 
-// Whether the name of a pair is one of these. A name is decoded only where that could change it.
-fn has_fresh_name(alloc: Global, fresh: &[Text], pair: &str) -> Result<bool, NoMemory>
+/// Whether the name of a pair, as it is written in a query, is one of these. A name is decoded only where that could change it.
+pub fn has_fresh_name(alloc: Global, fresh: &[Text], pair: &str) -> Result<bool, NoMemory>
     ensures { IfOk result (λ fresh_one. fresh_one ≡ is_one_of fresh.now (pair_name pair.now)) }
 {
     let name = written_name(pair);

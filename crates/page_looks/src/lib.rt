@@ -9,6 +9,7 @@ mod addresses;
 mod beside;
 mod finding;
 mod fresh_names;
+mod in_forms;
 mod laws;
 mod looks;
 mod numbering;
@@ -16,10 +17,11 @@ mod ranks;
 mod seeing;
 mod sending;
 mod sent_numbers;
+mod shapes;
 mod tables;
 mod telling;
 
-pub use addresses::without_fresh;
+pub use addresses::{first_pair, has_fresh_name, without_fresh};
 pub use beside::{Beside, Same};
 pub use fresh_names::FreshNames;
 pub use laws::{

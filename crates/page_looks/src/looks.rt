@@ -6,9 +6,10 @@ ghost use Rattle.page_looks.specs.inside.Kept.{RanksPage};
 
 use crate::beside::Beside;
 use crate::fresh_names::FreshNames;
-use crate::numbering::{Shapes, number_node};
+use crate::numbering::number_node;
 use crate::ranks::{Ranked, first_places, last_places};
 use crate::sent_numbers::{SentNumbers, numbered_sends};
+use crate::shapes::Shapes;
 use crate::telling::Telling;
 use page_tree::{NoMemory, Page, Text};
 use std::alloc::Global;

@@ -1,76 +1,23 @@
 //! The numbers of looks, and of what is sent, made from the leaves of a page up.
-ghost use Rattle.std.specs.Prelude.{ℕ, suc, List, [], ◌∷◌, ◌++◌, ◌≡◌, ◌<◌, ◌≤◌, length, IfOk, OnOk, Some};
-ghost use Rattle.std.specs.Cow.{cow_str_bytes};
+ghost use Rattle.std.specs.Prelude.{suc, [], ◌∷◌, ◌++◌, ◌≡◌, ◌<◌, ◌≤◌, length, IfOk, OnOk, Some};
 ghost use Rattle.page_tree.specs.Tree.{Tree, element, tree, no_trees};
 ghost use Rattle.page_tree.specs.Limits.{nodes};
 ghost use Rattle.page_tree.specs.Look.{node_at, name_at, text_at};
 ghost use Rattle.page_tree.specs.inside.Kept.{attributes_at, children_at};
 ghost use Rattle.page_tree.specs.Number.{place_numbered};
 ghost use Rattle.page_looks.specs.Outline.{open_children, outlines};
-ghost use Rattle.page_looks.specs.inside.Told.{told_seen, told_by};
-ghost use Rattle.page_looks.specs.inside.Shapes.{told_texts};
+ghost use Rattle.page_looks.specs.inside.Told.{told_by};
 ghost use Rattle.page_looks.specs.inside.Ranks.{seen_from, seen_in};
+ghost use Rattle.page_looks.specs.inside.InForms.{IsReady};
 ghost use Rattle.page_looks.specs.inside.Numbering.{PushesTexts, BeginsNode, NumbersNode, NumbersParts};
 
 use crate::seeing::{is_covered, is_seen};
-use crate::tables::{KeyTable, TextTable, few, key_number, text_number};
-use crate::telling::{Telling, told_of};
+use crate::shapes::{Shapes, begin_key, count_told, push_text};
+use crate::tables::key_number;
+use crate::telling::{Telling, push_telling};
 use page_tree::{NoMemory, Page};
 use std::alloc::Global;
 use std::borrow::CowStr;
-use std::hash::RandomState;
-
-/// The texts of pages, and the keys of the looks on them, each kept once.
-#[derive(Drop)]
-pub(crate) struct Shapes<'p> {
-    pub texts: TextTable<'p>,
-    pub keys: KeyTable,
-}
-
-impl<'p> Shapes<'p> {
-    /// None yet. They are hashed by these keys.
-    pub(crate) fn new(alloc: Global, keys: RandomState) -> Shapes<'p>
-        ensures texts { result.texts ≡ [] }
-        ensures keys { result.keys ≡ [] }
-    {
-        Shapes {
-            texts: TextTable::new(alloc, keys),
-            keys: KeyTable::new(alloc, keys),
-        }
-    }
-}
-
-// Pushes the number of a text.
-fn push_text<'p>(
-    below: &Shapes<'_>,
-    own: &mut Shapes<'p>,
-    key: &mut Vec<u32>,
-    text: CowStr<'p, Global>,
-) -> Result<(), NoMemory>
-    ensures { OnOk result (PushesTexts below.now own.old own.new key.old.items key.new.items
-        (cow_str_bytes text.entry ∷ [])) }
-{
-    let number = text_number(&below.texts, &mut own.texts, text)?;
-    key.push(number)?;
-    Ok(())
-}
-
-// Pushes the numbers of the names and values of what is told.
-fn push_told<'p>(
-    below: &Shapes<'_>,
-    own: &mut Shapes<'p>,
-    key: &mut Vec<u32>,
-    told: &[(CowStr<'p, Global>, CowStr<'p, Global>)],
-) -> Result<(), NoMemory>
-    ensures { OnOk result (PushesTexts below.now own.old own.new key.old.items key.new.items
-        (told_texts (told_seen told.now))) }
-{
-    for pair in told {
-        push_text(below, own, key, pair.0.clone()?)?;
-        push_text(below, own, key, pair.1.clone()?)?;
-    }
-    Ok(())
-}
 
 // The key of the text with that number.
 fn words_key<'p>(
@@ -102,30 +49,14 @@ fn element_key<'p>(
 ) -> Result<Vec<u32>, NoMemory>
     requires there { number < nodes page.now }
     requires name { name_at (place_numbered number page.now) page.now ≡ Some name.now }
+    requires ready { IsReady telling.now (below.now.texts ++ own.old.texts) page.now }
     ensures { IfOk result (λ key. BeginsNode (told_by telling.now) below.now own.old own.new key.items
         (element name.now (attributes_at (place_numbered number page.now) page.now)
         (children_at (place_numbered number page.now) page.now))) }
 {
-    let told = told_of(alloc, page, number, name, telling)?;
-    let key = told_key(alloc, name, told.as_slice(), below, own)?;
-    Ok(key)
-}
-
-/// How the key of an element of that name begins, of which that is told.
-pub(crate) fn told_key<'p>(
-    alloc: Global,
-    name: &'p str,
-    told: &[(CowStr<'p, Global>, CowStr<'p, Global>)],
-    below: &Shapes<'_>,
-    own: &mut Shapes<'p>,
-) -> Result<Vec<u32>, NoMemory>
-    ensures { IfOk result (λ key. PushesTexts below.now own.old own.new (suc (length (told_seen told.now)) ∷ []) key.items
-        (name.now ∷ told_texts (told_seen told.now))) }
-{
-    let mut key = Vec::new(alloc);
-    key.push(few(told.len() + 1)?)?;
-    push_text(below, own, &mut key, CowStr::Borrowed(name))?;
-    push_told(below, own, &mut key, told)?;
+    let mut key = begin_key(alloc, name, below, own)?;
+    push_telling(alloc, page, number, name, telling, below, own, &mut key)?;
+    count_told(&mut key)?;
     Ok(key)
 }
 
@@ -138,7 +69,8 @@ fn own_key<'p>(
     below: &Shapes<'_>,
     own: &mut Shapes<'p>,
 ) -> Result<Vec<u32>, NoMemory>
-    requires { number < nodes page.now }
+    requires there { number < nodes page.now }
+    requires ready { IsReady telling.now (below.now.texts ++ own.old.texts) page.now }
     ensures { IfOk result (λ key. (m : Tree) → node_at (place_numbered number page.now) page.now ≡ Some m
         → BeginsNode (told_by telling.now) below.now own.old own.new key.items m) }
 {
@@ -166,12 +98,14 @@ pub(crate) fn number_node<'p>(
     seen: &mut Vec<u32>,
     looks: &mut Vec<u32>,
 ) -> Result<u32, NoMemory>
-    requires { number < nodes page.now }
+    requires there { number < nodes page.now }
+    requires ready { IsReady telling.now (below.now.texts ++ own.old.texts) page.now }
     ensures seen { OnOk result ((m : Tree) → node_at (place_numbered number page.now) page.now ≡ Some m
         → seen.new.items ≡ seen.old.items ++ seen_from number m) }
     ensures looks { IfOk result (λ n. (m : Tree) → node_at (place_numbered number page.now) page.now ≡ Some m
         → NumbersNode (told_by telling.now) below.now own.old own.new looks.old.items looks.new.items n m) }
     ensures longer { OnOk result (length looks.old.items ≤ length looks.new.items) }
+    ensures ready { OnOk result (IsReady telling.now (below.now.texts ++ own.new.texts) page.now) }
 {
     let mut key = own_key(alloc, page, number, telling, below, own)?;
     let rank = looks.len();
@@ -198,13 +132,15 @@ fn number_child<'p>(
     looks: &mut Vec<u32>,
     key: &mut Vec<u32>,
 ) -> Result<(), NoMemory>
-    requires { child < nodes page.now }
+    requires there { child < nodes page.now }
+    requires ready { IsReady telling.now (below.now.texts ++ own.old.texts) page.now }
     ensures seen { OnOk result ((m : Tree) → node_at (place_numbered child page.now) page.now ≡ Some m
         → seen.new.items ≡ seen.old.items ++ seen_in child (tree m no_trees)) }
     ensures looks { OnOk result ((m : Tree) → node_at (place_numbered child page.now) page.now ≡ Some m
         → NumbersParts below.now own.old own.new looks.old.items looks.new.items key.old.items key.new.items
         (outlines (told_by telling.now) (tree m no_trees))) }
     ensures longer { OnOk result (length looks.old.items ≤ length looks.new.items) }
+    ensures ready { OnOk result (IsReady telling.now (below.now.texts ++ own.new.texts) page.now) }
 {
     if is_seen(page, child)? {
         let part = number_node(alloc, page, child, telling, below, own, seen, looks)?;
@@ -226,13 +162,15 @@ fn number_parts<'p>(
     looks: &mut Vec<u32>,
     key: &mut Vec<u32>,
 ) -> Result<(), NoMemory>
-    requires { number < nodes page.now }
+    requires there { number < nodes page.now }
+    requires ready { IsReady telling.now (below.now.texts ++ own.old.texts) page.now }
     ensures seen { OnOk result ((m : Tree) → node_at (place_numbered number page.now) page.now ≡ Some m
         → seen.new.items ≡ seen.old.items ++ seen_in (suc number) (open_children m)) }
     ensures looks { OnOk result ((m : Tree) → node_at (place_numbered number page.now) page.now ≡ Some m
         → NumbersParts below.now own.old own.new looks.old.items looks.new.items key.old.items key.new.items
         (outlines (told_by telling.now) (open_children m))) }
     ensures longer { OnOk result (length looks.old.items ≤ length looks.new.items) }
+    ensures ready { OnOk result (IsReady telling.now (below.now.texts ++ own.new.texts) page.now) }
 {
     if is_covered(page, number) {
         return Ok(());

@@ -26,10 +26,19 @@ pub(crate) fn is_seen(page: &Page, number: u32) -> Result<bool, NoMemory>
             Ok(!is_blank(text.as_str()))
         }
         Some(name) => {
-            let hidden = name == "input" && is_hidden(page.attribute_of(number, "type"));
-            Ok(!is_unseen_name(name) && !hidden)
+            let seen = is_seen_element(page, number, name);
+            Ok(seen)
         }
     }
+}
+
+/// The same of the element with that number, which has that name.
+pub(crate) fn is_seen_element(page: &Page, number: u32, name: &str) -> bool
+    ensures { result ≡ is_seen
+        (element name.now (attributes_at (place_numbered number page.now) page.now) no_trees) }
+{
+    let hidden = name == "input" && is_hidden(page.attribute_of(number, "type"));
+    !is_unseen_name(name) && !hidden
 }
 
 fn is_blank(text: &str) -> bool

@@ -1,23 +1,24 @@
 //! What the nodes of a page send, by numbers.
-ghost use Rattle.std.specs.Prelude.{ℕ, List, ◌≡◌, ◌<◌, ◌==◌, false, if◌then◌else◌, length, set, unwrap_or, IfOk, slice_get};
+ghost use Rattle.std.specs.Prelude.{ℕ, List, ◌++◌, ◌≡◌, ◌<◌, ◌==◌, false, if◌then◌else◌, length, set, unwrap_or, IfOk, OnOk, slice_get};
 ghost use Rattle.page_tree.specs.Tree.{Tree};
 ghost use Rattle.page_tree.specs.Limits.{nodes};
 ghost use Rattle.page_tree.specs.Number.{place_numbered};
 ghost use Rattle.page_looks.specs.Counterpart.{sent_at};
-ghost use Rattle.page_looks.specs.inside.Told.{told_seen};
+ghost use Rattle.page_looks.specs.inside.InForms.{AreInForms};
+ghost use Rattle.page_looks.specs.inside.Shapes.{told_texts};
 ghost use Rattle.page_looks.specs.inside.Ranks.{AreFirst, IsRanked};
-ghost use Rattle.page_looks.specs.inside.Numbering.{KnowsAll};
+ghost use Rattle.page_looks.specs.inside.Numbering.{KnowsAll, PushesTexts};
 ghost use Rattle.page_looks.specs.inside.Sends.{leaf_at, is_true, AreEven, NumbersLeaf, NumbersLeaves};
 ghost use Rattle.page_looks.specs.inside.Kept.{SendsPage};
 
-use crate::numbering::{Shapes, number_node, told_key};
+use crate::in_forms::{InForm, nodes_in_forms};
+use crate::numbering::number_node;
 use crate::ranks::{Ranked, number_at};
-use crate::sending::sent_of;
+use crate::shapes::{Shapes, begin_key, count_told};
 use crate::tables::key_number;
-use crate::telling::Telling;
+use crate::telling::{Telling, push_sent};
 use page_tree::{NoMemory, Page, Text};
 use std::alloc::Global;
-use std::borrow::CowStr;
 
 /// Equal numbers are those of what sends the same.
 #[derive(Drop)]
@@ -70,10 +71,13 @@ pub(crate) fn numbered_sends<'p>(
 {
     let mut nodes = Vec::new(alloc);
     let mut all = Vec::new(alloc);
-    let telling = Telling::Sent(fresh);
+    let nodes_there = nodes_in_forms(alloc, page, fresh, below, own)?;
+    let in_forms = nodes_there.as_slice();
+    let telling = Telling::Sent(fresh, in_forms);
     let _root = number_node(alloc, page, 0, &telling, below, own, &mut nodes, &mut all)?;
-    let owns = leaf_numbers(alloc, page, fresh, below, own)?;
-    let nothing = leaf_number(alloc, page, page.node_count(), fresh, below, own)?;
+    let owns = leaf_numbers(alloc, page, fresh, in_forms, below, own)?;
+    let past = page.node_count();
+    let nothing = leaf_number(alloc, page, past, fresh, in_forms, below, own)?;
     let even = even_looks(
         alloc,
         ranked.looks.as_slice(),
@@ -93,15 +97,18 @@ fn leaf_numbers<'p>(
     alloc: Global,
     page: &'p Page,
     fresh: &[Text],
+    in_forms: &[InForm],
     below: &Shapes<'_>,
     own: &mut Shapes<'p>,
 ) -> Result<Vec<u32>, NoMemory>
-    ensures { IfOk result (λ numbers. NumbersLeaves below.now own.old own.new numbers.items fresh.now page.now
+    requires { AreInForms (below.now.texts ++ own.old.texts) fresh.now page.now in_forms.now }
+    ensures leaves { IfOk result (λ numbers. NumbersLeaves below.now own.old own.new numbers.items fresh.now page.now
         (nodes page.now)) }
+    ensures in_forms { OnOk result (AreInForms (below.now.texts ++ own.new.texts) fresh.now page.now in_forms.now) }
 {
     let mut numbers = Vec::new(alloc);
     for number in 0..page.node_count() {
-        let own_one = leaf_number(alloc, page, number, fresh, below, own)?;
+        let own_one = leaf_number(alloc, page, number, fresh, in_forms, below, own)?;
         numbers.push(own_one)?;
     }
     Ok(numbers)
@@ -113,33 +120,42 @@ fn leaf_number<'p>(
     page: &'p Page,
     number: u32,
     fresh: &[Text],
+    in_forms: &[InForm],
     below: &Shapes<'_>,
     own: &mut Shapes<'p>,
 ) -> Result<u32, NoMemory>
-    ensures { IfOk result (λ n. NumbersLeaf below.now own.old own.new n (leaf_at fresh.now page.now number)) }
+    requires { AreInForms (below.now.texts ++ own.old.texts) fresh.now page.now in_forms.now }
+    ensures leaf { IfOk result (λ n. NumbersLeaf below.now own.old own.new n (leaf_at fresh.now page.now number)) }
+    ensures in_forms { OnOk result (AreInForms (below.now.texts ++ own.new.texts) fresh.now page.now in_forms.now) }
 {
-    let told = told_by_itself(alloc, page, number, fresh)?;
-    let key = told_key(alloc, "", told.as_slice(), below, own)?;
+    let mut key = begin_key(alloc, "", below, own)?;
+    push_leaf(alloc, page, number, fresh, in_forms, below, own, &mut key)?;
+    count_told(&mut key)?;
     let leaf = key_number(&below.keys, &mut own.keys, key)?;
     Ok(leaf)
 }
 
-// What the node with that number sends by itself; a text sends nothing.
+// Pushes the numbers of the texts of what the node with that number sends by itself; a text sends nothing.
 #[tactic(auto, using(crate::proofs::SentLaws::named_there, crate::proofs::SentLaws::text_sends, crate::proofs::SentLaws::element_sends))]
-fn told_by_itself<'p>(
+fn push_leaf<'p>(
     alloc: Global,
     page: &'p Page,
     number: u32,
     fresh: &[Text],
-) -> Result<Vec<(CowStr<'p, Global>, CowStr<'p, Global>)>, NoMemory>
-    ensures { IfOk result (λ told. told_seen told.items
-        ≡ sent_at fresh.now page.now (place_numbered number page.now)) }
+    in_forms: &[InForm],
+    below: &Shapes<'_>,
+    own: &mut Shapes<'p>,
+    key: &mut Vec<u32>,
+) -> Result<(), NoMemory>
+    requires { AreInForms (below.now.texts ++ own.old.texts) fresh.now page.now in_forms.now }
+    ensures { OnOk result (PushesTexts below.now own.old own.new key.old.items key.new.items
+        (told_texts (sent_at fresh.now page.now (place_numbered number page.now)))) }
 {
     match page.name_of(number) {
-        None => Ok(Vec::new(alloc)),
+        None => Ok(()),
         Some(name) => {
-            let told = sent_of(alloc, page, number, name, fresh)?;
-            Ok(told)
+            push_sent(alloc, page, number, name, fresh, in_forms, below, own, key)?;
+            Ok(())
         }
     }
 }

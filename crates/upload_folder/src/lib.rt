@@ -8,6 +8,7 @@ mod clients;
 mod folder;
 mod held;
 mod letting_go;
+mod round;
 mod slot;
 mod slots;
 mod taking;

@@ -6,6 +6,8 @@ use upload_files::FileFault;
 pub enum Untold {
     /// The file is still being read, or too many are in use: whoever asks is to come again.
     Busy,
+    /// The system lets no more files be open.
+    Crowded,
     /// An allocation was refused.
     NoMemory,
     /// There is no room on the disk, or for one more client.
@@ -22,6 +24,7 @@ impl Untold {
     pub(crate) fn of(fault: FileFault) -> Untold {
         match fault {
             FileFault::Full => Untold::Full,
+            FileFault::Crowded => Untold::Crowded,
             FileFault::Failed => Untold::Failed,
         }
     }

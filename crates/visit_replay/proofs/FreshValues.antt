@@ -144,13 +144,13 @@ module _ (fresh : List (List ℕ)) (start query : List ℕ) (no_mark : All (λ b
       ap (λ (b : Bool). if b then before_first (λ c. c == 63) address ++ query_text (kept_pairs fresh (drop (position_or_len (λ c. c == 63) address + 1) address)) else address) (is_marked start query)
       ∙ ap₂ (λ a b. a ++ query_text (kept_pairs fresh b)) (split_once_before_at 63 start query no_mark) (split_once_after_at 63 start query no_mark)
 
-  what_counts_is : without_fresh fresh (start ++ codes "?" ++ query) ≡ start ++ query_text (kept_pairs fresh query)
+  pub what_counts_is : without_fresh fresh (start ++ codes "?" ++ query) ≡ start ++ query_text (kept_pairs fresh query)
   what_counts_is =
       ap (without_fresh fresh) (append_assoc start (63 ∷ []) query)
       ∙ ap₂ (λ a b. unmarked_without fresh a ++ b) (split_once_before_none 35 address no_fragment) (nothing_left address no_fragment)
       ∙ append-nil (unmarked_without fresh address) ∙ unmarked
 
-front_is : (P : ℕ → Type 0) (p : ℕ → Bool) → ((b : ℕ) → p b ≡ false → P b) → (xs : List ℕ) → All P (before_first p xs)
+pub front_is : (P : ℕ → Type 0) (p : ℕ → Bool) → ((b : ℕ) → p b ≡ false → P b) → (xs : List ℕ) → All P (before_first p xs)
 front_is P p are [] = All-nil P
 front_is P p are (x ∷ xs) = subst (All P) (sym (before_first-cons p x xs)) (here (p x) refl (front_is P p are xs))
   where

@@ -1,6 +1,6 @@
 -- What is left of a text behind its front, and when a text is that of pairs.
-use Rattle.std.proofs.Common.{◌≡◌, ◌≢◌, ℕ, ◌+◌, ◌-◌, ◌<◌, ◌≤◌, ◌==◌, List, [], ◌∷◌, ◌++◌, length, Bool, true, false, ◌&&◌, if◌then◌else◌, Option, Some, None, option_map, MatchOption, Bor, inl, inr, refl, sym, ap, ap₂, ◌∙◌, append_assoc, append-nil, length-append, eq-eqb, lt-ltb, arith}
-use Rattle.std.specs.List.{cons_option, filter_map, range_with_len}
+use Rattle.std.proofs.Common.{◌≡◌, ◌≢◌, ℕ, ◌+◌, ◌<◌, ◌≤◌, ◌==◌, List, [], ◌∷◌, ◌++◌, length, drop, get_or, Bool, true, false, ◌&&◌, if◌then◌else◌, Option, Some, None, option_map, MatchOption, Bor, inl, inr, refl, sym, ap, ap₂, ◌∙◌, append_assoc, append-nil, length-append, eq-eqb, lt-ltb, arith}
+use Rattle.std.specs.List.{cons_option}
 use Rattle.std.specs.Option.{option_map_or}
 use Rattle.std.specs.Str.{bytes_eq}
 use Rattle.std.proofs.lemmas.Bool.Decides.{eqb_tells}
@@ -8,7 +8,11 @@ use Rattle.form_urlencoded.specs.Form.{append_pair, byte_serialize, extend_pairs
 use Rattle.form_urlencoded.specs.Percent.{percent_encode_byte}
 use Rattle.visit_replay.specs.Form.{Pair}
 use Rattle.visit_replay.specs.inside.FieldsNow.{left_behind}
-use Rattle.visit_replay.proofs.OneNumberMore.{pairs_from}
+use Rattle.visit_replay.specs.inside.FieldsNow.{pair_now}
+use Rattle.visit_replay.specs.inside.Senders.{sent_all}
+use Rattle.visit_replay.specs.declared.forms.Filled.{Filled}
+use Rattle.visit_replay.specs.declared.senders.Sender.{Sender}
+use Rattle.visit_replay.proofs.OneSenderMore.{sent_from}
 
 -- ---- a front and what is behind it
 
@@ -82,6 +86,9 @@ eq_behind front more text rest is = eq_front front more text ∙ ap (λ o. optio
 pub not_eq : (front more text : List ℕ) → None ≡ left_behind front text → bytes_eq (front ++ more) text ≡ false
 not_eq front more text is = eq_front front more text ∙ ap (λ o. option_map_or (bytes_eq more) o false) (sym is)
 
+pub eq_both : (front x y : List ℕ) → bytes_eq (front ++ x) (front ++ y) ≡ bytes_eq x y
+eq_both front x y = eq_front front x (front ++ y) ∙ ap (λ o. option_map_or (bytes_eq x) o false) (behind_front front y)
+
 -- ---- a word as it is encoded
 
 byte_long : (b : ℕ) → 0 < length (serialize_byte b)
@@ -138,20 +145,21 @@ extends form (pair ∷ pairs) =
 pub joined_first : (pairs : List Pair) → joined [] pairs ≡ extend_pairs [] pairs
 joined_first pairs = sym (extends [] pairs)
 
--- ---- of the numbers from i on
+-- ---- of the senders from the i-th on
 
-module _ (pair : ℕ → Option Pair) (mark rest : List ℕ) (i end : ℕ) (below : i < end) where
-  next_is : (o : Option Pair) → o ≡ pair i → bytes_eq (joined mark (filter_map pair (range_with_len i (end - i)))) rest ≡ bytes_eq (joined mark (cons_option o (filter_map pair (range_with_len (i + 1) (end - (i + 1)))))) rest
-  next_is o is = ap (λ pairs. bytes_eq (joined mark pairs) rest) (pairs_from pair i end below ∙ ap (λ x. cons_option x (filter_map pair (range_with_len (i + 1) (end - (i + 1))))) (sym is))
+module _ (filled : Filled) (senders : List Sender) (mark rest : List ℕ) (i : ℕ) (sender : Sender) (below : i < length senders) (here : sender ≡ get_or senders i sender) where
+  abbrev behind : List Pair
+  behind = sent_all filled (drop (i + 1) senders)
 
-  pub none_here : None ≡ pair i → bytes_eq (joined mark (filter_map pair (range_with_len (i + 1) (end - (i + 1))))) rest ≡ bytes_eq (joined mark (filter_map pair (range_with_len i (end - i)))) rest
+  next_is : (o : Option Pair) → o ≡ pair_now filled sender.number → bytes_eq (joined mark (sent_all filled (drop i senders))) rest ≡ bytes_eq (joined mark (cons_option o behind)) rest
+  next_is o is = ap (λ pairs. bytes_eq (joined mark pairs) rest) (sent_from filled senders i sender below here ∙ ap (λ x. cons_option x behind) (sym is))
+
+  pub none_here : None ≡ pair_now filled sender.number → bytes_eq (joined mark behind) rest ≡ bytes_eq (joined mark (sent_all filled (drop i senders))) rest
   none_here is = sym (next_is None is)
 
-  pub met_here : (one : Pair) (left : List ℕ) → Some one ≡ pair i → Some left ≡ left_behind (mark ++ serialize_pair one) rest
-      → bytes_eq (joined (38 ∷ []) (filter_map pair (range_with_len (i + 1) (end - (i + 1))))) left ≡ bytes_eq (joined mark (filter_map pair (range_with_len i (end - i)))) rest
-  met_here one left is met =
-      sym (next_is (Some one) is ∙ eq_behind (mark ++ serialize_pair one) (joined (38 ∷ []) (filter_map pair (range_with_len (i + 1) (end - (i + 1))))) rest left met)
+  pub met_here : (one : Pair) (left : List ℕ) → Some one ≡ pair_now filled sender.number → Some left ≡ left_behind (mark ++ serialize_pair one) rest
+      → bytes_eq (joined (38 ∷ []) behind) left ≡ bytes_eq (joined mark (sent_all filled (drop i senders))) rest
+  met_here one left is met = sym (next_is (Some one) is ∙ eq_behind (mark ++ serialize_pair one) (joined (38 ∷ []) behind) rest left met)
 
-  pub differs_here : (one : Pair) → Some one ≡ pair i → None ≡ left_behind (mark ++ serialize_pair one) rest → false ≡ bytes_eq (joined mark (filter_map pair (range_with_len i (end - i)))) rest
-  differs_here one is other =
-      sym (next_is (Some one) is ∙ not_eq (mark ++ serialize_pair one) (joined (38 ∷ []) (filter_map pair (range_with_len (i + 1) (end - (i + 1))))) rest other)
+  pub differs_here : (one : Pair) → Some one ≡ pair_now filled sender.number → None ≡ left_behind (mark ++ serialize_pair one) rest → false ≡ bytes_eq (joined mark (sent_all filled (drop i senders))) rest
+  differs_here one is other = sym (next_is (Some one) is ∙ not_eq (mark ++ serialize_pair one) (joined (38 ∷ []) behind) rest other)

@@ -1,7 +1,7 @@
 pub mod Cut
 pub mod FieldsStandForEvents
 pub mod Numbered
-pub mod OneNumberMore
+pub mod OneSenderMore
 pub mod Overlay
 pub mod Sorting
 pub mod Stepping
@@ -19,3 +19,4 @@ pub mod Places
 pub mod Straying
 pub mod BesideRequests
 pub mod FreshValues
+pub mod QueriesBeside

@@ -1,6 +1,8 @@
 pub mod FieldsNow
 pub mod KeptFields
 pub mod OneEvent
+pub mod Senders
+pub mod Queries
 pub mod Moves
 pub mod Families
 pub mod Differing

@@ -7,12 +7,13 @@ ghost use Rattle.page_tree.specs.Number.{place_numbered};
 ghost use Rattle.page_looks.specs.Outline.{is_one_of};
 ghost use Rattle.xpath_child.specs.Targets.{target_in, only_place};
 ghost use Rattle.visit_replay.specs.Aim.{Aim, lost, on_target, by_path, by_element, from_place, path_of, by_of, button_by_path, place_of_aim, goes_by, needs_none, is_active, is_link, asks_by_link, is_in_its_form};
-ghost use Rattle.visit_replay.specs.inside.Differing.{AreLookedUp, IsTargetOf};
+ghost use Rattle.visit_replay.specs.inside.Differing.{AreLookedUp, KnowsPaths};
 ghost use Rattle.visit_replay.specs.inside.OneEvent.{AimsAt, IsBetween, IsWithin, aimed, places_numbered};
 
 use crate::changes::{form_around, settled};
 use crate::conflicts::Located;
 use crate::counterparts::counterpart;
+use crate::known_paths::KnownPaths;
 use crate::lookups::Lookups;
 use crate::outcome::ConflictKind;
 use page_looks::Beside;
@@ -48,8 +49,8 @@ pub(crate) fn aim_at<'v>(
     }
 }
 
-/// Where its path leads.
-pub(crate) fn by_path(new: &Page, event: &Event) -> Located
+// Where its path leads.
+fn by_path(new: &Page, event: &Event) -> Located
     ensures { AimsAt new.now (by_path new.now event.now) result }
 {
     match path_of(event).find(new) {
@@ -60,13 +61,6 @@ pub(crate) fn by_path(new: &Page, event: &Event) -> Located
             button: button_of(new, event),
         },
     }
-}
-
-/// The number of the node that it leads to, if that is the only one.
-pub(crate) fn target_of(page: &Page, event: &Event) -> Option<u32>
-    ensures { IsTargetOf page.now event.now result }
-{
-    only(path_of(event), page)
 }
 
 /// The path of its target.
@@ -80,8 +74,8 @@ pub(crate) fn path_of(event: &Event) -> &Path
     }
 }
 
-/// The button that was pressed, if its path selects one node.
-pub(crate) fn button_of(page: &Page, event: &Event) -> Option<u32>
+// The button that was pressed, if its path selects one node.
+fn button_of(page: &Page, event: &Event) -> Option<u32>
     ensures within { IsWithin result page.now }
     ensures place { places_numbered result page.now ≡ button_by_path page.now (by_of event.now) }
 {
@@ -146,12 +140,12 @@ fn why_not_one(path: &Path, page: &Page) -> ConflictKind
 }
 
 // The same, from the node that it goes by.
-fn from_node(
+fn from_node<'v>(
     alloc: Global,
     beside: &Beside<'_>,
-    event: &Event,
+    event: &'v Event,
     number: u32,
-    lookups: &mut Lookups<'_, '_>,
+    lookups: &mut Lookups<'v, '_>,
 ) -> Result<Located, NoMemory>
     requires there { number < nodes beside.now.old }
     requires known { AreLookedUp beside.now.old beside.now.new lookups.old }
@@ -160,7 +154,7 @@ fn from_node(
     ensures known { OnOk result (AreLookedUp beside.now.old beside.now.new lookups.new) }
 {
     let old = beside.recorded_page();
-    if !is_in_its_form(old, event, number) {
+    if !is_in_its_form(old, event, number, &mut lookups.paths)? {
         return Ok(Located::Bad(ConflictKind::NotAForm));
     }
     if needs_none(old, event, number) {
@@ -176,9 +170,16 @@ fn from_node(
 // ---- on one page
 
 // Whether the event's target is the form around the button that was pressed.
-fn is_in_its_form(old: &Page, event: &Event, place: u32) -> bool
-    requires { place < nodes old.now }
-    ensures { result ≡ is_in_its_form old.now event.now (place_numbered place old.now) }
+fn is_in_its_form<'v>(
+    old: &Page,
+    event: &'v Event,
+    place: u32,
+    paths: &mut KnownPaths<'v>,
+) -> Result<bool, NoMemory>
+    requires there { place < nodes old.now }
+    requires known { KnowsPaths old.now paths.old.paths.items }
+    ensures is { IfOk result (λ is. is ≡ is_in_its_form old.now event.now (place_numbered place old.now)) }
+    ensures known { OnOk result (KnowsPaths old.now paths.new.paths.items) }
 {
     match event {
         Event::Submit {
@@ -186,22 +187,29 @@ fn is_in_its_form(old: &Page, event: &Event, place: u32) -> bool
             by: Some(_),
             ..
         } => match form_around(old, place) {
-            Some(form) => is_only(target, old, form),
-            None => false,
+            Some(form) => is_only(target, old, form, paths),
+            None => Ok(false),
         },
-        _ => true,
+        _ => Ok(true),
     }
 }
 
 // Whether the path selects that node alone.
-fn is_only(path: &Path, page: &Page, number: u32) -> bool
-    requires { number < nodes page.now }
-    ensures { result ≡ option_map_or (bytes_eq (place_numbered number page.now))
-        (only_place (target_in path.now page.now)) false }
+fn is_only<'v>(
+    path: &'v Path,
+    page: &Page,
+    number: u32,
+    paths: &mut KnownPaths<'v>,
+) -> Result<bool, NoMemory>
+    requires there { number < nodes page.now }
+    requires known { KnowsPaths page.now paths.old.paths.items }
+    ensures only { IfOk result (λ is. is ≡ option_map_or (bytes_eq (place_numbered number page.now))
+        (only_place (target_in path.now page.now)) false) }
+    ensures known { OnOk result (KnowsPaths page.now paths.new.paths.items) }
 {
-    match only(path, page) {
-        Some(found) => number == found,
-        None => false,
+    match paths.only(page, path)? {
+        Some(found) => Ok(number == found),
+        None => Ok(false),
     }
 }
 

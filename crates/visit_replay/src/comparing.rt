@@ -1,32 +1,28 @@
 //! Whether an address is the one that a form sends to. It is compared with the form's pairs as these come, up to the first byte that differs: no text of
 //! them is made.
-ghost use Rattle.std.specs.Prelude.{◌≡◌, ◌<◌, [], ◌++◌, IfOk, option_map, codes};
+ghost use Rattle.std.specs.Prelude.{◌≡◌, [], ◌++◌, All, option_map, codes};
 ghost use Rattle.std.specs.Str.{bytes_eq};
 ghost use Rattle.form_urlencoded.specs.Form.{byte_serialize, extend_pairs, serialize_pair};
-ghost use Rattle.page_tree.specs.Limits.{nodes};
-ghost use Rattle.visit_replay.specs.inside.OneEvent.{IsWithin};
-ghost use Rattle.visit_replay.specs.inside.FieldsNow.{OfSent, left_behind, pair_of, pairs_now};
+ghost use Rattle.visit_replay.specs.inside.FieldsNow.{left_behind, pair_of};
+ghost use Rattle.visit_replay.specs.inside.Senders.{IsSender, sent_all};
 
 use crate::forms::{Filled, SentPair, sent_by};
+use crate::senders::Sender;
 use form_urlencoded::byte_serialize;
-use page_tree::NoMemory;
-use std::ops::Range;
 
-/// Whether the address is that start, a `?` and the form's pairs.
+/// Whether the address is that start, a `?` and the pairs of a form whose senders these are.
 pub(crate) fn is_sent_to(
     filled: &Filled<'_, '_>,
-    form: u32,
+    senders: &[Sender<'_>],
     start: &str,
     address: &str,
-) -> Result<bool, NoMemory>
-    requires there { form < nodes filled.now.page.now }
-    requires button { IsWithin filled.now.button filled.now.page.now }
-    ensures { IfOk result (λ same. OfSent filled.now form
-        (λ pairs. same ≡ bytes_eq (start.now ++ codes "?" ++ extend_pairs [] pairs) address.now)) }
+) -> bool
+    requires { All (IsSender filled.now.page.now) senders.now }
+    ensures { result ≡ bytes_eq (start.now ++ codes "?" ++ extend_pairs [] (sent_all filled.now senders.now)) address.now }
 {
     match query_behind(start, address) {
-        Some(query) => are_pairs(filled, filled.page.nodes_under(form), query),
-        None => Ok(false),
+        Some(query) => are_pairs(filled, senders, query),
+        None => false,
     }
 }
 
@@ -38,24 +34,24 @@ fn query_behind<'t>(start: &str, address: &'t str) -> Option<&'t [u8]>
     behind("?", rest)
 }
 
-// Whether the text is what the nodes with those numbers send.
-fn are_pairs(filled: &Filled<'_, '_>, numbers: Range<u32>, text: &[u8]) -> Result<bool, NoMemory>
-    ensures { IfOk result (λ same. same
-        ≡ bytes_eq (extend_pairs [] (pairs_now filled.now numbers.start numbers.end)) text.now) }
+// Whether the text is what these send.
+fn are_pairs<'a>(filled: &Filled<'a, '_>, senders: &'a [Sender<'_>], text: &[u8]) -> bool
+    requires { All (IsSender filled.now.page.now) senders.now }
+    ensures { result ≡ bytes_eq (extend_pairs [] (sent_all filled.now senders.now)) text.now }
 {
     let mut mark = "";
     let mut rest = text;
-    for number in numbers.start..numbers.end {
-        let Some(sent) = sent_by(filled, number)? else {
+    for sender in senders {
+        let Some(sent) = sent_by(filled, sender) else {
             continue;
         };
         let Some(left) = pair_behind(mark, &sent, rest) else {
-            return Ok(false);
+            return false;
         };
         mark = "&";
         rest = left;
     }
-    Ok(rest.is_empty())
+    rest.is_empty()
 }
 
 // ---- what is left of a text; none where it begins otherwise
@@ -68,7 +64,7 @@ fn pair_behind<'t>(mark: &str, sent: &SentPair<'_>, text: &'t [u8]) -> Option<&'
     let name = behind(mark, text)?;
     let equals = word_behind(sent.name, name)?;
     let value = behind("=", equals)?;
-    word_behind(sent.value.as_str(), value)
+    word_behind(sent.value, value)
 }
 
 // Behind the word as it is encoded. Each byte of it is written by one at least, so a word that is longer than the text isn't looked at.

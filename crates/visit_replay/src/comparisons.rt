@@ -5,7 +5,8 @@ ghost use Rattle.page_looks.specs.Sending.{without_fresh};
 ghost use Rattle.visit_replay.specs.Difference.{are_alike};
 ghost use Rattle.visit_replay.specs.inside.Differing.{AreCompared, KnowsTexts};
 
-use crate::requests::{Request, differ, with_query};
+use crate::fresh_queries::differ;
+use crate::requests::{Request, with_query};
 use page_tree::{NoMemory, Text};
 use std::alloc::Global;
 

@@ -8,12 +8,13 @@ ghost use Rattle.visit_replay.specs.Aim.{Aim, by_path};
 ghost use Rattle.visit_replay.specs.Difference.{difference, was_asked, was_other, asks_now};
 ghost use Rattle.visit_replay.specs.declared.difference.Contrast.TheVariants.{Changed};
 ghost use Rattle.visit_replay.specs.declared.requests.Request.{Request as PlainRequest};
-ghost use Rattle.visit_replay.specs.inside.Differing.{AreCompared, AreLookedUp, HasOnly, KnowsInputs, HasNumbered, IsTargetOf, asked_there};
+ghost use Rattle.visit_replay.specs.inside.Differing.{AreCompared, AreLookedUp, HasOnly, KnowsInputs, KnowsOwn, HasNumbered, IsTargetOf, asked_there};
 ghost use Rattle.visit_replay.specs.inside.FieldsNow.{IsButFor};
 ghost use Rattle.visit_replay.specs.inside.KeptFields.{Keeps, TakesIn};
 ghost use Rattle.visit_replay.specs.inside.OneEvent.{AimsAt, IsBetween, aimed};
+ghost use Rattle.visit_replay.specs.inside.Senders.{KnowsForms};
 
-use crate::aims::{Aiming, aim_at, button_of, target_of};
+use crate::aims::{Aiming, aim_at};
 use crate::comparisons::Comparisons;
 use crate::conflicts::Located;
 use crate::difference::{Contrast, Difference, Former};
@@ -21,11 +22,12 @@ use crate::fields::Fields;
 use crate::finding::Finding;
 use crate::forms::Filled;
 use crate::kept_requests::{is_other, kept_of, only_by_number};
+use crate::known_forms::KnownForms;
 use crate::known_inputs::KnownInputs;
-use crate::known_paths::KnownPaths;
 use crate::lookups::Lookups;
 use crate::moving::{fields_behind, note_at};
 use crate::outcome::{ConflictKind, Outcome};
+use crate::own_lookups::OwnLookups;
 use crate::passing::passing_over;
 use crate::repaired_page::RepairedPage;
 use crate::requests::{Request, request_at};
@@ -132,13 +134,13 @@ fn kept_by_number(
     let now = only_by_number(alloc, requests)?;
     let mut all = BTreeMap::new(alloc);
     let mut fields = Fields::new(alloc);
-    let mut paths = KnownPaths::new(alloc);
+    let mut own = OwnLookups::new(alloc, &visit.page);
     let events = visit.events.as_slice();
     for k in 0..asking_end(events) {
         let event = &events[k];
-        let target = paths.target_of(&visit.page, event)?;
+        let target = own.paths.target_of(&visit.page, event)?;
         take_in(
-            alloc, fresh, visit, &fields, k, target, &now, compared, &mut all,
+            alloc, fresh, visit, &fields, k, target, &now, compared, &mut own, &mut all,
         )?;
         note_at(&visit.page, event, target, &mut fields)?;
     }
@@ -146,26 +148,29 @@ fn kept_by_number(
 }
 
 // Takes in what one event more asked for, beside the requests that are made now. The whole of it is made only where it differs.
-fn take_in(
+fn take_in<'v>(
     alloc: Global,
     fresh: &[Text],
-    visit: &Visit,
+    visit: &'v Visit,
     fields: &Fields<'_>,
     k: usize,
     target: Option<u32>,
     now: &BTreeMap<u64, Option<&Request>>,
     compared: &mut Comparisons,
+    own: &mut OwnLookups<'v>,
     all: &mut BTreeMap<u64, Option<Request>>,
 ) -> Result<(), NoMemory>
     requires there { k < length visit.now.events }
     requires fields { Keeps (by_path visit.now.page) fields.now visit.now.page (take k visit.now.events) }
     requires target { IfSome (slice_get visit.now.events k) (λ event. IsTargetOf visit.now.page event target) }
     requires known { AreCompared fresh.now compared.old.all.items }
+    requires own { KnowsOwn visit.now.page own.old }
     ensures known { OnOk result (AreCompared fresh.now compared.new.all.items) }
+    ensures own { OnOk result (KnowsOwn visit.now.page own.new) }
     ensures kept { OnOk result ((requests : List PlainRequest) → HasOnly requests now.now
         → HasNumbered fresh.now requests visit.now k all.old → HasNumbered fresh.now requests visit.now (k + 1) all.new) }
 {
-    let Some(was) = own_request(alloc, visit, fields, k, target, fresh)? else {
+    let Some(was) = own_request(alloc, visit, fields, k, target, fresh, own)? else {
         return Ok(());
     };
     let number = was.number;
@@ -174,7 +179,7 @@ fn take_in(
     }
     let other = is_other(alloc, fresh, now, &was, compared)?;
     if other {
-        let whole = own_request(alloc, visit, fields, k, target, &[])?;
+        let whole = own_request(alloc, visit, fields, k, target, &[], own)?;
         all.insert(number, whole)?;
         return Ok(());
     }
@@ -195,18 +200,21 @@ fn asking_end(events: &[Event]) -> usize
 }
 
 // What the event with k events before it asked for at its target, by the fields as these left them; without the values of these names.
-fn own_request(
+fn own_request<'v>(
     alloc: Global,
-    visit: &Visit,
+    visit: &'v Visit,
     fields: &Fields<'_>,
     k: usize,
     target: Option<u32>,
     names: &[Text],
+    own: &mut OwnLookups<'v>,
 ) -> Result<Option<Request>, NoMemory>
     requires there { k < length visit.now.events }
     requires fields { Keeps (by_path visit.now.page) fields.now visit.now.page (take k visit.now.events) }
     requires target { IfSome (slice_get visit.now.events k) (λ event. IsTargetOf visit.now.page event target) }
-    ensures { IfOk result (λ request. IsButFor names.now request (was_asked visit.now k)) }
+    requires own { KnowsOwn visit.now.page own.old }
+    ensures request { IfOk result (λ request. IsButFor names.now request (was_asked visit.now k)) }
+    ensures own { OnOk result (KnowsOwn visit.now.page own.new) }
 {
     let event = &visit.events.as_slice()[k];
     if event.request() == 0 {
@@ -215,9 +223,10 @@ fn own_request(
     let Some(target) = target else {
         return Ok(None);
     };
-    let button = button_of(&visit.page, event);
+    let button = own.paths.button_of(&visit.page, event)?;
     let located = Located::At { target, button };
-    request_there(alloc, visit, &visit.page, fields, k, located, names)
+    let forms = &mut own.forms;
+    request_there(alloc, visit, &visit.page, fields, k, located, names, forms)
 }
 
 // That of the event which acts there on a page as it is filled in.
@@ -229,10 +238,13 @@ fn request_there(
     k: usize,
     located: Located,
     names: &[Text],
+    forms: &mut KnownForms<'_>,
 ) -> Result<Option<Request>, NoMemory>
     requires there { k < length visit.now.events }
     requires located { (here : Aim) × AimsAt page.now here located }
-    ensures { IfOk result (λ request. (aim : PlainEvent → Aim) (here : Aim) → AimsAt page.now here located
+    requires known { KnowsForms page.now forms.old }
+    ensures known { OnOk result (KnowsForms page.now forms.new) }
+    ensures request { IfOk result (λ request. (aim : PlainEvent → Aim) (here : Aim) → AimsAt page.now here located
         → Keeps aim fields.now page.now (take k visit.now.events)
         → IsButFor names.now request (asked_there aim visit.now page.now k here)) }
 {
@@ -247,7 +259,8 @@ fn request_there(
         button,
     };
     let event = &visit.events.as_slice()[k];
-    request_at(alloc, visit.address.as_str(), &filled, event, target, names)
+    let address = visit.address.as_str();
+    request_at(alloc, address, &filled, event, target, names, forms)
 }
 
 // What the request was, if that differs.
@@ -336,9 +349,10 @@ fn asked_before(alloc: Global, visit: &Visit, k: usize) -> Result<Option<Request
     if k >= events.len() {
         return Ok(None);
     }
-    let fields = fields_behind(alloc, &visit.page, events, k)?;
-    let target = target_of(&visit.page, &events[k]);
-    own_request(alloc, visit, &fields, k, target, &[])
+    let mut own = OwnLookups::new(alloc, &visit.page);
+    let fields = fields_behind(alloc, &visit.page, events, k, &mut own.paths)?;
+    let target = own.paths.target_of(&visit.page, &events[k])?;
+    own_request(alloc, visit, &fields, k, target, &[], &mut own)
 }
 
 fn asks_now(
@@ -364,10 +378,11 @@ fn asks_now(
     let located = passing_over(&beside, event);
     let aiming = Aiming::ByElement(beside);
     let new = looks.page();
-    let mut lookups = Lookups::new(alloc, &visit.page, inputs.take(alloc));
+    let mut lookups = Lookups::new(alloc, &visit.page, new, inputs.take(alloc));
     let fields = fields_beside(alloc, &aiming, visit, new, k, &mut lookups)?;
     *inputs = lookups.repaired;
-    request_there(alloc, visit, new, &fields, k, located, &[])
+    let mut forms = KnownForms::new(alloc, new);
+    request_there(alloc, visit, new, &fields, k, located, &[], &mut forms)
 }
 
 // The fields of the page that stands there now, as the first so many events left them.

@@ -1,23 +1,21 @@
 //! What a form sends.
-ghost use Rattle.std.specs.Prelude.{◌≡◌, ◌<◌, ◌==◌, [], map, false, Some, IfOk, OnOk, option_map};
+ghost use Rattle.std.specs.Prelude.{◌≡◌, ◌==◌, [], map, false, All, Some, IfOk, OnOk, option_map};
 ghost use Rattle.std.specs.List.{cons_option};
 ghost use Rattle.std.specs.Option.{option_map_or};
 ghost use Rattle.form_urlencoded.specs.Form.{append_pair, extend_pairs};
 ghost use Rattle.page_looks.specs.Outline.{is_one_of};
-ghost use Rattle.page_tree.specs.Limits.{nodes};
+ghost use Rattle.page_tree.specs.Tree.{Tree};
 ghost use Rattle.page_tree.specs.Number.{place_numbered};
-ghost use Rattle.visit_replay.specs.Form.{unless_empty, sent_name, value_or, is_post, action_of};
+ghost use Rattle.visit_replay.specs.Form.{value_or, is_post, action_of};
 ghost use Rattle.visit_replay.specs.inside.KeptFields.{text_now};
-ghost use Rattle.visit_replay.specs.inside.OneEvent.{IsWithin};
-ghost use Rattle.visit_replay.specs.inside.FieldsNow.{pair_of, pair_now, pairs_now, with_pairs, emptied, OfSent};
+ghost use Rattle.visit_replay.specs.inside.FieldsNow.{pair_of, pair_now, with_pairs, emptied};
+ghost use Rattle.visit_replay.specs.inside.Senders.{IsSender, sent_all};
 
-use crate::conflicts::is_disabled;
 use crate::fields::Fields;
+use crate::senders::{Sender, unless_empty};
 use form_urlencoded::Serializer;
 use page_tree::{Control, NoMemory, Page, Text};
 use std::alloc::Global;
-use std::borrow::CowStr;
-use std::ops::Range;
 
 /// A page as it is filled in: with what its fields hold, and the number of the button that was pressed, if any.
 #[derive(Drop)]
@@ -28,27 +26,25 @@ pub(crate) struct Filled<'a, 'v> {
 }
 
 /// What a node sends.
-#[derive(Drop)]
+#[derive(Clone, Copy)]
 pub(crate) struct SentPair<'a> {
     pub(crate) name: &'a str,
-    pub(crate) value: CowStr<'a, Global>,
+    pub(crate) value: &'a str,
 }
 
-/// The form's pairs as `application/x-www-form-urlencoded`, in one pass over the nodes under it. Those of these names have no value: a long one that doesn't
-/// count needn't be encoded.
+/// The pairs of a form whose senders these are, as `application/x-www-form-urlencoded`. Those of these names have no value: a long one that doesn't count
+/// needn't be encoded.
 pub(crate) fn encoded(
     alloc: Global,
     filled: &Filled<'_, '_>,
-    form: u32,
+    senders: &[Sender<'_>],
     names: &[Text],
 ) -> Result<Text, NoMemory>
-    requires there { form < nodes filled.now.page.now }
-    requires button { IsWithin filled.now.button filled.now.page.now }
-    ensures { IfOk result (λ text. OfSent filled.now form
-        (λ pairs. text ≡ extend_pairs [] (map (emptied names.now) pairs))) }
+    requires { All (IsSender filled.now.page.now) senders.now }
+    ensures { IfOk result (λ text. text ≡ extend_pairs [] (map (emptied names.now) (sent_all filled.now senders.now))) }
 {
     let mut pairs = Serializer::new(String::new(alloc));
-    add_pairs(&mut pairs, filled, filled.page.nodes_under(form), names)?;
+    add_pairs(&mut pairs, filled, senders, names)?;
     Ok(Text::from(pairs.finish()))
 }
 
@@ -69,48 +65,38 @@ pub(crate) fn action_of<'a>(address: &'a str, page: &'a Page, form: u32) -> &'a 
     unless_empty(page.attribute_of(form, "action")).unwrap_or(address)
 }
 
-fn unless_empty(text: Option<&str>) -> Option<&str>
-    ensures { option_map (λ text. text.now) result ≡ unless_empty (option_map (λ text. text.now) text.entry) }
-{
-    match text {
-        Some(text) if !text.is_empty() => Some(text),
-        _ => None,
-    }
-}
-
 // ---- the pairs
 
-// Adds what the nodes with those numbers send.
-fn add_pairs(
+// Adds what these send.
+fn add_pairs<'a>(
     pairs: &mut Serializer,
-    filled: &Filled<'_, '_>,
-    numbers: Range<u32>,
+    filled: &Filled<'a, '_>,
+    senders: &'a [Sender<'_>],
     names: &[Text],
 ) -> Result<(), NoMemory>
+    requires { All (IsSender filled.now.page.now) senders.now }
     ensures { OnOk result (pairs.new
-        ≡ with_pairs pairs.old (map (emptied names.now) (pairs_now filled.now numbers.start numbers.end))) }
+        ≡ with_pairs pairs.old (map (emptied names.now) (sent_all filled.now senders.now))) }
 {
-    for number in numbers.start..numbers.end {
-        add_pair(pairs, filled, number, names)?;
+    for sender in senders {
+        add_pair(pairs, filled, sender, names)?;
     }
     Ok(())
 }
 
-// Adds what the node with that number sends, if anything.
-fn add_pair(
+// Adds what one of them sends, if anything.
+fn add_pair<'a>(
     pairs: &mut Serializer,
-    filled: &Filled<'_, '_>,
-    number: u32,
+    filled: &Filled<'a, '_>,
+    sender: &'a Sender<'_>,
     names: &[Text],
 ) -> Result<(), NoMemory>
+    requires { IsSender filled.now.page.now sender.now }
     ensures { OnOk result (pairs.new
-        ≡ with_pairs pairs.old (map (emptied names.now) (cons_option (pair_now filled.now number) []))) }
+        ≡ with_pairs pairs.old (map (emptied names.now) (cons_option (pair_now filled.now sender.now.number) []))) }
 {
-    match sent_by(filled, number)? {
-        Some(sent) => {
-            let value = sent.value.as_str();
-            pairs.append_pair(sent.name, value_unless(names, sent.name, value))
-        }
+    match sent_by(filled, sender) {
+        Some(sent) => pairs.append_pair(sent.name, value_unless(names, sent.name, sent.value)),
         None => Ok(()),
     }
 }
@@ -133,68 +119,43 @@ fn is_among(names: &[Text], name: &str) -> bool
 
 // ---- one node
 
-/// What the node with that number sends, if anything.
+/// What it sends, if anything.
 #[tactic(auto, unfolding(crate::specs::Form::sent_value))]
-pub(crate) fn sent_by<'a>(
-    filled: &Filled<'a, '_>,
-    number: u32,
-) -> Result<Option<SentPair<'a>>, NoMemory>
-    ensures { IfOk result (λ sent. option_map pair_of sent ≡ pair_now filled.now number) }
+pub(crate) fn sent_by<'a>(filled: &Filled<'a, '_>, sender: &'a Sender<'_>) -> Option<SentPair<'a>>
+    requires { IsSender filled.now.page.now sender.now }
+    ensures { option_map pair_of result ≡ pair_now filled.now sender.now.number }
 {
     let page = filled.page;
-    let Some(name) = sent_name(page, number) else {
-        return Ok(None);
-    };
+    let number = sender.number;
     match page.control_of(number) {
-        Control::Text => text_sent(name, filled.fields, page, number),
+        Control::Text => Some(sent_as(sender, text_of(filled.fields, sender))),
         Control::Check if filled.fields.is_on(page, number) => {
-            Ok(Some(sent_as(name, value_or("on", page, number))))
+            Some(sent_as(sender, value_or("on", page, number)))
         }
         Control::Radio if page.start_checked_of(number) => {
-            Ok(Some(sent_as(name, value_or("on", page, number))))
+            Some(sent_as(sender, value_or("on", page, number)))
         }
         Control::Submit if is_pressed(filled.button, number) => {
-            Ok(Some(sent_as(name, value_or("", page, number))))
+            Some(sent_as(sender, value_or("", page, number)))
         }
-        _ => Ok(None),
+        _ => None,
     }
 }
 
-// The text that a text control holds now, under its name.
-fn text_sent<'a>(
-    name: &'a str,
-    fields: &'a Fields<'_>,
-    page: &'a Page,
-    number: u32,
-) -> Result<Option<SentPair<'a>>, NoMemory>
-    ensures { IfOk result (λ sent. option_map pair_of sent ≡ Some (name.now, text_now fields.now page.now number)) }
+// The text that a text control holds now.
+fn text_of<'a>(fields: &'a Fields<'_>, sender: &'a Sender<'_>) -> &'a str
+    ensures { (page : Tree) → IsSender page sender.now → result.now ≡ text_now fields.now page sender.now.number }
 {
-    match fields.text(number) {
-        Some(text) => Ok(Some(sent_as(name, text))),
-        None => match page.start_text_of(number)? {
-            Some(value) => Ok(Some(SentPair { name, value })),
-            None => Ok(Some(sent_as(name, ""))),
-        },
-    }
+    fields.text(sender.number).unwrap_or(sender.start.as_str())
 }
 
-fn sent_as<'a>(name: &'a str, value: &'a str) -> SentPair<'a>
-    ensures { pair_of result ≡ (name.now, value.now) }
+fn sent_as<'a>(sender: &'a Sender<'_>, value: &'a str) -> SentPair<'a>
+    ensures { pair_of result ≡ (sender.now.name.now, value.now) }
 {
     SentPair {
-        name,
-        value: CowStr::Borrowed(value),
+        name: sender.name,
+        value,
     }
-}
-
-// A control that is disabled, or has no name, sends nothing.
-fn sent_name(page: &Page, number: u32) -> Option<&str>
-    ensures { option_map (λ name. name.now) result ≡ sent_name (place_numbered number page.now) page.now }
-{
-    if is_disabled(page, number) {
-        return None;
-    }
-    unless_empty(page.attribute_of(number, "name"))
 }
 
 fn value_or<'a>(default: &'a str, page: &'a Page, number: u32) -> &'a str

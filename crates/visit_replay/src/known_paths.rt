@@ -1,7 +1,9 @@
 //! The paths that were looked up on a page a short while ago: most events act where one of the last few did.
-ghost use Rattle.std.specs.Prelude.{IfOk, OnOk, IfSome};
+ghost use Rattle.std.specs.Prelude.{◌≡◌, IfOk, OnOk, IfSome};
 ghost use Rattle.page_tree.specs.Tree.{Tree};
+ghost use Rattle.visit_replay.specs.Aim.{button_by_path, by_of};
 ghost use Rattle.visit_replay.specs.inside.Differing.{IsTargetOf, KnowsPaths, Selects};
+ghost use Rattle.visit_replay.specs.inside.OneEvent.{IsWithin, places_numbered};
 
 use crate::aims::{only, path_of};
 use page_tree::{NoMemory, Page};
@@ -68,6 +70,23 @@ impl<'v> KnownPaths<'v> {
         match node_of(self.paths.as_slice(), path) {
             Some(node) => node,
             None => only(path, page),
+        }
+    }
+
+    /// The button that was pressed, if its path selects one node.
+    pub(crate) fn button_of(
+        &mut self,
+        page: &Page,
+        event: &'v Event,
+    ) -> Result<Option<u32>, NoMemory>
+        requires { KnowsPaths page.now self.old.paths.items }
+        ensures known { OnOk result (KnowsPaths page.now self.new.paths.items) }
+        ensures within { IfOk result (λ button. IsWithin button page.now) }
+        ensures place { IfOk result (λ button. places_numbered button page.now ≡ button_by_path page.now (by_of event.now)) }
+    {
+        match event {
+            Event::Submit { by: Some(path), .. } => self.only(page, path),
+            _ => Ok(None),
         }
     }
 

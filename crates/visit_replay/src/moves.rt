@@ -7,7 +7,7 @@ ghost use Rattle.client_log.specs.declared.visit.Visit.{Visit};
 ghost use Rattle.visit_replay.specs.Aim.{by_path};
 ghost use Rattle.visit_replay.specs.Moved.{event_numbered, own_request, are_apart, is_moved};
 ghost use Rattle.visit_replay.specs.declared.outcome.Outcome.{Outcome};
-ghost use Rattle.visit_replay.specs.inside.Differing.{KnowsTexts};
+ghost use Rattle.visit_replay.specs.inside.Differing.{KnowsOwn, KnowsTexts};
 ghost use Rattle.visit_replay.specs.inside.KeptFields.{Keeps};
 ghost use Rattle.visit_replay.specs.inside.Moves.{IsFresh, IsRight, HasAddresses, MeetsOne, is_pending, answer_in};
 
@@ -16,6 +16,7 @@ use crate::fields::Fields;
 use crate::finding::Finding;
 use crate::moving::{goes_elsewhere, note, requests_of};
 use crate::outcome::Outcome;
+use crate::own_lookups::OwnLookups;
 use client_log::Visit;
 use page_tree::NoMemory;
 use std::alloc::{AllocError, Global};
@@ -107,6 +108,7 @@ impl Asked {
         let addresses = addresses_of(alloc, outcome)?;
         let mut fields = Fields::new(alloc);
         let mut compared = Comparisons::new(alloc);
+        let mut own = OwnLookups::new(alloc, &visit.page);
         let events = visit.events.as_slice();
         for k in 0..last_asked(events, &self.numbers) {
             meet(
@@ -117,9 +119,10 @@ impl Asked {
                 &fields,
                 &addresses,
                 &mut compared,
+                &mut own,
                 &mut self.numbers,
             )?;
-            note(&visit.page, &events[k], &mut fields)?;
+            note(&visit.page, &events[k], &mut fields, &mut own.paths)?;
         }
         self.looked = true;
         Ok(())
@@ -160,28 +163,31 @@ fn addresses_of<'a>(
 }
 
 // Finds the request of the event with k events before it, if its number is asked for and no earlier event has it.
-fn meet(
+fn meet<'v>(
     alloc: Global,
     finding: &Finding,
-    visit: &Visit,
+    visit: &'v Visit,
     k: usize,
     fields: &Fields<'_>,
     addresses: &BTreeMap<u64, &str>,
     compared: &mut Comparisons,
+    own: &mut OwnLookups<'v>,
     numbers: &mut BTreeMap<u64, Option<bool>>,
 ) -> Result<(), NoMemory>
     requires there { k < length visit.now.events }
     requires fields { Keeps (by_path visit.now.page) fields.now visit.now.page (take k visit.now.events) }
     requires known { KnowsTexts finding.now compared.old }
+    requires own { KnowsOwn visit.now.page own.old }
     ensures meets { OnOk result (MeetsOne finding.now visit.now k addresses.now numbers.old numbers.new) }
     ensures known { OnOk result (KnowsTexts finding.now compared.new) }
+    ensures own { OnOk result (KnowsOwn visit.now.page own.new) }
 {
     let number = visit.events.as_slice()[k].request();
     if !is_pending(numbers, number) {
         return Ok(());
     }
     let now = addresses.get(&number).copied();
-    let apart = is_apart(alloc, finding, visit, fields, k, now, compared)?;
+    let apart = is_apart(alloc, finding, visit, fields, k, now, compared, own)?;
     numbers.insert(number, Some(apart))?;
     Ok(())
 }
@@ -193,24 +199,27 @@ fn is_pending(numbers: &BTreeMap<u64, Option<bool>>, number: u64) -> bool
 }
 
 #[tactic(auto, using(crate::proofs::Looking::none_apart))]
-fn is_apart(
+fn is_apart<'v>(
     alloc: Global,
     finding: &Finding,
-    visit: &Visit,
+    visit: &'v Visit,
     fields: &Fields<'_>,
     k: usize,
     now: Option<&str>,
     compared: &mut Comparisons,
+    own: &mut OwnLookups<'v>,
 ) -> Result<bool, NoMemory>
     requires there { k < length visit.now.events }
     requires fields { Keeps (by_path visit.now.page) fields.now visit.now.page (take k visit.now.events) }
     requires known { KnowsTexts finding.now compared.old }
+    requires own { KnowsOwn visit.now.page own.old }
     ensures known { OnOk result (KnowsTexts finding.now compared.new) }
+    ensures own { OnOk result (KnowsOwn visit.now.page own.new) }
     ensures apart { IfOk result
         (λ apart. apart ≡ are_apart finding.now (own_request visit.now k) (option_map (λ address. address.now) now.entry)) }
 {
     match now {
-        Some(now) => goes_elsewhere(alloc, finding, visit, fields, k, now, compared),
+        Some(now) => goes_elsewhere(alloc, finding, visit, fields, k, now, compared, own),
         None => Ok(false),
     }
 }

@@ -3,9 +3,8 @@ ghost use Rattle.std.specs.Prelude.{◌≡◌, ◌<◌, length, take, Some, IfOk
 ghost use Rattle.visit_replay.specs.Aim.{by_path};
 ghost use Rattle.visit_replay.specs.Moved.{requests_of, address_now, event_numbered, own_request, are_apart, is_moved};
 ghost use Rattle.visit_replay.specs.inside.KeptFields.{Keeps, TakesIn};
-ghost use Rattle.visit_replay.specs.inside.Differing.{KnowsTexts, IsTargetOf};
+ghost use Rattle.visit_replay.specs.inside.Differing.{IsTargetOf, KnowsOwn, KnowsPaths, KnowsTexts};
 
-use crate::aims::{by_path, target_of};
 use crate::comparisons::Comparisons;
 use crate::conflicts::{Located, judged};
 use crate::fields::Fields;
@@ -13,6 +12,7 @@ use crate::finding::Finding;
 use crate::forms::Filled;
 use crate::known_paths::KnownPaths;
 use crate::outcome::Outcome;
+use crate::own_lookups::OwnLookups;
 use crate::requests::{Request, leads_elsewhere};
 use client_log::Visit;
 use page_tree::{NoMemory, Page};
@@ -41,10 +41,20 @@ pub fn moved(
     let Some(k) = event_numbered(events, from) else {
         return Ok(false);
     };
-    let fields = fields_behind(alloc, &visit.page, events, k)?;
+    let mut own = OwnLookups::new(alloc, &visit.page);
+    let fields = fields_behind(alloc, &visit.page, events, k, &mut own.paths)?;
     let mut compared = Comparisons::new(alloc);
     let now = now.address.as_str();
-    goes_elsewhere(alloc, finding, visit, &fields, k, now, &mut compared)
+    goes_elsewhere(
+        alloc,
+        finding,
+        visit,
+        &fields,
+        k,
+        now,
+        &mut compared,
+        &mut own,
+    )
 }
 
 // ---- what the replay asks for
@@ -79,26 +89,32 @@ fn event_numbered(events: &[Event], number: u64) -> Option<usize>
 
 /// Whether the event with k events before it made a request of another address, by the fields as these left them. Only the addresses count: what is sent under
 /// post isn't looked at.
-pub(crate) fn goes_elsewhere(
+pub(crate) fn goes_elsewhere<'v>(
     alloc: Global,
     finding: &Finding,
-    visit: &Visit,
+    visit: &'v Visit,
     fields: &Fields<'_>,
     k: usize,
     now: &str,
     compared: &mut Comparisons,
+    own: &mut OwnLookups<'v>,
 ) -> Result<bool, NoMemory>
     requires there { k < length visit.now.events }
     requires fields { Keeps (by_path visit.now.page) fields.now visit.now.page (take k visit.now.events) }
     requires known { KnowsTexts finding.now compared.old }
+    requires own { KnowsOwn visit.now.page own.old }
     ensures answer { IfOk result (λ answer. answer ≡ are_apart finding.now (own_request visit.now k) (Some now.now)) }
     ensures known { OnOk result (KnowsTexts finding.now compared.new) }
+    ensures own { OnOk result (KnowsOwn visit.now.page own.new) }
 {
     let page = &visit.page;
     let event = &visit.events.as_slice()[k];
-    let located = by_path(page, event);
-    let paths = KnownPaths::new(alloc);
-    let (target, button) = match judged(page, page, event, located, &paths)? {
+    let Some(target) = own.paths.target_of(page, event)? else {
+        return Ok(false);
+    };
+    let button = own.paths.button_of(page, event)?;
+    let located = Located::At { target, button };
+    let (target, button) = match judged(page, page, event, located, &own.paths)? {
         Located::Bad(_kind) => return Ok(false),
         Located::Idle => return Ok(false),
         Located::At { target, button } => (target, button),
@@ -117,6 +133,7 @@ pub(crate) fn goes_elsewhere(
         finding,
         now,
         compared,
+        &mut own.forms,
     )
 }
 
@@ -126,13 +143,16 @@ pub(crate) fn fields_behind<'a>(
     page: &Page,
     events: &'a [Event],
     count: usize,
+    paths: &mut KnownPaths<'a>,
 ) -> Result<Fields<'a>, NoMemory>
-    requires { count < length events.now }
-    ensures { IfOk result (λ fields. Keeps (by_path page.now) fields page.now (take count events.now)) }
+    requires count { count < length events.now }
+    requires known { KnowsPaths page.now paths.old.paths.items }
+    ensures fields { IfOk result (λ fields. Keeps (by_path page.now) fields page.now (take count events.now)) }
+    ensures known { OnOk result (KnowsPaths page.now paths.new.paths.items) }
 {
     let mut fields = Fields::new(alloc);
     for k in 0..count {
-        note(page, &events[k], &mut fields)?;
+        note(page, &events[k], &mut fields, paths)?;
     }
     Ok(fields)
 }
@@ -142,10 +162,14 @@ pub(crate) fn note<'a>(
     page: &Page,
     event: &'a Event,
     fields: &mut Fields<'a>,
+    paths: &mut KnownPaths<'a>,
 ) -> Result<(), NoMemory>
-    ensures { OnOk result (TakesIn (by_path page.now) page.now event.now fields.old fields.new) }
+    requires { KnowsPaths page.now paths.old.paths.items }
+    ensures takes { OnOk result (TakesIn (by_path page.now) page.now event.now fields.old fields.new) }
+    ensures known { OnOk result (KnowsPaths page.now paths.new.paths.items) }
 {
-    note_at(page, event, target_of(page, event), fields)
+    let target = paths.target_of(page, event)?;
+    note_at(page, event, target, fields)
 }
 
 /// The same at its target, which is known.

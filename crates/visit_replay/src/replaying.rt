@@ -88,7 +88,7 @@ fn find_on<H: SiteHooks>(
 {
     match finding.names() {
         None => {
-            let mut lookups = Lookups::new(alloc, &visit.page, KnownInputs::new(alloc, new));
+            let mut lookups = Lookups::new(alloc, &visit.page, new, KnownInputs::new(alloc, new));
             replay_on(alloc, hooks, &Aiming::ByPath, visit, new, &mut lookups)
         }
         Some(fresh) => {
@@ -114,8 +114,9 @@ fn by_looks<H: SiteHooks>(
 {
     let beside = looks.beside(alloc, &visit.page)?;
     let aiming = Aiming::ByElement(beside);
-    let mut lookups = Lookups::new(alloc, &visit.page, inputs.take(alloc));
-    let answer = replay_on(alloc, hooks, &aiming, visit, looks.page(), &mut lookups)?;
+    let new = looks.page();
+    let mut lookups = Lookups::new(alloc, &visit.page, new, inputs.take(alloc));
+    let answer = replay_on(alloc, hooks, &aiming, visit, new, &mut lookups)?;
     *inputs = lookups.repaired;
     Ok(answer)
 }
@@ -223,7 +224,9 @@ fn step<'a>(
         fields,
         button,
     };
-    if let Some(request) = request_at(alloc, visit.address.as_str(), &filled, event, target, &[])? {
+    let address = visit.address.as_str();
+    let forms = &mut lookups.forms;
+    if let Some(request) = request_at(alloc, address, &filled, event, target, &[], forms)? {
         requests.push(request)?;
     }
     fields.note(new, event, target)?;

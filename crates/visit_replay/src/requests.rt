@@ -1,5 +1,5 @@
 //! Requests, and how a replayed visit makes them.
-ghost use Rattle.std.specs.Prelude.{◌≡◌, ◌<◌, [], ◌∷◌, ◌++◌, not, List, IfOk, OnOk, OnErr, option_map, codes};
+ghost use Rattle.std.specs.Prelude.{◌≡◌, ◌<◌, [], ◌∷◌, ◌++◌, not, All, List, IfOk, OnOk, OnErr, option_map, codes};
 ghost use Rattle.std.specs.Str.{bytes_eq};
 ghost use Rattle.page_looks.specs.Sending.{without_fresh};
 ghost use Rattle.form_urlencoded.specs.Form.{extend_pairs};
@@ -7,17 +7,19 @@ ghost use Rattle.page_tree.specs.Limits.{nodes};
 ghost use Rattle.page_tree.specs.Number.{place_numbered};
 ghost use Rattle.visit_replay.specs.Form.{bare, sent_to};
 ghost use Rattle.visit_replay.specs.Requests.{load_request, link_request};
-ghost use Rattle.visit_replay.specs.inside.FieldsNow.{IsRequestAt, LeadsElsewhere, OfSent};
+ghost use Rattle.visit_replay.specs.inside.FieldsNow.{IsRequestAt, LeadsElsewhere};
 ghost use Rattle.visit_replay.specs.Moved.{what_counts};
 ghost use Rattle.visit_replay.specs.inside.Differing.{KnowsTexts};
 ghost use Rattle.visit_replay.specs.inside.OneEvent.{IsWithin};
+ghost use Rattle.visit_replay.specs.inside.Senders.{IsSender, KnowsForms, sent_all};
 
 use crate::address::bare;
 use crate::comparing::is_sent_to;
 use crate::comparisons::Comparisons;
 use crate::finding::Finding;
 use crate::forms::{self, Filled};
-use page_looks::without_fresh;
+use crate::known_forms::KnownForms;
+use crate::senders::Sender;
 use page_tree::{NoMemory, Page, Text};
 use std::alloc::Global;
 use std::marker::Model;
@@ -119,10 +121,13 @@ pub(crate) fn request_at(
     event: &Event,
     target: u32,
     names: &[Text],
+    forms: &mut KnownForms<'_>,
 ) -> Result<Option<Request>, NoMemory>
     requires there { target < nodes filled.now.page.now }
     requires button { IsWithin filled.now.button filled.now.page.now }
-    ensures { IfOk result (IsRequestAt names.now address.now filled.now event.now target) }
+    requires known { KnowsForms filled.now.page.now forms.old }
+    ensures request { IfOk result (IsRequestAt names.now address.now filled.now event.now target) }
+    ensures known { OnOk result (KnowsForms filled.now.page.now forms.new) }
 {
     let new = filled.page;
     match event {
@@ -131,7 +136,9 @@ pub(crate) fn request_at(
         Event::Click { req, .. } => link_request(alloc, new, *req, target),
         Event::Submit { req, .. } => {
             let action = forms::action_of(address, new, target);
-            let pairs = forms::encoded(alloc, filled, target, names)?;
+            forms.look_under(alloc, target)?;
+            let senders = forms.senders_under(target);
+            let pairs = forms::encoded(alloc, filled, senders.as_slice(), names)?;
             let post = forms::is_post(new, target);
             Ok(Some(form_request(alloc, post, *req, action, pairs)?))
         }
@@ -148,12 +155,15 @@ pub(crate) fn leads_elsewhere(
     finding: &Finding,
     now: &str,
     compared: &mut Comparisons,
+    forms: &mut KnownForms<'_>,
 ) -> Result<bool, NoMemory>
     requires there { target < nodes filled.now.page.now }
     requires button { IsWithin filled.now.button filled.now.page.now }
     requires known { KnowsTexts finding.now compared.old }
+    requires forms { KnowsForms filled.now.page.now forms.old }
     ensures leads { IfOk result (LeadsElsewhere finding.now address.now filled.now event.now target now.now) }
     ensures known { OnOk result (KnowsTexts finding.now compared.new) }
+    ensures forms { OnOk result (KnowsForms filled.now.page.now forms.new) }
 {
     let page = filled.page;
     match event {
@@ -168,7 +178,9 @@ pub(crate) fn leads_elsewhere(
             if forms::is_post(page, target) {
                 return are_apart(alloc, finding, action, now, compared);
             }
-            is_query_apart(alloc, filled, target, finding, action, now, compared)
+            forms.look_under(alloc, target)?;
+            let senders = forms.senders_under(target).as_slice();
+            is_query_apart(alloc, filled, senders, finding, action, now, compared)
         }
     }
 }
@@ -196,23 +208,22 @@ fn are_apart(
 fn is_query_apart(
     alloc: Global,
     filled: &Filled<'_, '_>,
-    form: u32,
+    senders: &[Sender<'_>],
     finding: &Finding,
     action: &str,
     now: &str,
     compared: &mut Comparisons,
 ) -> Result<bool, NoMemory>
-    requires there { form < nodes filled.now.page.now }
-    requires button { IsWithin filled.now.button filled.now.page.now }
+    requires senders { All (IsSender filled.now.page.now) senders.now }
     requires known { KnowsTexts finding.now compared.old }
-    ensures apart { IfOk result (λ apart. OfSent filled.now form (λ pairs. apart ≡ not (bytes_eq
-        (what_counts finding.now (bare action.now ++ codes "?" ++ extend_pairs [] pairs)) (what_counts finding.now now.now)))) }
+    ensures apart { IfOk result (λ apart. apart ≡ not (bytes_eq (what_counts finding.now
+        (bare action.now ++ codes "?" ++ extend_pairs [] (sent_all filled.now senders.now))) (what_counts finding.now now.now))) }
     ensures known { OnOk result (KnowsTexts finding.now compared.new) }
 {
     match finding.names() {
-        None => Ok(!is_sent_to(filled, form, bare(action), now)?),
+        None => Ok(!is_sent_to(filled, senders, bare(action), now)),
         Some(fresh) => {
-            let sent = counted_address(alloc, fresh.as_slice(), filled, form, action)?;
+            let sent = counted_address(alloc, fresh.as_slice(), filled, senders, action)?;
             compared.differ(alloc, fresh.as_slice(), sent.as_str(), now)
         }
     }
@@ -223,31 +234,15 @@ fn counted_address(
     alloc: Global,
     fresh: &[Text],
     filled: &Filled<'_, '_>,
-    form: u32,
+    senders: &[Sender<'_>],
     action: &str,
 ) -> Result<Text, NoMemory>
-    requires there { form < nodes filled.now.page.now }
-    requires button { IsWithin filled.now.button filled.now.page.now }
-    ensures { IfOk result (λ sent. OfSent filled.now form (λ pairs. without_fresh fresh.now sent
-        ≡ without_fresh fresh.now (bare action.now ++ codes "?" ++ extend_pairs [] pairs))) }
+    requires { All (IsSender filled.now.page.now) senders.now }
+    ensures { IfOk result (λ sent. without_fresh fresh.now sent ≡ without_fresh fresh.now
+        (bare action.now ++ codes "?" ++ extend_pairs [] (sent_all filled.now senders.now))) }
 {
-    let pairs = forms::encoded(alloc, filled, form, fresh)?;
+    let pairs = forms::encoded(alloc, filled, senders, fresh)?;
     with_query(alloc, bare(action), pairs.as_str())
-}
-
-/// Whether two addresses differ but for the values of these names. Both are decoded: `Comparisons` does so once for those that come often.
-pub(crate) fn differ(
-    alloc: Global,
-    fresh: &[Text],
-    before: &str,
-    now: &str,
-) -> Result<bool, NoMemory>
-    ensures { IfOk result (λ apart. apart
-        ≡ not (bytes_eq (without_fresh fresh.now before.now) (without_fresh fresh.now now.now))) }
-{
-    let was = without_fresh(alloc, fresh, before)?;
-    let is = without_fresh(alloc, fresh, now)?;
-    Ok(was.as_str() != is.as_str())
 }
 
 // A click sends the address of its link as it is written.

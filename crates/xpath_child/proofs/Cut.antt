@@ -45,10 +45,6 @@ none_first : {A : Type 0} (o later : Option A) → is_some o ≡ false → optio
 none_first None later h = refl
 none_first (Some x) later h = cc
 
--- how much is left
-abbrev pub size : Option (List ℕ) → ℕ
-size left = option_map_or (λ text. 1 + length text) left 0
-
 module _ (text first : List ℕ) (rest : Option (List ℕ)) (before : first ≡ before_first (λ c. c == 47) text) (after : rest ≡ option_map (λ i. drop (i + 1) text) (position (λ c. c == 47) text)) where
   pub cut_texts : written_steps text ≡ first ∷ option_map_or written_steps rest []
   cut_texts = cut_by text _ refl ∙ ap (λ o. before_first (λ c. c == 47) text ∷ option_map_or written_steps o []) (sym after) ∙ ap (λ f. f ∷ option_map_or written_steps rest []) (sym before)
@@ -70,13 +66,6 @@ module _ (text first : List ℕ) (rest : Option (List ℕ)) (before : first ≡ 
           let behind : more ≡ drop (at + 1) text = cc in
           omega (arith, inside, ap length before, length-take at text, ap length behind, length-drop (at + 1) text)
       by false h e = cc
-
-  pub shorter : size rest < size (Some text)
-  shorter = by rest refl
-    where
-      by : (o : Option (List ℕ)) → rest ≡ o → size o < size (Some text)
-      by None e = omega arith
-      by (Some more) e = omega (arith, cut_room more e)
 
   -- the first fault is that of the first step, or else of what is left
   step_within : (place start : ℕ) → place < max_depth → first_step_fault place start (written_steps text) ≡ option_or (text_fault start first) (first_step_fault (place + 1) (start + (length first + 1)) (option_map_or written_steps rest []))

@@ -7,6 +7,7 @@ pub mod Sound
 pub mod Complete
 pub mod Answered
 pub mod Cut
+pub mod StepsCut
 pub mod Matched
 pub mod Named
 pub mod RealFaults

@@ -1,5 +1,5 @@
 -- One child more, and what stays once a search is settled.
-use Rattle.std.proofs.Common.{◌≡◌, ℕ, zero, suc, ◌+◌, ◌-◌, ◌≤◌, ◌<◌, ◌==◌, Bool, true, false, ◌&&◌, cond, List, [], ◌∷◌, ◌++◌, map, length, nat_le, is_some, Option, Some, None, refl, sym, ◌∙◌, ap, arith, zero-add, fold, filter, flat_map, count_by, leb-true, le-leb, eq-eqb, ne_eqb}
+use Rattle.std.proofs.Common.{◌≡◌, ℕ, zero, suc, ◌+◌, ◌-◌, ◌≤◌, ◌<◌, Bool, true, false, ◌&&◌, cond, List, [], ◌∷◌, ◌++◌, length, nat_le, Option, Some, None, refl, sym, ◌∙◌, ap, arith, zero-add, fold, filter, flat_map, count_by, leb-true, le-leb, eq-eqb, ne_eqb}
 use Rattle.std.specs.Option.{option_map_or}
 use Rattle.std.specs.List.{range_with_len}
 use Rattle.std.proofs.lemmas.Bool.{and_right}
@@ -7,7 +7,6 @@ use Rattle.std.proofs.lemmas.List.{append-nil}
 use Rattle.std.proofs.lemmas.List.Concat.{flat_map-append}
 use Rattle.std.proofs.lemmas.List.Elements.{filter-append}
 use Rattle.std.proofs.lemmas.List.Folds.{fold_stays}
-use Rattle.std.proofs.lemmas.List.Splits.{length-slice_split}
 use Rattle.std.proofs.lemmas.List.Sums.{fold-append, sum_by-append}
 use Rattle.page_tree.proofs.Numbers.{range-append}
 use Rattle.page_tree.specs.Tree.{Tree}
@@ -15,8 +14,7 @@ use Rattle.page_tree.specs.Look.{name_at, child_count_at}
 use Rattle.xpath_child.specs.Path.{Step}
 use Rattle.xpath_child.specs.Reaches.{matches, matching_before, is_nth, selects}
 use Rattle.xpath_child.specs.Targets.{selected_positions, places_below, places, target_of, target_in}
-use Rattle.xpath_child.specs.Fault.{written_steps, step_in}
-use Rattle.xpath_child.specs.inside.Search.{steps_in, note}
+use Rattle.xpath_child.specs.inside.Search.{note}
 use Rattle.xpath_child.specs.declared.path.Target.{Target}
 use Rattle.xpath_child.specs.declared.path.Target.TheVariants.{Missing, Several}
 
@@ -137,13 +135,12 @@ module _ (page : Tree) (test : Option (List ℕ)) (nth : ℕ) (at child : List �
 
 -- ---- a child without children, from which further steps reach nothing
 
-none_below : (page : Tree) (texts : List (List ℕ)) (at : List ℕ) → 0 < length texts → child_count_at at page ≡ 0 → places_below page (map step_in texts) at ≡ []
+none_below : (page : Tree) (steps : List Step) (at : List ℕ) → 0 < length steps → child_count_at at page ≡ 0 → places_below page steps at ≡ []
 none_below page [] at some none = absurd (omega arith)
-none_below page (text ∷ texts) at some none = ap (through page (step_in text) (map step_in texts) at) none
+none_below page (step ∷ steps) at some none = ap (through page step steps at) none
 
-pub nothing_noted : (page : Tree) (left : Option (List ℕ)) (at : List ℕ) (found : Target) → is_some left ≡ true → child_count_at at page ≡ 0 → found ≡ fold note found (places_below page (steps_in left) at)
-nothing_noted page None at found more none = cc
-nothing_noted page (Some text) at found more none = sym (ap (fold note found) (none_below page (written_steps text) at (omega (arith, length-slice_split (λ c. c == 47) text)) none))
+pub nothing_noted : (page : Tree) (steps : List Step) (at : List ℕ) (found : Target) → 0 < length steps → child_count_at at page ≡ 0 → found ≡ fold note found (places_below page steps at)
+nothing_noted page steps at found some none = sym (ap (fold note found) (none_below page steps at some none))
 
 -- ---- a whole path
 

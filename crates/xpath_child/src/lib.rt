@@ -6,6 +6,7 @@
 //! rule is a definition in `specs/`.
 #![tactic(auto)]
 
+mod cutting;
 mod fault;
 mod limits;
 mod path;

@@ -1,5 +1,5 @@
 //! Paths, and what they select on a page.
-ghost use Rattle.std.specs.Prelude.{◌≡◌, ◌≢◌, ◌↔◌, ◌<◌, ℕ, List, [], ◌∷◌, IsTrue, Ok, Some, None, MatchOption, IfSome, IfOk, IfErr, option_map};
+ghost use Rattle.std.specs.Prelude.{◌≡◌, ◌≢◌, ◌↔◌, ◌<◌, ℕ, List, [], ◌∷◌, length, IsTrue, Ok, Some, None, MatchOption, IfSome, IfOk, IfErr, option_map};
 ghost use Rattle.page_tree.specs.Tree.{Tree};
 ghost use Rattle.page_tree.specs.Limits.{nodes};
 ghost use Rattle.page_tree.specs.Name.{is_name};
@@ -10,11 +10,12 @@ ghost use Rattle.xpath_child.specs.Fault.{path_in, path_fault, GivesPath};
 ghost use Rattle.xpath_child.specs.Reaches.{IsTarget};
 ghost use Rattle.xpath_child.specs.Targets.{target_in, only_place, place_found};
 ghost use Rattle.xpath_child.specs.declared.fault.PathFaultKind.TheVariants.{NoMemory};
-ghost use Rattle.xpath_child.specs.inside.Search.{AreSteps, steps_in, step_for, note, Notes, hits};
+ghost use Rattle.xpath_child.specs.inside.Search.{AreSteps, steps_in, steps_left, step_for, note, Notes, hits};
 
+use crate::cutting::{CutStep, CutSteps};
 use crate::fault::PathFault;
 use crate::shared_text::SharedText;
-use crate::step::{Tail, fault_of, is_match, test_of};
+use crate::step::{fault_of, is_match, picks_first};
 use page_tree::{NoMemory, Page, Place, Text};
 use std::alloc::Global;
 use std::marker::Model;
@@ -80,14 +81,15 @@ impl Path {
         ensures exact { place_found page.now result ≡ target_in self.now page.now }
         ensures there { (number : ℕ) → result ≡ Found.One number → number < nodes page.now }
     {
-        let Some(steps) = self.text.as_str().strip_prefix('/') else {
+        let Some(text) = self.text.as_str().strip_prefix('/') else {
             return Found::Missing;
         };
-        let test = test_of(steps);
-        let tail = Tail::of(steps, test.len());
+        let steps = CutSteps::of(text);
         let mut found = Found::Missing;
-        if is_match(test, page.name_of(0)) && tail.picks_first() {
-            visit_child(page, tail.rest, 0, &mut found);
+        if let Some((first, others)) = steps.cut.as_slice().split_first() {
+            if is_match(first.test, page.name_of(0)) && picks_first(first.index) {
+                visit_child(page, others, steps.rest, 0, &mut found);
+            }
         }
         found
     }
@@ -181,39 +183,61 @@ impl Found {
     }
 }
 
-// Notes the nodes that these steps, each but the first behind a `/`, reach from a node: the node itself where there are none.
+// Notes the nodes that these steps reach from a node: the node itself where there are none. The first ones are cut out of the path's text, the others are
+// left in it.
 #[cycle(visit)]
 #[inline(never)]
-fn visit(page: &Page, steps: Option<&str>, at: u32, found: &mut Found)
-    requires { AreSteps (option_map (λ text. text.now) steps) }
-    ensures { Notes page.now found.old found.new (hits page.now (steps_in (option_map (λ text. text.now) steps.entry)) at) }
+fn visit(page: &Page, steps: &[CutStep<'_>], left: Option<&str>, at: u32, found: &mut Found)
+    requires { AreSteps (option_map (λ text. text.now) left) }
+    ensures { Notes page.now found.old found.new
+        (hits page.now (steps_left steps.now (option_map (λ text. text.now) left.entry)) at) }
 {
-    let Some(text) = steps else {
-        found.note(at);
+    let Some((step, others)) = steps.split_first() else {
+        visit_left(page, left, at, found);
         return;
     };
-    let test = test_of(text);
-    let tail = Tail::of(text, test.len());
-    let Some(nth) = tail.index else {
-        visit_each(page, test, tail.rest, at, found);
+    let Some(nth) = step.index else {
+        visit_each(page, step.test, others, left, at, found);
         return;
     };
-    if let Some(child) = nth_child(page, test, nth, at) {
-        visit_child(page, tail.rest, child, found);
+    if let Some(child) = nth_child(page, step.test, nth, at) {
+        visit_child(page, others, left, child, found);
+    }
+}
+
+// The same where none is cut out yet.
+#[cycle(visit)]
+fn visit_left(page: &Page, left: Option<&str>, at: u32, found: &mut Found)
+    requires { AreSteps (option_map (λ text. text.now) left) }
+    ensures { Notes page.now found.old found.new (hits page.now (steps_in (option_map (λ text. text.now) left.entry)) at) }
+{
+    match left {
+        None => found.note(at),
+        Some(text) => {
+            let steps = CutSteps::of(text);
+            visit(page, steps.cut.as_slice(), steps.rest, at, found);
+        }
     }
 }
 
 // The same, where the first step has that test and no index.
 #[cycle(visit)]
-fn visit_each(page: &Page, test: &[u8], rest: Option<&str>, at: u32, found: &mut Found)
-    requires { AreSteps (option_map (λ text. text.now) rest) }
-    ensures { Notes page.now found.old found.new
-        (hits page.now (step_for test.now None ∷ steps_in (option_map (λ text. text.now) rest.entry)) at) }
+fn visit_each(
+    page: &Page,
+    test: &[u8],
+    steps: &[CutStep<'_>],
+    left: Option<&str>,
+    at: u32,
+    found: &mut Found,
+)
+    requires { AreSteps (option_map (λ text. text.now) left) }
+    ensures { Notes page.now found.old found.new (hits page.now
+        (step_for test.now None ∷ steps_left steps.now (option_map (λ text. text.now) left.entry)) at) }
 {
     let mut child = page.nodes_under(at).start;
     for i in 0..page.children_of(at) {
         if is_match(test, page.name_of(child)) {
-            visit_child(page, rest, child, found);
+            visit_child(page, steps, left, child, found);
             if found.is_several() {
                 return;
             }
@@ -225,16 +249,30 @@ fn visit_each(page: &Page, test: &[u8], rest: Option<&str>, at: u32, found: &mut
 // The same from a child that matches. It stands within the loop, so that a child from which nothing is reached costs no call.
 #[cycle(visit)]
 #[inline(always)]
-fn visit_child(page: &Page, rest: Option<&str>, child: u32, found: &mut Found)
-    requires { AreSteps (option_map (λ text. text.now) rest) }
+fn visit_child(
+    page: &Page,
+    steps: &[CutStep<'_>],
+    left: Option<&str>,
+    child: u32,
+    found: &mut Found,
+)
+    requires { AreSteps (option_map (λ text. text.now) left) }
     ensures { Notes page.now found.old found.new
-        (hits page.now (steps_in (option_map (λ text. text.now) rest.entry)) child) }
+        (hits page.now (steps_left steps.now (option_map (λ text. text.now) left.entry)) child) }
 {
     // (further steps reach nothing from a child without children)
-    if rest.is_some() && page.children_of(child) == 0 {
+    if page.children_of(child) == 0 && are_more(steps, left) {
         return;
     }
-    visit(page, rest, child, found);
+    visit(page, steps, left, child, found);
+}
+
+// Whether there is a step.
+#[inline(always)]
+fn are_more(steps: &[CutStep<'_>], left: Option<&str>) -> bool
+    ensures { IsTrue result → 0 < length (steps_left steps.now (option_map (λ text. text.now) left.entry)) }
+{
+    !steps.is_empty() || left.is_some()
 }
 
 // The n-th child of those that match: from there alone further steps lead on. The loop calls and writes nothing, since it goes over each sibling.

@@ -46,15 +46,15 @@ impl<'a> Tail<'a> {
             },
         }
     }
+}
 
-    /// Whether the index, if there is one, picks the first match.
-    pub(crate) fn picks_first(&self) -> bool
-        ensures { result ≡ is_nth self.now.index 0 }
-    {
-        match self.index {
-            None => true,
-            Some(nth) => nth == 1,
-        }
+/// Whether the index, if there is one, picks the first match.
+pub(crate) fn picks_first(index: Option<u32>) -> bool
+    ensures { result ≡ is_nth index 0 }
+{
+    match index {
+        None => true,
+        Some(nth) => nth == 1,
     }
 }
 

@@ -5,7 +5,7 @@ use Rattle.page_looks.specs.Outline.{outline}
 use Rattle.page_looks.specs.inside.Numbers.{AreApart, StandFor}
 use Rattle.page_looks.specs.inside.Shapes.{told_texts, listed, Knows}
 use Rattle.page_looks.specs.inside.Ranks.{subtrees, subtrees_in}
-use Rattle.page_looks.specs.declared.numbering.Shapes.{Shapes}
+use Rattle.page_looks.specs.declared.shapes.Shapes.{Shapes}
 
 -- the trees whose keys are kept, of those below and of those added
 abbrev pub KnowsAll : Shapes → Shapes → List Tree → Type 0
@@ -20,6 +20,10 @@ pub record PushesTexts (below old new : Shapes) (key next : List ℕ) (xs : List
   pub apart : AreApart (below.texts ++ old.texts) → AreApart (below.texts ++ new.texts)
   pub stand : StandFor (below.texts ++ new.texts) numbers xs
   pub keys : new.keys ≡ old.keys
+
+-- no number was, but further texts are kept
+abbrev pub GrowsTexts : Shapes → Shapes → Shapes → Type 0
+GrowsTexts below old new = PushesTexts below old new [] [] []
 
 -- how the key of a node begins, of whose elements that is told
 abbrev pub key_head : (Tree → List Attribute) → Tree → ℕ

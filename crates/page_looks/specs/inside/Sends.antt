@@ -9,7 +9,7 @@ use Rattle.page_looks.specs.Sending.{sends}
 use Rattle.page_looks.specs.inside.Numbers.{StandFor}
 use Rattle.page_looks.specs.inside.Ranks.{subtrees}
 use Rattle.page_looks.specs.inside.Numbering.{KnowsAll}
-use Rattle.page_looks.specs.declared.numbering.Shapes.{Shapes}
+use Rattle.page_looks.specs.declared.shapes.Shapes.{Shapes}
 use Rattle.page_looks.specs.declared.sent_numbers.SentNumbers.{SentNumbers}
 
 -- ---- what a node sends by itself

@@ -14,4 +14,4 @@ told_seen told = map (λ a. (cow_str_bytes a.0, cow_str_bytes a.1)) told
 
 abbrev pub told_by : Telling → Tree → List Attribute
 told_by Shown = shown
-told_by (Sent fresh) = sent fresh.now
+told_by (Sent fresh all) = sent fresh.now

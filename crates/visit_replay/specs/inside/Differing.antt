@@ -22,7 +22,9 @@ use Rattle.visit_replay.specs.declared.known_paths.KnownPath.{KnownPath}
 use Rattle.visit_replay.specs.declared.lookups.Lookups.{Lookups}
 use Rattle.visit_replay.specs.declared.named_inputs.NamedInputs.{NamedInputs}
 use Rattle.visit_replay.specs.declared.requests.Request.{Request}
+use Rattle.visit_replay.specs.declared.own_lookups.OwnLookups.{OwnLookups}
 use Rattle.visit_replay.specs.inside.OneEvent.{IsNodeOf, IsWithin, places_numbered}
+use Rattle.visit_replay.specs.inside.Senders.{KnowsForms}
 
 -- what the event with k events before it asks for there, where these acted by those aims
 abbrev pub asked_there : (Event → Aim) → Visit → Tree → ℕ → Aim → Option Request
@@ -84,7 +86,11 @@ KnowsInputs page known = (known.page.now ≡ page)
 -- all of it, on the recorded page and on the repaired one
 abbrev pub AreLookedUp : Tree → Tree → Lookups → Type 0
 AreLookedUp old new lookups = KnowsPaths old lookups.paths.paths.items
-    × KnowsInputs old lookups.recorded × KnowsInputs new lookups.repaired
+    × KnowsInputs old lookups.recorded × KnowsInputs new lookups.repaired × KnowsForms new lookups.forms
+
+-- what was looked up on the page that a visit was made on
+abbrev pub KnowsOwn : Tree → OwnLookups → Type 0
+KnowsOwn page own = KnowsPaths page own.paths.paths.items × KnowsForms page own.forms
 
 -- what was found of texts that were compared
 abbrev pub AreCompared : List (List ℕ) → List Comparison → Type 0

@@ -1,7 +1,6 @@
 -- What a form sends, by the fields as they are kept and without the events that changed them. Nodes go by their
 -- numbers.
 use Rattle.std.specs.Prelude.{◌≡◌, ℕ, ◌-◌, List, [], ◌∷◌, ◌++◌, Bool, false, ◌==◌, if◌then◌else◌, Option, Some, None, option_map, codes}
-use Rattle.std.specs.Cow.{cow_str_bytes}
 use Rattle.std.specs.List.{filter_map, range_with_len}
 use Rattle.std.specs.Option.{option_map_or}
 use Rattle.page_tree.specs.Number.{place_numbered}
@@ -21,7 +20,7 @@ use Rattle.visit_replay.specs.declared.forms.Filled.{Filled}
 use Rattle.visit_replay.specs.declared.forms.SentPair.{SentPair}
 
 abbrev pub pair_of : SentPair → Pair
-pair_of sent = (sent.name.now, cow_str_bytes sent.value)
+pair_of sent = (sent.name.now, sent.value.now)
 
 -- the pair that the node with that number sends
 abbrev pub pair_now : Filled → ℕ → Option Pair

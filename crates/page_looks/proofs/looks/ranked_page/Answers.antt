@@ -8,7 +8,7 @@ use Rattle.page_looks.proofs.LooksLaws.{root_there, seen_within, looks_within, p
 use Rattle.page_looks.proofs.looks.ranked_page.Goals as goal
 
 pub number_node-requires : goal.number_node-requires
-number_node-requires c = nodes-positive c.args.page.now
+number_node-requires c = record { there = nodes-positive c.args.page.now; ready = tt }
 
 pub last_places-requires : goal.last_places-requires
 last_places-requires c = λ j n at.

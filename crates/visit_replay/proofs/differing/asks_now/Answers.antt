@@ -11,7 +11,7 @@ use Rattle.visit_replay.proofs.differing.asks_now.Goals as goal
 pub fields_beside-requires-clause-known : goal.fields_beside-requires-clause-known
 fields_beside-requires-clause-known c =
     let known : KnowsInputs c.page-new.result.now c.take.result = rw (c.page-new.ensures, c.take.ensures.taken) c.requires in
-    c.new-lookups.ensures c.page-new.result.now known
+    c.new-lookups.ensures known
 
 pub returns-in_err-fields-clause-known : goal.returns-in_err-fields-clause-known
 returns-in_err-fields-clause-known c = c.take.ensures.left c.args.looks.now.0 c.requires
@@ -38,4 +38,4 @@ returns-clause-asks c =
     IfOk-weaker c.request_there.result _ _
     (λ request told. (told (by_element fresh visit.page new) (passing_over visit.page new event) there kept).0 refl ∙ asked_now fresh visit new c.args.k event stands
     ∙ ap (λ page. asks_now fresh visit page c.args.k) c.page-new.ensures)
-    c.request_there.ensures
+    c.request_there.ensures.request

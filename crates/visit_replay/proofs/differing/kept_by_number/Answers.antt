@@ -42,7 +42,7 @@ loop-k-preserved c =
     subst (λ them. take (k + 1) them ≡ take k them ++ event ∷ []) c.as_slice-events.ensures (taken_here events k event below c.index-events-k.is) in
     record {
       kept = subst (λ before. Keeps (by_path visit.page) c.note_at.new.fields visit.page before) (sym taken) (c.in_ok-note_at.ensures (take k visit.events) c.loop-k.invariant.kept);
-      known = c.in_ok-target.ensures.known;
+      own = c.in_ok-take_in.ensures.own;
       all = c.in_ok-take_in.ensures.kept c.args.requests.now c.in_ok-now.ensures c.loop-k.invariant.all;
       compared = c.in_ok-take_in.ensures.known;
     }

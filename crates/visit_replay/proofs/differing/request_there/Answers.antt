@@ -11,22 +11,22 @@ use Rattle.visit_replay.proofs.FreshValues.{is_but_for_none}
 use Rattle.visit_replay.proofs.Judged.{stands_at}
 use Rattle.visit_replay.proofs.differing.request_there.Goals as goal
 
-pub returns-in-Bad : goal.returns-in-Bad
-returns-in-Bad c = λ aim here leads kept.
+pub returns-in-Bad-clause-request : goal.returns-in-Bad-clause-request
+returns-in-Bad-clause-request c = λ aim here leads kept.
     let visit = c.args.visit.now in
     let page = c.args.page.now in
     let there : AimsAt page here (Bad c.in-Bad._kind) = rw c.in-Bad.is at leads in
     is_but_for_none c.args.names.now None (asked_there aim visit page c.args.k here) (sym (asked_lost aim visit page c.args.k here (ap place_of_aim there)))
 
-pub returns-in-Idle : goal.returns-in-Idle
-returns-in-Idle c = λ aim here leads kept.
+pub returns-in-Idle-clause-request : goal.returns-in-Idle-clause-request
+returns-in-Idle-clause-request c = λ aim here leads kept.
     let visit = c.args.visit.now in
     let page = c.args.page.now in
     let there : AimsAt page here Idle = rw c.in-Idle.is at leads in
     is_but_for_none c.args.names.now None (asked_there aim visit page c.args.k here) (sym (asked_lost aim visit page c.args.k here (ap place_of_aim there)))
 
-pub returns : goal.returns
-returns c =
+pub returns-clause-request : goal.returns-clause-request
+returns-clause-request c =
     let visit = c.args.visit.now in
     let page = c.args.page.now in
     let event = c.index-as_slice-k.result in
@@ -37,5 +37,5 @@ returns c =
     let there : AimsAt page here (At c.in-At.target c.in-At.button) = rw c.in-At.is at leads in
     subst (IsButFor c.args.names.now request)
     (asked_acting aim visit page c.args.k here event (place_numbered c.in-At.target page) (places_numbered c.in-At.button page) at there.2)
-    (rw c.as_str.ensures at (told aim (take c.args.k visit.events) kept)))
-    c.request_at.ensures
+    (rw c.as_str-address.ensures at (told aim (take c.args.k visit.events) kept)))
+    c.request_at.ensures.request

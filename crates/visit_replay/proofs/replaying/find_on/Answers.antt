@@ -5,7 +5,7 @@ use Rattle.visit_replay.proofs.replaying.find_on.Goals as goal
 
 pub replay_on-requires-clause-known : goal.replay_on-requires-clause-known
 replay_on-requires-clause-known g c =
-    let all : AreLookedUp c.args.visit.now.page c.args.new.now c.new-lookups.result = c.new-lookups.ensures c.args.new.now c.new.ensures in
+    let all : AreLookedUp c.args.visit.now.page c.args.new.now c.new-lookups.result = c.new-lookups.ensures c.new.ensures in
     λ _ _. all
 
 pub returns-in-None : goal.returns-in-None

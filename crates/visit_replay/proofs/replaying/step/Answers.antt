@@ -23,7 +23,7 @@ returns-clause-further c =
     let aim = aimed c.args.aiming.now visit.page new in
     let located : Locates aim visit.page new event (At c.in-At.target c.in-At.button) = rw c.in-At.is at (c.in_ok-kind.ensures aim c.in_ok-aim.ensures.aims) in
     let sent : event_request aim visit.address new before event ≡ c.in_ok-request.field-0 =
-    ap (λ a. option_and_then (request_at aim visit.address new before event (button_of_aim a)) (place_of_aim a)) located.1.2 ∙ sym (rw c.as_str.ensures at ((c.in_ok-request.ensures aim before c.requires.so_far.kept).0 refl)) in
+    ap (λ a. option_and_then (request_at aim visit.address new before event (button_of_aim a)) (place_of_aim a)) located.1.2 ∙ sym (rw c.as_str-address.ensures at ((c.in_ok-request.ensures.request aim before c.requires.so_far.kept).0 refl)) in
     let added : c.match-branch-5.requests ≡ c.args.requests.now ++ cons_option c.in_ok-request.field-0 [] = first_of (search rules, grind (arith, common_steps)) in
     record {
       kept = rw (taken_here visit.events c.args.i event c.requires.there is) (c.in_ok-note.ensures aim (located.1.0, ap place_of_aim located.1.2) before c.requires.so_far.kept);

@@ -1,14 +1,13 @@
-use Rattle.std.proofs.Common.{◌<◌, List, length, Option, arith, refl, sym, subst}
+use Rattle.std.proofs.Common.{◌≡◌, length, take, drop, arith, ap, ◌∙◌}
 use Rattle.collect_http.specs.Answering.{Answers}
-use Rattle.collect_server.specs.Rounds.{AreAnswered, PlaceAnswers}
-use Rattle.collect_server.specs.declared.peer.Peer.{Peer}
-use Rattle.collect_server.proofs.Places.{answered_more, over_more}
+use Rattle.collect_server.proofs.Places.{answered_from}
 use Rattle.collect_server.proofs.peers.Peers.read.Goals as goal
 
-pub loop-peer-preserved : goal.loop-peer-preserved
-loop-peer-preserved g c =
-    let answers = Answers g.F.GrowingFile.seen g.F.GrowingFile.durable g.F.GrowingFile.lost g.D.Folder.lies g.D.Folder.known in
-    let below : c.loop-peer.peer-index < length c.loop-peer.peer-items = omega (arith, c.loop-peer-test.true, c.loop-peer.auto.peer-items) in
-    over_more (λ (olds news : List (Option Peer)). AreAnswered answers c.args.collector.now olds news c.loop-peer.collector) (λ (olds news : List (Option Peer)). AreAnswered answers c.args.collector.now olds news c.read.new.collector)
-    c.loop-peer.peer-index _ c.args.self.now.places.items c.loop-peer.peer-items _ c.peer-item.result c.read.new.peer c.loop-peer.invariant below refl c.peer-item.is refl
-    (λ xs ys gone. answered_more answers c.args.collector.now c.loop-peer.collector c.read.new.collector xs ys c.peer-item.result c.read.new.peer gone (subst (λ x. PlaceAnswers answers c.loop-peer.collector x c.read.new.peer c.read.new.collector) (sym c.peer-item.is) c.read.ensures))
+pub returns : goal.returns
+returns g c = (
+  c.if-self-len.first,
+  answered_from (Answers g.F.GrowingFile.seen g.F.GrowingFile.durable g.F.GrowingFile.lost g.D.Folder.lies g.D.Folder.known) c.if-self-len.first c.args.self.now.places.len c.args.self.now.places.items
+      c.split_at_mut-before.result.0.now c.split_at_mut-before.result.1.now c.read_all-2.new.places c.read_all.new.places _ c.args.collector.now c.read_all.new.collector c.read_all-2.new.collector
+      (c.split_at_mut-before.ensures.front ∙ ap (take c.if-self-len.first) c.deref_mut.ensures.value) (c.split_at_mut-before.ensures.back ∙ ap (drop c.if-self-len.first) c.deref_mut.ensures.value)
+      c.split_at_mut-before.ensures.front_len (omega (arith, c.deref_mut.ensures.len, ap length c.deref_mut.ensures.value)) c.read_all.ensures c.read_all-2.ensures,
+)

@@ -1,0 +1,35 @@
+-- The nodes under a form that may send something, as the code keeps them.
+use Rattle.std.specs.Prelude.{ℕ, ◌≡◌, List, [], All, Some, IfSome, unwrap_or}
+use Rattle.std.specs.BTreeMap.{get}
+use Rattle.std.specs.Cow.{cow_str_bytes}
+use Rattle.std.specs.List.{filter_map}
+use Rattle.std.specs.Ordering.{nat_cmp}
+use Rattle.page_tree.specs.Tree.{Tree}
+use Rattle.page_tree.specs.Control.{start_text_at}
+use Rattle.page_tree.specs.Number.{place_numbered}
+use Rattle.visit_replay.specs.Form.{Pair, sent_name}
+use Rattle.visit_replay.specs.inside.FieldsNow.{OfSent, pair_now}
+use Rattle.visit_replay.specs.inside.OneEvent.{IsWithin}
+use Rattle.visit_replay.specs.declared.forms.Filled.{Filled}
+use Rattle.visit_replay.specs.declared.known_forms.KnownForms.{KnownForms}
+use Rattle.visit_replay.specs.declared.senders.Sender.{Sender}
+use Rattle.visit_replay.specs.declared.senders.Senders.{Senders}
+
+-- the name that it has, and the text that it starts with
+pub record IsSender (page : Tree) (sender : Sender) : Type 0 where
+  pub name : sent_name (place_numbered sender.number page) page ≡ Some sender.name.now
+  pub start : cow_str_bytes sender.start ≡ unwrap_or (start_text_at (place_numbered sender.number page) page) []
+
+-- what these send
+abbrev pub sent_all : Filled → List Sender → List Pair
+sent_all filled senders = filter_map (λ sender. pair_now filled sender.number) senders
+
+-- nothing else under that form sends anything, however the page is filled in
+pub record SendUnder (page : Tree) (form : ℕ) (them : Senders) : Type 0 where
+  pub each : All (IsSender page) them.all.items
+  pub pairs : (filled : Filled) → filled.page.now ≡ page → IsWithin filled.button page
+      → OfSent filled form (λ pairs. sent_all filled them.all.items ≡ pairs)
+
+abbrev pub KnowsForms : Tree → KnownForms → Type 0
+KnowsForms page known =
+    (known.page.now ≡ page) × ((form : ℕ) → IfSome (get nat_cmp known.forms form) (SendUnder page form))

@@ -1,0 +1,117 @@
+//! The nodes under a form that may send something. They are listed once, since many submits may send the same form.
+ghost use Rattle.std.specs.Prelude.{ℕ, List, Bool, ◌≡◌, ◌<◌, ◌++◌, [], false, None, All, IfOk, OnOk, unwrap_or, option_map};
+ghost use Rattle.std.specs.Cow.{cow_str_bytes};
+ghost use Rattle.std.specs.List.{cons_option};
+ghost use Rattle.page_tree.specs.Limits.{nodes};
+ghost use Rattle.page_tree.specs.Control.{control_at, start_text_at};
+ghost use Rattle.page_tree.specs.Number.{place_numbered};
+ghost use Rattle.visit_replay.specs.Form.{sent_name, sent_value, unless_empty};
+ghost use Rattle.visit_replay.specs.inside.FieldsNow.{pair_now};
+ghost use Rattle.visit_replay.specs.inside.Senders.{IsSender, SendUnder, sent_all};
+ghost use Rattle.visit_replay.specs.declared.forms.Filled.{Filled as PlainFilled};
+
+use crate::conflicts::is_disabled;
+use page_tree::{Control, NoMemory, Page};
+use std::alloc::Global;
+use std::borrow::CowStr;
+
+/// One of them: its number, its name, and the text that it starts with.
+#[derive(Drop)]
+pub(crate) struct Sender<'p> {
+    pub(crate) number: u32,
+    pub(crate) name: &'p str,
+    pub(crate) start: CowStr<'p, Global>,
+}
+
+/// All of them under a form, in order.
+#[derive(Drop)]
+pub(crate) struct Senders<'p> {
+    all: Vec<Sender<'p>>,
+}
+
+impl<'p> Senders<'p> {
+    /// Those under a form. The time grows with how many nodes stand there.
+    pub(crate) fn under(alloc: Global, page: &'p Page, form: u32) -> Result<Senders<'p>, NoMemory>
+        requires { form < nodes page.now }
+        ensures { IfOk result (SendUnder page.now form) }
+    {
+        let mut them = Senders {
+            all: Vec::new(alloc),
+        };
+        let under = page.nodes_under(form);
+        for number in under.start..under.end {
+            them.note(page, number)?;
+        }
+        Ok(them)
+    }
+
+    pub(crate) fn as_slice(&self) -> &[Sender<'p>]
+        ensures { result.now ≡ self.now.all.items }
+    {
+        self.all.as_slice()
+    }
+
+    // Takes in one node more, if it may send something.
+    fn note(&mut self, page: &'p Page, number: u32) -> Result<(), NoMemory>
+        ensures each { OnOk result (All (IsSender page.now) self.old.all.items → All (IsSender page.now) self.new.all.items) }
+        ensures pairs { OnOk result ((filled : PlainFilled) → filled.page.now ≡ page.now → sent_all filled self.new.all.items
+            ≡ sent_all filled self.old.all.items ++ cons_option (pair_now filled number) []) }
+    {
+        let Some(name) = sent_name(page, number) else {
+            return Ok(());
+        };
+        if !may_send(page, number) {
+            return Ok(());
+        }
+        let start = start_of(page, number)?;
+        self.all.push(Sender {
+            number,
+            name,
+            start,
+        })?;
+        Ok(())
+    }
+}
+
+// A control that is disabled, or has no name, sends nothing.
+fn sent_name(page: &Page, number: u32) -> Option<&str>
+    ensures { option_map (λ name. name.now) result ≡ sent_name (place_numbered number page.now) page.now }
+{
+    if is_disabled(page, number) {
+        return None;
+    }
+    unless_empty(page.attribute_of(number, "name"))
+}
+
+/// An absent text and an empty one are the same.
+pub(crate) fn unless_empty(text: Option<&str>) -> Option<&str>
+    ensures { option_map (λ text. text.now) result ≡ unless_empty (option_map (λ text. text.now) text.entry) }
+{
+    match text {
+        Some(text) if !text.is_empty() => Some(text),
+        _ => None,
+    }
+}
+
+// Whether it is a control that may send its value: one whose state can't change must start on.
+#[tactic(auto, unfolding(crate::specs::Form::sent_value))]
+fn may_send(page: &Page, number: u32) -> bool
+    ensures { result ≡ false → (text : List ℕ) (on pressed : Bool)
+        → sent_value (control_at (place_numbered number page.now) page.now) text on pressed page.now (place_numbered number page.now) ≡ None }
+{
+    match page.control_of(number) {
+        Control::Text | Control::Check | Control::Submit => true,
+        Control::Radio => page.start_checked_of(number),
+        _ => false,
+    }
+}
+
+fn start_of<'p>(page: &'p Page, number: u32) -> Result<CowStr<'p, Global>, NoMemory>
+    ensures { IfOk result (λ text. cow_str_bytes text
+        ≡ unwrap_or (start_text_at (place_numbered number page.now) page.now) []) }
+{
+    match page.start_text_of(number)? {
+        Some(text) => Ok(text),
+        None => Ok(CowStr::Borrowed("")),
+    }
+}
