@@ -7,8 +7,7 @@ use Rattle.std.specs.List.{list_all, list_any, slice_split, onto_first, position
 use Rattle.std.specs.Str.Lossy.{utf8_lossy}
 use Rattle.form_urlencoded.specs.Form.{decode, IsPlain}
 use Rattle.form_urlencoded.proofs.FormLemmas.{decode_plain}
-use Rattle.page_looks.specs.Outline.{is_one_of}
-use Rattle.page_looks.specs.Sending.{pair_name, kept_pairs, next_pairs, query_text, unmarked_without}
+use Rattle.page_looks.specs.Sending.{is_passed_over, kept_pairs, next_pairs, query_text, unmarked_without}
 
 -- pairs with a mark before the first, and a `&` before each further one
 abbrev pub marked : List ℕ → List (List ℕ) → List ℕ
@@ -24,23 +23,23 @@ next_marked [] = refl
 next_marked (pair ∷ rest) = refl
 
 -- the first pair, kept or not
-cut_off : (fresh : List (List ℕ)) (pair : List ℕ) (rest : List (List ℕ)) (b : Bool) → is_one_of fresh (pair_name pair) ≡ b
-    → filter (λ p. not (is_one_of fresh (pair_name p))) (pair ∷ rest)
-    ≡ (if b then filter (λ p. not (is_one_of fresh (pair_name p))) rest else pair ∷ filter (λ p. not (is_one_of fresh (pair_name p))) rest)
+cut_off : (fresh : List (List ℕ)) (pair : List ℕ) (rest : List (List ℕ)) (b : Bool) → is_passed_over fresh pair ≡ b
+    → filter (λ p. not (is_passed_over fresh p)) (pair ∷ rest)
+    ≡ (if b then filter (λ p. not (is_passed_over fresh p)) rest else pair ∷ filter (λ p. not (is_passed_over fresh p)) rest)
 cut_off fresh pair rest true is = rw is refl
 cut_off fresh pair rest false is = rw is refl
 
 pub is_left_out : (fresh : List (List ℕ)) (text pair mark : List ℕ) (rest : List (List ℕ)) → slice_split (λ c. c == 38) text ≡ pair ∷ rest
-    → is_one_of fresh (pair_name pair) ≡ true → marked mark (kept_pairs fresh text) ≡ marked mark (filter (λ p. not (is_one_of fresh (pair_name p))) rest)
+    → is_passed_over fresh pair ≡ true → marked mark (kept_pairs fresh text) ≡ marked mark (filter (λ p. not (is_passed_over fresh p)) rest)
 is_left_out fresh text pair mark rest cut is =
-    ap (λ ps. marked mark (filter (λ p. not (is_one_of fresh (pair_name p))) ps)) cut ∙ ap (marked mark) (cut_off fresh pair rest true is)
+    ap (λ ps. marked mark (filter (λ p. not (is_passed_over fresh p)) ps)) cut ∙ ap (marked mark) (cut_off fresh pair rest true is)
 
 pub is_kept : (fresh : List (List ℕ)) (text pair mark : List ℕ) (rest : List (List ℕ)) → slice_split (λ c. c == 38) text ≡ pair ∷ rest
-    → is_one_of fresh (pair_name pair) ≡ false
-    → marked mark (kept_pairs fresh text) ≡ mark ++ pair ++ marked (codes "&") (filter (λ p. not (is_one_of fresh (pair_name p))) rest)
+    → is_passed_over fresh pair ≡ false
+    → marked mark (kept_pairs fresh text) ≡ mark ++ pair ++ marked (codes "&") (filter (λ p. not (is_passed_over fresh p)) rest)
 is_kept fresh text pair mark rest cut is =
-    ap (λ ps. marked mark (filter (λ p. not (is_one_of fresh (pair_name p))) ps)) cut ∙ ap (marked mark) (cut_off fresh pair rest false is)
-    ∙ ap (λ t. mark ++ pair ++ t) (next_marked (filter (λ p. not (is_one_of fresh (pair_name p))) rest))
+    ap (λ ps. marked mark (filter (λ p. not (is_passed_over fresh p)) ps)) cut ∙ ap (marked mark) (cut_off fresh pair rest false is)
+    ∙ ap (λ t. mark ++ pair ++ t) (next_marked (filter (λ p. not (is_passed_over fresh p)) rest))
 
 -- ---- cutting
 
@@ -117,37 +116,37 @@ pub kept_begin : (fresh : List (List ℕ)) (old query : List ℕ) → KeptSoFar 
 kept_begin fresh old query = ap (λ l. old ++ l) (sym (query_marked (kept_pairs fresh query)))
 
 pair_kept : (fresh : List (List ℕ)) (mark pair text now new next : List ℕ) (rest : List (List ℕ)) → slice_split (λ c. c == 38) text ≡ pair ∷ rest
-    → new ≡ now ++ (if is_one_of fresh (pair_name pair) then [] else mark ++ pair)
-    → next ≡ (if is_one_of fresh (pair_name pair) then mark else codes "&")
-    → new ++ marked next (filter (λ p. not (is_one_of fresh (pair_name p))) rest) ≡ now ++ marked mark (kept_pairs fresh text)
-pair_kept fresh mark pair text now new next rest cut pushed further = here (is_one_of fresh (pair_name pair)) refl
+    → new ≡ now ++ (if is_passed_over fresh pair then [] else mark ++ pair)
+    → next ≡ (if is_passed_over fresh pair then mark else codes "&")
+    → new ++ marked next (filter (λ p. not (is_passed_over fresh p)) rest) ≡ now ++ marked mark (kept_pairs fresh text)
+pair_kept fresh mark pair text now new next rest cut pushed further = here (is_passed_over fresh pair) refl
   where
-    here : (b : Bool) → is_one_of fresh (pair_name pair) ≡ b
-        → new ++ marked next (filter (λ p. not (is_one_of fresh (pair_name p))) rest) ≡ now ++ marked mark (kept_pairs fresh text)
+    here : (b : Bool) → is_passed_over fresh pair ≡ b
+        → new ++ marked next (filter (λ p. not (is_passed_over fresh p)) rest) ≡ now ++ marked mark (kept_pairs fresh text)
     here true own =
         let first : new ≡ now ++ [] = rw own at pushed in
         let whole : new ≡ now = first ∙ append-nil now in
         let mark_is : next ≡ mark = rw own at further in
-        ap (λ l. l ++ marked next (filter (λ p. not (is_one_of fresh (pair_name p))) rest)) whole
-        ∙ ap (λ m. now ++ marked m (filter (λ p. not (is_one_of fresh (pair_name p))) rest)) mark_is
+        ap (λ l. l ++ marked next (filter (λ p. not (is_passed_over fresh p)) rest)) whole
+        ∙ ap (λ m. now ++ marked m (filter (λ p. not (is_passed_over fresh p)) rest)) mark_is
         ∙ ap (λ l. now ++ l) (sym (is_left_out fresh text pair mark rest cut own))
     here false own =
         let whole : new ≡ now ++ (mark ++ pair) = rw own at pushed in
         let mark_is : next ≡ codes "&" = rw own at further in
-        ap (λ l. l ++ marked next (filter (λ p. not (is_one_of fresh (pair_name p))) rest)) whole
-        ∙ ap (λ m. (now ++ (mark ++ pair)) ++ marked m (filter (λ p. not (is_one_of fresh (pair_name p))) rest)) mark_is
-        ∙ append_assoc now (mark ++ pair) (marked (codes "&") (filter (λ p. not (is_one_of fresh (pair_name p))) rest))
+        ap (λ l. l ++ marked next (filter (λ p. not (is_passed_over fresh p)) rest)) whole
+        ∙ ap (λ m. (now ++ (mark ++ pair)) ++ marked m (filter (λ p. not (is_passed_over fresh p)) rest)) mark_is
+        ∙ append_assoc now (mark ++ pair) (marked (codes "&") (filter (λ p. not (is_passed_over fresh p)) rest))
         ∙ ap (λ l. now ++ l) (sym (is_kept fresh text pair mark rest cut own))
 
 pub kept_goes_on : (fresh : List (List ℕ)) (old query mark pair text now new next further : List ℕ) → KeptSoFar fresh old query now mark text
     → slice_split (λ c. c == 38) text ≡ pair ∷ slice_split (λ c. c == 38) further
-    → new ≡ now ++ (if is_one_of fresh (pair_name pair) then [] else mark ++ pair)
-    → next ≡ (if is_one_of fresh (pair_name pair) then mark else codes "&") → KeptSoFar fresh old query new next further
+    → new ≡ now ++ (if is_passed_over fresh pair then [] else mark ++ pair)
+    → next ≡ (if is_passed_over fresh pair then mark else codes "&") → KeptSoFar fresh old query new next further
 kept_goes_on fresh old query mark pair text now new next further so_far cut pushed mark_is =
     pair_kept fresh mark pair text now new next (slice_split (λ c. c == 38) further) cut pushed mark_is ∙ so_far
 
 pub kept_end : (fresh : List (List ℕ)) (old query mark pair text now new next : List ℕ) → KeptSoFar fresh old query now mark text
-    → slice_split (λ c. c == 38) text ≡ pair ∷ [] → new ≡ now ++ (if is_one_of fresh (pair_name pair) then [] else mark ++ pair)
-    → next ≡ (if is_one_of fresh (pair_name pair) then mark else codes "&") → new ≡ old ++ query_text (kept_pairs fresh query)
+    → slice_split (λ c. c == 38) text ≡ pair ∷ [] → new ≡ now ++ (if is_passed_over fresh pair then [] else mark ++ pair)
+    → next ≡ (if is_passed_over fresh pair then mark else codes "&") → new ≡ old ++ query_text (kept_pairs fresh query)
 kept_end fresh old query mark pair text now new next so_far cut pushed mark_is =
     sym (append-nil new) ∙ pair_kept fresh mark pair text now new next [] cut pushed mark_is ∙ so_far

@@ -17,10 +17,13 @@ use Rattle.page_looks.specs.Outline.{is_one_of, those_named, is_seen, outline}
 abbrev pub pair_name : List ℕ → List ℕ
 pair_name pair = utf8_lossy (decode (before_first (λ c. c == 61) pair))
 
--- the pairs of a query, as they are written, without those of fresh names
+-- a pair doesn't count that is empty (URL Standard, section 5.1), or has a fresh name
+abbrev pub is_passed_over : List (List ℕ) → List ℕ → Bool
+is_passed_over fresh pair = bytes_eq pair [] || is_one_of fresh (pair_name pair)
+
+-- the pairs of a query that count, as they are written
 abbrev pub kept_pairs : List (List ℕ) → List ℕ → List (List ℕ)
-kept_pairs fresh query =
-    filter (λ pair. not (is_one_of fresh (pair_name pair))) (slice_split (λ c. c == 38) query)
+kept_pairs fresh query = filter (λ pair. not (is_passed_over fresh pair)) (slice_split (λ c. c == 38) query)
 
 abbrev pub next_pairs : List (List ℕ) → List ℕ
 next_pairs rest = flat_map (λ next. codes "&" ++ next) rest

@@ -2,7 +2,7 @@
 ghost use Rattle.std.specs.Prelude.{ℕ, List, [], ◌∷◌, ◌++◌, ◌≡◌, ◌<◌, ◌==◌, length, IfOk, IfSome, OnOk, MatchOption, not, ◌||◌, if◌then◌else◌, codes, string_bytes};
 ghost use Rattle.std.specs.List.{before_first, list_all, slice_split};
 ghost use Rattle.page_looks.specs.Outline.{is_one_of};
-ghost use Rattle.page_looks.specs.Sending.{pair_name, kept_pairs, query_text, unmarked_without, without_fresh};
+ghost use Rattle.page_looks.specs.Sending.{is_passed_over, pair_name, kept_pairs, query_text, unmarked_without, without_fresh};
 
 use form_urlencoded::decode;
 use page_tree::{NoMemory, Text};
@@ -68,11 +68,11 @@ fn push_pair(
     pair: &str,
 ) -> Result<&'static str, NoMemory>
     ensures kept { OnOk result (string_bytes kept.new ≡ string_bytes kept.old
-        ++ (if is_one_of fresh.now (pair_name pair.now) then [] else mark.now ++ pair.now)) }
+        ++ (if is_passed_over fresh.now pair.now then [] else mark.now ++ pair.now)) }
     ensures next { IfOk result (λ next. next.now
-        ≡ (if is_one_of fresh.now (pair_name pair.now) then mark.now else codes "&")) }
+        ≡ (if is_passed_over fresh.now pair.now then mark.now else codes "&")) }
 {
-    if has_fresh_name(alloc, fresh, pair)? {
+    if is_passed_over(alloc, fresh, pair)? {
         return Ok(mark);
     }
     kept.push_str(mark)?;
@@ -92,8 +92,18 @@ pub fn first_pair(query: &str) -> (&str, Option<&str>)
     }
 }
 
-/// Whether the name of a pair, as it is written in a query, is one of these. A name is decoded only where that could change it.
-pub fn has_fresh_name(alloc: Global, fresh: &[Text], pair: &str) -> Result<bool, NoMemory>
+/// Whether a pair, as it is written in a query, doesn't count: it is empty (URL Standard, section 5.1), or its name is one of these.
+pub fn is_passed_over(alloc: Global, fresh: &[Text], pair: &str) -> Result<bool, NoMemory>
+    ensures { IfOk result (λ over. over ≡ is_passed_over fresh.now pair.now) }
+{
+    if pair.is_empty() {
+        return Ok(true);
+    }
+    has_fresh_name(alloc, fresh, pair)
+}
+
+// Whether its name is one of these. A name is decoded only where that could change it.
+fn has_fresh_name(alloc: Global, fresh: &[Text], pair: &str) -> Result<bool, NoMemory>
     ensures { IfOk result (λ fresh_one. fresh_one ≡ is_one_of fresh.now (pair_name pair.now)) }
 {
     let name = written_name(pair);

@@ -21,7 +21,7 @@ mod shapes;
 mod tables;
 mod telling;
 
-pub use addresses::{first_pair, has_fresh_name, without_fresh};
+pub use addresses::{first_pair, is_passed_over, without_fresh};
 pub use beside::{Beside, Same};
 pub use fresh_names::FreshNames;
 pub use laws::{

@@ -11,12 +11,12 @@ use Rattle.std.proofs.lemmas.Str.{utf8_lossy-IsUtf8}
 use Rattle.form_urlencoded.specs.Form.{byte_serialize, decode, extend_pairs, serialize_pair}
 use Rattle.form_urlencoded.proofs.FormLemmas.{IsSerializedByte, All-byte_serialize, decode-byte_serialize, split_once_before_at, split_once_after_at, split_once_before_none}
 use Rattle.page_looks.specs.Outline.{is_one_of}
-use Rattle.page_looks.specs.Sending.{pair_name, kept_pairs, query_text, unmarked_without, without_fresh}
+use Rattle.page_looks.specs.Sending.{is_passed_over, kept_pairs, query_text, unmarked_without, without_fresh}
 use Rattle.client_log.specs.declared.visit.Visit.{Visit}
 use Rattle.visit_replay.specs.Difference.{are_alike, was_asked}
 use Rattle.visit_replay.specs.Form.{Pair, bare, sent_to}
 use Rattle.visit_replay.specs.inside.Differing.{kept_beside, only_numbered}
-use Rattle.visit_replay.specs.inside.FieldsNow.{IsButFor, emptied, without_those}
+use Rattle.visit_replay.specs.inside.FieldsNow.{IsButFor, is_of_one, told, without_those}
 use Rattle.visit_replay.specs.declared.requests.Method.{Method}
 use Rattle.visit_replay.specs.declared.requests.Method.TheVariants.{Get, Post}
 use Rattle.visit_replay.specs.declared.requests.Request.{Request}
@@ -60,25 +60,18 @@ no_ampersand pair = pair_is (λ b. (b == 38) ≡ false) (λ b is. ne_eqb b 38 (n
 
 -- ---- a pair, and its name
 
--- with no value, or as it is
-abbrev pub left_out : Pair → Bool → Pair
-left_out pair b = if b then (pair.0, []) else pair
-
 name_of : (name value : List ℕ) → before_first (λ c. c == 61) (serialize_pair (name, value)) ≡ byte_serialize name
 name_of name value =
     ap (before_first (λ c. c == 61)) (append_assoc (byte_serialize name) (61 ∷ []) (byte_serialize value))
     ∙ split_once_before_at 61 (byte_serialize name) (byte_serialize value) (All-weaker IsSerializedByte (λ b. b ≢ 61) not_equals (byte_serialize name) (All-byte_serialize name))
 
-pub emptied_by : (names : List (List ℕ)) (name value : List ℕ) → IsUtf8 name → All (λ b. b < 256) name
-    → emptied names (name, value) ≡ left_out (name, value) (is_one_of names name)
-emptied_by names name value text small =
-    let read : pair_name (serialize_pair (name, value)) ≡ name =
-    ap (λ n. utf8_lossy (decode n)) (name_of name value) ∙ ap utf8_lossy (decode-byte_serialize name small) ∙ utf8_lossy-IsUtf8 name text in
-    ap (λ n. left_out (name, value) (is_one_of names n)) read
+pub named_so : (names : List (List ℕ)) (name value : List ℕ) → IsUtf8 name → All (λ b. b < 256) name → is_one_of names name ≡ is_of_one names (name, value)
+named_so names name value text small =
+    ap (is_one_of names) (sym (ap (λ n. utf8_lossy (decode n)) (name_of name value) ∙ ap utf8_lossy (decode-byte_serialize name small) ∙ utf8_lossy-IsUtf8 name text))
 
-none_emptied : (pairs : List Pair) → map (emptied []) pairs ≡ pairs
-none_emptied [] = refl
-none_emptied (pair ∷ rest) = ap (λ l. pair ∷ l) (none_emptied rest)
+none_left_out : (pairs : List Pair) → told true [] pairs ≡ pairs
+none_left_out [] = refl
+none_left_out (pair ∷ rest) = ap (λ l. pair ∷ l) (none_left_out rest)
 
 -- ---- pairs that count
 
@@ -87,35 +80,43 @@ parts pair [] = ap (slice_split (λ c. c == 38)) (append-nil (serialize_pair pai
 parts pair (next ∷ pairs) =
     slice_split_at (λ c. c == 38) (serialize_pair pair) 38 (joined [] (next ∷ pairs)) (no_ampersand pair) refl ∙ ap (λ l. serialize_pair pair ∷ l) (parts next pairs)
 
+not_empty : (name value : List ℕ) → bytes_eq (name ++ 61 ∷ [] ++ value) [] ≡ false
+not_empty [] value = refl
+not_empty (c ∷ name) value = refl
+
 module _ (fresh : List (List ℕ)) where
   abbrev counting : List (List ℕ) → List (List ℕ)
-  counting them = filter (λ pair. not (is_one_of fresh (pair_name pair))) them
+  counting them = filter (λ pair. not (is_passed_over fresh pair)) them
 
-  cut : (x : List ℕ) (xs : List (List ℕ)) (b : Bool) → is_one_of fresh (pair_name x) ≡ b → counting (x ∷ xs) ≡ (if b then counting xs else x ∷ counting xs)
+  over : (pair : Pair) → is_passed_over fresh (serialize_pair pair) ≡ is_of_one fresh pair
+  over pair = ap (λ b. b || is_of_one fresh pair) (not_empty (byte_serialize pair.0) (byte_serialize pair.1))
+
+  cut : (x : List ℕ) (xs : List (List ℕ)) (b : Bool) → is_passed_over fresh x ≡ b → counting (x ∷ xs) ≡ (if b then counting xs else x ∷ counting xs)
   cut x xs true is = rw is refl
   cut x xs false is = rw is refl
 
-  one_more : (pair : Pair) (xs ys : List (List ℕ)) → counting xs ≡ counting ys → (b : Bool) → is_one_of fresh (pair_name (serialize_pair pair)) ≡ b
-      → counting (serialize_pair (left_out pair b) ∷ xs) ≡ counting (serialize_pair pair ∷ ys)
-  one_more pair xs ys same true is =
-      let name : is_one_of fresh (pair_name (serialize_pair (pair.0, []))) ≡ true =
-      ap (λ n. is_one_of fresh (utf8_lossy (decode n))) (name_of pair.0 [] ∙ sym (name_of pair.0 pair.1)) ∙ is in
-      cut (serialize_pair (pair.0, [])) xs true name ∙ same ∙ sym (cut (serialize_pair pair) ys true is)
-  one_more pair xs ys same false is =
-      cut (serialize_pair pair) xs false is ∙ ap (λ l. serialize_pair pair ∷ l) same ∙ sym (cut (serialize_pair pair) ys false is)
+  left : (pair : Pair) (pairs : List Pair) (b : Bool) → is_of_one fresh pair ≡ b → told true fresh (pair ∷ pairs) ≡ (if b then told true fresh pairs else pair ∷ told true fresh pairs)
+  left pair pairs true is = rw is refl
+  left pair pairs false is = rw is refl
 
-  same_kept : (pairs : List Pair) → counting (map serialize_pair (map (emptied fresh) pairs)) ≡ counting (map serialize_pair pairs)
+  kept_here : (pair : Pair) (rest : List Pair) (b : Bool) → is_of_one fresh pair ≡ b → counting (map serialize_pair (told true fresh rest)) ≡ counting (map serialize_pair rest)
+      → counting (map serialize_pair (told true fresh (pair ∷ rest))) ≡ counting (map serialize_pair (pair ∷ rest))
+  kept_here pair rest true is later =
+      ap (λ ps. counting (map serialize_pair ps)) (left pair rest true is) ∙ later ∙ sym (cut (serialize_pair pair) (map serialize_pair rest) true (over pair ∙ is))
+  kept_here pair rest false is later =
+      ap (λ ps. counting (map serialize_pair ps)) (left pair rest false is) ∙ cut (serialize_pair pair) (map serialize_pair (told true fresh rest)) false (over pair ∙ is)
+      ∙ ap (λ l. serialize_pair pair ∷ l) later ∙ sym (cut (serialize_pair pair) (map serialize_pair rest) false (over pair ∙ is))
+
+  same_kept : (pairs : List Pair) → counting (map serialize_pair (told true fresh pairs)) ≡ counting (map serialize_pair pairs)
   same_kept [] = refl
-  same_kept (pair ∷ rest) =
-      one_more pair (map serialize_pair (map (emptied fresh) rest)) (map serialize_pair rest) (same_kept rest) (is_one_of fresh (pair_name (serialize_pair pair))) refl
+  same_kept (pair ∷ rest) = kept_here pair rest (is_of_one fresh pair) refl (same_kept rest)
 
-  kept_of_parts : (pair : Pair) (pairs : List Pair) → kept_pairs fresh (extend_pairs [] (pair ∷ pairs)) ≡ counting (map serialize_pair (pair ∷ pairs))
-  kept_of_parts pair pairs = ap (kept_pairs fresh) (sym (joined_first (pair ∷ pairs))) ∙ ap counting (parts pair pairs)
+  kept_of_parts : (pairs : List Pair) → kept_pairs fresh (extend_pairs [] pairs) ≡ counting (map serialize_pair pairs)
+  kept_of_parts [] = refl
+  kept_of_parts (pair ∷ pairs) = ap (kept_pairs fresh) (sym (joined_first (pair ∷ pairs))) ∙ ap counting (parts pair pairs)
 
-  same_query : (pairs : List Pair) → kept_pairs fresh (extend_pairs [] (map (emptied fresh) pairs)) ≡ kept_pairs fresh (extend_pairs [] pairs)
-  same_query [] = refl
-  same_query (pair ∷ rest) =
-      kept_of_parts (emptied fresh pair) (map (emptied fresh) rest) ∙ same_kept (pair ∷ rest) ∙ sym (kept_of_parts pair rest)
+  same_query : (pairs : List Pair) → kept_pairs fresh (extend_pairs [] (told true fresh pairs)) ≡ kept_pairs fresh (extend_pairs [] pairs)
+  same_query pairs = kept_of_parts (told true fresh pairs) ∙ same_kept pairs ∙ sym (kept_of_parts pairs)
 
 -- ---- an address
 
@@ -167,33 +168,34 @@ bare_whole action = front_is (λ b. b ≢ 35) (λ c. c == 63 || c == 35) (λ b i
 -- ---- a request
 
 pub same_address : (fresh : List (List ℕ)) (action : List ℕ) (pairs : List Pair)
-    → without_fresh fresh (bare action ++ codes "?" ++ extend_pairs [] (map (emptied fresh) pairs)) ≡ without_fresh fresh (bare action ++ codes "?" ++ extend_pairs [] pairs)
+    → without_fresh fresh (bare action ++ codes "?" ++ extend_pairs [] (told true fresh pairs)) ≡ without_fresh fresh (bare action ++ codes "?" ++ extend_pairs [] pairs)
 same_address fresh action pairs =
-    what_counts_is fresh (bare action) (extend_pairs [] (map (emptied fresh) pairs)) (bare_unmarked action) (bare_whole action) (no_hash (map (emptied fresh) pairs))
+    what_counts_is fresh (bare action) (extend_pairs [] (told true fresh pairs)) (bare_unmarked action) (bare_whole action) (no_hash (told true fresh pairs))
     ∙ ap (λ them. bare action ++ query_text them) (same_query fresh pairs)
     ∙ sym (what_counts_is fresh (bare action) (extend_pairs [] pairs) (bare_unmarked action) (bare_whole action) (no_hash pairs))
 
 same_sent_pairs : (fresh : List (List ℕ)) (pairs : List Pair)
-    → without_fresh fresh (codes "?" ++ extend_pairs [] (map (emptied fresh) pairs)) ≡ without_fresh fresh (codes "?" ++ extend_pairs [] pairs)
+    → without_fresh fresh (codes "?" ++ extend_pairs [] (told true fresh pairs)) ≡ without_fresh fresh (codes "?" ++ extend_pairs [] pairs)
 same_sent_pairs fresh pairs = same_address fresh [] pairs
 
 abbrev made : ℕ → Method → List ℕ → List ℕ → Request
 made number method address pairs = record { number = number; method = method; address = address; pairs = pairs }
 
 same_request : (fresh : List (List ℕ)) (post : Bool) (number : ℕ) (action : List ℕ) (pairs : List Pair)
-    → without_those fresh (sent_to post number action (extend_pairs [] (map (emptied fresh) pairs))) ≡ without_those fresh (sent_to post number action (extend_pairs [] pairs))
+    → without_those fresh (sent_to post number action (extend_pairs [] (told true fresh pairs))) ≡ without_those fresh (sent_to post number action (extend_pairs [] pairs))
 same_request fresh true number action pairs = ap (made number Post (without_fresh fresh action)) (same_sent_pairs fresh pairs)
 same_request fresh false number action pairs = ap₂ (made number Get) (same_address fresh action pairs) (same_sent_pairs fresh pairs)
 
-pub form_is : (names : List (List ℕ)) (post : Bool) (number : ℕ) (action : List ℕ) (pairs : List Pair)
-    → IsButFor names (Some (sent_to post number action (extend_pairs [] (map (emptied names) pairs)))) (Some (sent_to post number action (extend_pairs [] pairs)))
-form_is names post number action pairs = (
-  λ none. ap (λ them. Some (sent_to post number action (extend_pairs [] them))) (ap (λ n. map (emptied n) pairs) none ∙ none_emptied pairs),
-  ap Some (same_request names post number action pairs),
-)
-
 pub is_but_for_none : (names : List (List ℕ)) (it request : Option Request) → it ≡ request → IsButFor names it request
 is_but_for_none names it request same = (λ none. same, ap (λ (o : Option Request). option_map (without_those names) o) same)
+
+pub form_is : (counted : Bool) (names : List (List ℕ)) (post : Bool) (number : ℕ) (action : List ℕ) (pairs : List Pair)
+    → IsButFor (if counted then names else []) (Some (sent_to post number action (extend_pairs [] (told counted names pairs)))) (Some (sent_to post number action (extend_pairs [] pairs)))
+form_is false names post number action pairs = is_but_for_none [] (Some (sent_to post number action (extend_pairs [] pairs))) (Some (sent_to post number action (extend_pairs [] pairs))) refl
+form_is true names post number action pairs = (
+  λ none. ap (λ them. Some (sent_to post number action (extend_pairs [] them))) (ap (λ n. told true n pairs) none ∙ none_left_out pairs),
+  ap Some (same_request names post number action pairs),
+)
 
 pub alike_for : (fresh : List (List ℕ)) (a b is : Request) → without_those fresh a ≡ without_those fresh b → are_alike fresh a is ≡ are_alike fresh b is
 alike_for fresh a b is same =

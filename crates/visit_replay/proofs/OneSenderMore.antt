@@ -1,6 +1,7 @@
 -- What senders send is what one after the other does.
-use Rattle.std.proofs.Common.{◌≡◌, ℕ, ◌+◌, ◌-◌, ◌<◌, ◌≤◌, List, [], ◌∷◌, ◌++◌, map, drop, length, get_or, Option, Some, None, refl, arith, ap, ◌∙◌, sym, subst}
+use Rattle.std.proofs.Common.{◌≡◌, ℕ, ◌+◌, ◌-◌, ◌<◌, ◌≤◌, List, [], ◌∷◌, ◌++◌, ◌==◌, ◌&&◌, Bool, true, false, if◌then◌else◌, option_map, option_and_then, map, drop, length, get_or, Option, Some, None, refl, arith, ap, ◌∙◌, sym, subst}
 use Rattle.std.specs.List.{cons_option, filter_map, range_with_len}
+use Rattle.std.specs.Option.{option_map_or}
 use Rattle.std.proofs.lemmas.List.{at_drop_more}
 use Rattle.std.proofs.lemmas.List.Elements.{filter_map-append}
 use Rattle.form_urlencoded.specs.Form.{extend_pairs}
@@ -9,12 +10,14 @@ use Rattle.page_tree.specs.Limits.{nodes}
 use Rattle.page_tree.specs.Number.{place_numbered}
 use Rattle.page_tree.specs.Under.{places_under}
 use Rattle.page_tree.proofs.Numbers.{range-append}
-use Rattle.visit_replay.specs.Form.{Pair}
+use Rattle.page_tree.specs.Control.{control_at}
+use Rattle.visit_replay.specs.Form.{Pair, sent_name, sent_value}
+use Rattle.visit_replay.specs.inside.KeptFields.{text_now, is_on_now}
 use Rattle.visit_replay.specs.declared.forms.Filled.{Filled}
 use Rattle.visit_replay.specs.declared.senders.Sender.{Sender}
-use Rattle.visit_replay.specs.inside.FieldsNow.{OfSent, pair_now, pairs_now}
+use Rattle.visit_replay.specs.inside.FieldsNow.{OfSent, is_of_one, pair_now, pairs_now, told}
 use Rattle.visit_replay.specs.inside.OneEvent.{IsWithin}
-use Rattle.visit_replay.specs.inside.Senders.{sent_all}
+use Rattle.visit_replay.specs.inside.Senders.{SaysFresh, IsSender, sent_all}
 use Rattle.visit_replay.proofs.FieldsStandForEvents.{same_sent}
 
 -- those from the i-th on
@@ -25,17 +28,53 @@ pub sent_from : (filled : Filled) (senders : List Sender) (i : ℕ) (sender : Se
     → sent_all filled (drop i senders) ≡ cons_option (pair_now filled sender.number) (sent_all filled (drop (i + 1) senders))
 sent_from filled senders i sender below is = ap (sent_all filled) (left_here senders i sender below is)
 
--- and they are written so, each as that function gives it
-extend_one : (f : Pair → Pair) (form : List ℕ) (o : Option Pair) (rest : List Pair)
-    → extend_pairs (extend_pairs form (map f (cons_option o []))) (map f rest) ≡ extend_pairs form (map f (cons_option o rest))
-extend_one f form None rest = refl
-extend_one f form (Some p) rest = refl
+-- and they are written so, all or those that count
+extend_one : (counted : Bool) (names : List (List ℕ)) (form : List ℕ) (o : Option Pair) (rest : List Pair)
+    → extend_pairs (extend_pairs form (told counted names (cons_option o []))) (told counted names rest) ≡ extend_pairs form (told counted names (cons_option o rest))
+extend_one false names form None rest = refl
+extend_one false names form (Some p) rest = refl
+extend_one true names form None rest = refl
+extend_one true names form (Some p) rest = go (is_of_one names p) refl
+  where
+    go : (b : Bool) → is_of_one names p ≡ b → extend_pairs (extend_pairs form (told true names (p ∷ []))) (told true names rest) ≡ extend_pairs form (told true names (p ∷ rest))
+    go true is = rw is refl
+    go false is = rw is refl
 
-pub extend_sender : (f : Pair → Pair) (filled : Filled) (senders : List Sender) (form : List ℕ) (i : ℕ) (sender : Sender) → i < length senders → sender ≡ get_or senders i sender
-    → extend_pairs (extend_pairs form (map f (cons_option (pair_now filled sender.number) []))) (map f (sent_all filled (drop (i + 1) senders))) ≡ extend_pairs form (map f (sent_all filled (drop i senders)))
-extend_sender f filled senders form i sender below is =
-    extend_one f form (pair_now filled sender.number) (sent_all filled (drop (i + 1) senders))
-    ∙ ap (λ them. extend_pairs form (map f them)) (sym (sent_from filled senders i sender below is))
+pub extend_sender : (counted : Bool) (names : List (List ℕ)) (filled : Filled) (senders : List Sender) (form : List ℕ) (i : ℕ) (sender : Sender) → i < length senders → sender ≡ get_or senders i sender
+    → extend_pairs (extend_pairs form (told counted names (cons_option (pair_now filled sender.number) []))) (told counted names (sent_all filled (drop (i + 1) senders))) ≡ extend_pairs form (told counted names (sent_all filled (drop i senders)))
+extend_sender counted names filled senders form i sender below is =
+    extend_one counted names form (pair_now filled sender.number) (sent_all filled (drop (i + 1) senders))
+    ∙ ap (λ them. extend_pairs form (told counted names them)) (sym (sent_from filled senders i sender below is))
+
+-- ---- a sender whose name is fresh, or isn't
+
+abbrev with_value : Option (List ℕ) → List ℕ → Option Pair
+with_value o name = option_map (λ v. (name, v)) o
+
+named : (name : List ℕ) (n o : Option (List ℕ)) → n ≡ Some name → option_and_then (with_value o) n ≡ with_value o name
+named name n o is = ap (option_and_then (with_value o)) is
+
+told_of : (names : List (List ℕ)) (name : List ℕ) (o : Option (List ℕ)) (b : Bool) → ((value : List ℕ) → b ≡ is_of_one names (name, value))
+    → told true names (cons_option (option_map (λ v. (name, v)) o) []) ≡ (if b then [] else cons_option (option_map (λ v. (name, v)) o) [])
+told_of names name None true marked = refl
+told_of names name None false marked = refl
+told_of names name (Some v) true marked = rw (← marked v) refl
+told_of names name (Some v) false marked = rw (← marked v) refl
+
+pub told_here : (names : List (List ℕ)) (filled : Filled) (sender : Sender) → IsSender filled.page.now sender → SaysFresh names sender
+    → told true names (cons_option (pair_now filled sender.number) []) ≡ (if sender.is_fresh then [] else cons_option (pair_now filled sender.number) [])
+told_here names filled sender is marked =
+    let new = filled.page.now in
+    let place = place_numbered sender.number new in
+    let value = sent_value (control_at place new) (text_now filled.fields.now new sender.number) (is_on_now filled.fields.now new sender.number)
+    (option_map_or (λ pressed. pressed == sender.number) filled.button false) new place in
+    let whole : pair_now filled sender.number ≡ option_map (λ v. (sender.name.now, v)) value = named sender.name.now (sent_name place new) value is.name in
+    ap (λ o. told true names (cons_option o [])) whole ∙ told_of names sender.name.now value sender.is_fresh marked ∙ ap (λ (o : Option Pair). if sender.is_fresh then [] else cons_option o []) (sym whole)
+
+pub told_either : (counted : Bool) (names : List (List ℕ)) (filled : Filled) (sender : Sender) → IsSender filled.page.now sender → SaysFresh names sender
+    → told counted names (cons_option (pair_now filled sender.number) []) ≡ (if counted && sender.is_fresh then [] else cons_option (pair_now filled sender.number) [])
+told_either false names filled sender is marked = refl
+told_either true names filled sender is marked = told_here names filled sender is marked
 
 -- of the nodes up to one number, and of that one
 pub numbered_more : (filled : Filled) (start number : ℕ) → start ≤ number → pairs_now filled start (number + 1) ≡ pairs_now filled start number ++ cons_option (pair_now filled number) []

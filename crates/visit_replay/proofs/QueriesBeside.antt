@@ -1,5 +1,5 @@
 -- Two queries beside one another: what counts of both is one, where it is so pair by pair.
-use Rattle.std.proofs.Common.{◌≡◌, ◌≢◌, ℕ, ◌<◌, ◌==◌, List, [], ◌∷◌, ◌++◌, filter, length, nat_lt, not, Bool, true, false, ◌&&◌, if◌then◌else◌, All, Option, Some, None, option_map, MatchOption, IfSome, Bor, refl, sym, ap, ap₂, ◌∙◌, subst, append_assoc, arith}
+use Rattle.std.proofs.Common.{◌≡◌, ◌≢◌, ℕ, ◌<◌, ◌==◌, List, [], ◌∷◌, ◌++◌, filter, length, nat_lt, not, Bool, true, false, ◌&&◌, if◌then◌else◌, All, Option, Some, None, option_map, MatchOption, IfSome, Bor, refl, sym, ap, ap₂, ◌∙◌, subst, append_assoc, append-nil, arith}
 use Rattle.std.specs.List.{after_first, before_first, list_all, position_or_len, slice_split}
 use Rattle.std.specs.Str.{bytes_eq}
 use Rattle.std.proofs.Math.Seq.{take_all}
@@ -7,9 +7,8 @@ use Rattle.std.proofs.lemmas.Bool.{and_parts, ltb-true, ltb-false, ne_eqb, eqb-f
 use Rattle.std.proofs.lemmas.List.Elements.{All-nil, All-cons, All-head, All-tail}
 use Rattle.std.proofs.lemmas.List.Splits.{slice_split_first, slice_split_none}
 use Rattle.std.proofs.lemmas.List.Sums.{fails_before_first, passes_at_first, split_at_first}
-use Rattle.page_looks.specs.Outline.{is_one_of}
-use Rattle.page_looks.specs.Sending.{kept_pairs, next_pairs, pair_name, query_text, without_fresh}
-use Rattle.page_looks.proofs.CounterpartLaws.{bytes_one}
+use Rattle.page_looks.specs.Sending.{is_passed_over, kept_pairs, next_pairs, query_text, without_fresh}
+use Rattle.page_looks.proofs.CounterpartLaws.{bytes_one, bytes_same}
 use Rattle.visit_replay.specs.inside.Queries.{IsQueryOf, how_long, kept_in}
 use Rattle.visit_replay.proofs.FreshValues.{front_is, what_counts_is}
 use Rattle.visit_replay.proofs.LeftBehind.{eq_both}
@@ -38,9 +37,6 @@ first_free text pair rest is =
 
 -- ---- what counts of a query
 
-abbrev pub is_left_out : List (List ℕ) → List ℕ → Bool
-is_left_out fresh pair = is_one_of fresh (pair_name pair)
-
 -- a pair and the ones behind it that count
 abbrev pub with_first : Bool → List ℕ → List (List ℕ) → List (List ℕ)
 with_first left_out pair more = if left_out then more else pair ∷ more
@@ -55,16 +51,16 @@ free_of text pair (Some rest) is = first_free text pair (slice_split is_mark res
 abbrev pub behind : Option (Bor (List ℕ)) → Option (List ℕ)
 behind next = option_map (λ q. q.now) next
 
-counted : (fresh : List (List ℕ)) (pair : List ℕ) (more : List (List ℕ)) (b : Bool) → is_left_out fresh pair ≡ b
-    → filter (λ p. not (is_one_of fresh (pair_name p))) (pair ∷ more) ≡ with_first b pair (filter (λ p. not (is_one_of fresh (pair_name p))) more)
+counted : (fresh : List (List ℕ)) (pair : List ℕ) (more : List (List ℕ)) (b : Bool) → is_passed_over fresh pair ≡ b
+    → filter (λ p. not (is_passed_over fresh p)) (pair ∷ more) ≡ with_first b pair (filter (λ p. not (is_passed_over fresh p)) more)
 counted fresh pair more true is = rw is refl
 counted fresh pair more false is = rw is refl
 
-pub kept_first : (fresh : List (List ℕ)) (text pair : List ℕ) (next : Option (Bor (List ℕ))) (b : Bool) → IsFirst text pair next → is_left_out fresh pair ≡ b
+pub kept_first : (fresh : List (List ℕ)) (text pair : List ℕ) (next : Option (Bor (List ℕ))) (b : Bool) → IsFirst text pair next → is_passed_over fresh pair ≡ b
     → kept_pairs fresh text ≡ with_first b pair (kept_in fresh (behind next))
-kept_first fresh text pair None b is left_out = ap (filter (λ p. not (is_one_of fresh (pair_name p)))) is ∙ counted fresh pair [] b left_out
+kept_first fresh text pair None b is left_out = ap (filter (λ p. not (is_passed_over fresh p))) is ∙ counted fresh pair [] b left_out
 kept_first fresh text pair (Some rest) b is left_out =
-    ap (filter (λ p. not (is_one_of fresh (pair_name p)))) is ∙ counted fresh pair (slice_split is_mark rest.now) b left_out
+    ap (filter (λ p. not (is_passed_over fresh p))) is ∙ counted fresh pair (slice_split is_mark rest.now) b left_out
 
 -- ---- texts of pairs
 
@@ -111,13 +107,26 @@ module _ (fresh : List (List ℕ)) (was is pair other : List ℕ) (next further 
       → bytes_eq (query_text (kept_in fresh (behind next))) (query_text (kept_in fresh (behind further))) ≡ bytes_eq (query_text (kept_pairs fresh was)) (query_text (kept_pairs fresh is))
   both_same same =
       let as_pair = subst (λ p. IsFirst is p further) (sym (bytes_one pair other same)) second in
-      sym (ap₂ (λ x y. bytes_eq (query_text x) (query_text y)) (kept_first fresh was pair next (is_left_out fresh pair) first refl) (kept_first fresh is pair further (is_left_out fresh pair) as_pair refl)
-      ∙ same_first (is_left_out fresh pair) pair (kept_in fresh (behind next)) (kept_in fresh (behind further)))
+      sym (ap₂ (λ x y. bytes_eq (query_text x) (query_text y)) (kept_first fresh was pair next (is_passed_over fresh pair) first refl) (kept_first fresh is pair further (is_passed_over fresh pair) as_pair refl)
+      ∙ same_first (is_passed_over fresh pair) pair (kept_in fresh (behind next)) (kept_in fresh (behind further)))
 
-  pub both_apart : bytes_eq pair other ≡ false → is_left_out fresh pair ≡ false → is_left_out fresh other ≡ false → bytes_eq (query_text (kept_pairs fresh was)) (query_text (kept_pairs fresh is)) ≡ false
+  pub both_apart : bytes_eq pair other ≡ false → is_passed_over fresh pair ≡ false → is_passed_over fresh other ≡ false → bytes_eq (query_text (kept_pairs fresh was)) (query_text (kept_pairs fresh is)) ≡ false
   both_apart apart one two =
       ap₂ (λ x y. bytes_eq (query_text x) (query_text y)) (kept_first fresh was pair next false first one) (kept_first fresh is other further false second two)
       ∙ heads_apart pair other (kept_in fresh (behind next)) (kept_in fresh (behind further)) (free_of was pair next first) (free_of is other further second) apart
+
+-- ---- a pair that doesn't count
+
+pub passed_first : (fresh : List (List ℕ)) (was pair : List ℕ) (next : Option (Bor (List ℕ))) (others : List (List ℕ)) → IsFirst was pair next → is_passed_over fresh pair ≡ true
+    → bytes_eq (query_text (kept_in fresh (behind next))) (query_text others) ≡ bytes_eq (query_text (kept_pairs fresh was)) (query_text others)
+passed_first fresh was pair next others first over = sym (ap (λ x. bytes_eq (query_text x) (query_text others)) (kept_first fresh was pair next true first over))
+
+pub passed_second : (fresh : List (List ℕ)) (is other : List ℕ) (further : Option (Bor (List ℕ))) (others : List (List ℕ)) → IsFirst is other further → is_passed_over fresh other ≡ true
+    → bytes_eq (query_text others) (query_text (kept_in fresh (behind further))) ≡ bytes_eq (query_text others) (query_text (kept_pairs fresh is))
+passed_second fresh is other further others second over = sym (ap (λ x. bytes_eq (query_text others) (query_text x)) (kept_first fresh is other further true second over))
+
+pub eq_self : (text : List ℕ) → bytes_eq text text ≡ true
+eq_self text = ap₂ bytes_eq (sym (append-nil text)) (sym (append-nil text)) ∙ eq_both text [] []
 
 pub less_left : (text : List ℕ) (next : Option (Bor (List ℕ))) → IfSome next (λ rest. length rest.now < length text) → how_long (behind next) < how_long (Some text)
 less_left text None less = omega arith
@@ -148,6 +157,10 @@ whole_parts (x ∷ start) query whole =
     let later = whole_parts start query parts.1 in
     (All-cons (λ b. b ≢ 35) x start (eqb-false x 35 (not-true _ parts.0)) later.0, later.1)
 
+behind_all : (start query : List ℕ) → list_all (λ c. not (c == 35)) (start ++ query) ≡ true → list_all (λ c. not (c == 35)) query ≡ true
+behind_all [] query whole = whole
+behind_all (x ∷ start) query whole = behind_all start query (and_parts _ _ whole).1
+
 counts : (fresh : List (List ℕ)) (address start query : List ℕ) → IsQueryOf address start query → without_fresh fresh address ≡ start ++ query_text (kept_pairs fresh query)
 counts fresh address start query is =
     let parts = whole_parts start query (sym (ap (list_all (λ c. not (c == 35))) is.cut) ∙ is.whole) in
@@ -159,3 +172,36 @@ pub by_queries : (fresh : List (List ℕ)) (before now start other was is : List
 by_queries fresh before now start other was is first second same =
     sym (ap₂ bytes_eq (counts fresh before start was first) (counts fresh now other is second ∙ ap (λ s. s ++ query_text (kept_pairs fresh is)) (sym (bytes_one start other same)))
     ∙ eq_both start (query_text (kept_pairs fresh was)) (query_text (kept_pairs fresh is)))
+
+-- ---- what a form sends under get stands in its address
+
+open_mark : (xs : List (List ℕ)) (c : ℕ) (rest : List ℕ) → c ≢ 63 → query_text xs ≡ c ∷ rest → [] ≡ c ∷ rest
+open_mark [] c rest other is = is
+open_mark (x ∷ xs) c rest other is = absurd (other (sym (head_same 63 c (x ++ next_pairs xs) rest is)))
+  where
+    head_same : (a b : ℕ) (us vs : List ℕ) → a ∷ us ≡ b ∷ vs → a ≡ b
+    head_same a b us vs is = cc
+
+-- starts without a `?` are one where the wholes are
+pub behind_starts : (start other : List ℕ) (xs ys : List (List ℕ)) → All (λ b. b ≢ 63) start → All (λ b. b ≢ 63) other → start ++ query_text xs ≡ other ++ query_text ys → query_text xs ≡ query_text ys
+behind_starts [] [] xs ys free there is = is
+behind_starts [] (c ∷ other) xs ys free there is = let none = open_mark xs c (other ++ query_text ys) (All-head (λ b. b ≢ 63) c other there) is in cc
+behind_starts (c ∷ start) [] xs ys free there is = let none = open_mark ys c (start ++ query_text xs) (All-head (λ b. b ≢ 63) c start free) (sym is) in cc
+behind_starts (b ∷ start) (c ∷ other) xs ys free there is = behind_starts start other xs ys (All-tail (λ b. b ≢ 63) b start free) (All-tail (λ b. b ≢ 63) c other there) (tail_same b c (start ++ query_text xs) (other ++ query_text ys) is)
+  where
+    tail_same : (a d : ℕ) (us vs : List ℕ) → a ∷ us ≡ d ∷ vs → us ≡ vs
+    tail_same a d us vs is = cc
+
+-- so where two such addresses are alike, what they send is
+pub sent_alike : (fresh : List (List ℕ)) (before now start other was is : List ℕ) → IsQueryOf before start was → IsQueryOf now other is → bytes_eq (without_fresh fresh before) (without_fresh fresh now) ≡ true
+    → bytes_eq (without_fresh fresh (63 ∷ was)) (without_fresh fresh (63 ∷ is)) ≡ true
+sent_alike fresh before now start other was is first second alike =
+    let wholes = sym (counts fresh before start was first) ∙ bytes_one (without_fresh fresh before) (without_fresh fresh now) alike ∙ counts fresh now other is second in
+    let queries = behind_starts start other (kept_pairs fresh was) (kept_pairs fresh is) first.first second.first wholes in
+    bytes_same (without_fresh fresh (63 ∷ was)) (without_fresh fresh (63 ∷ is)) (counts fresh (63 ∷ was) [] was (alone was (own_part before start was first)) ∙ queries ∙ sym (counts fresh (63 ∷ is) [] is (alone is (own_part now other is second))))
+  where
+    own_part : (address start query : List ℕ) → IsQueryOf address start query → list_all (λ c. not (c == 35)) (63 ∷ query) ≡ true
+    own_part address start query is = behind_all start (63 ∷ query) (sym (ap (list_all (λ c. not (c == 35))) is.cut) ∙ is.whole)
+
+    alone : (query : List ℕ) → list_all (λ c. not (c == 35)) (63 ∷ query) ≡ true → IsQueryOf (63 ∷ query) [] query
+    alone query whole = record { cut = refl; first = All-nil (λ b. b ≢ 63); whole = whole }

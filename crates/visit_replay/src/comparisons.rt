@@ -1,17 +1,18 @@
 //! Texts that were compared a short while ago: most events ask for what one of the last few did.
-ghost use Rattle.std.specs.Prelude.{ℕ, List, Option, ◌≡◌, ◌++◌, not, IfOk, OnOk, IfSome, codes};
+ghost use Rattle.std.specs.Prelude.{ℕ, List, Option, ◌≡◌, ◌++◌, not, IfOk, OnOk, IfSome, IsTrue, codes};
 ghost use Rattle.std.specs.Str.{bytes_eq};
 ghost use Rattle.page_looks.specs.Sending.{without_fresh};
 ghost use Rattle.visit_replay.specs.Difference.{are_alike};
 ghost use Rattle.visit_replay.specs.inside.Differing.{AreCompared, KnowsTexts};
+ghost use Rattle.visit_replay.specs.inside.Queries.{IsQueryOf};
 
-use crate::fresh_queries::differ;
+use crate::fresh_queries::{differ, has_query};
 use crate::requests::{Request, with_query};
 use page_tree::{NoMemory, Text};
 use std::alloc::Global;
 
 // Once so many are kept, or so many bytes stand in them, all are forgotten.
-const MOST: usize = 256;
+const MOST: usize = 64;
 
 const ROOM: usize = 4_194_304;
 
@@ -57,6 +58,9 @@ impl Comparisons {
         let elsewhere = self.differ(alloc, fresh, was.address.as_str(), is.address.as_str())?;
         if elsewhere {
             return Ok(false);
+        }
+        if asks_by_address(was) && asks_by_address(is) {
+            return Ok(true);
         }
         let apart = self.differ_sent(alloc, fresh, was.pairs.as_str(), is.pairs.as_str())?;
         Ok(!apart)
@@ -139,6 +143,13 @@ impl Comparisons {
             self.bytes = 0;
         }
     }
+}
+
+// Whether the query of its address is all that it sends, as of what a form sends under get.
+fn asks_by_address(request: &Request) -> bool
+    ensures { IsTrue result → (start : List ℕ) × IsQueryOf request.now.address start request.now.pairs }
+{
+    has_query(request.address.as_str(), request.pairs.as_str())
 }
 
 // Whether these differ, where they were compared.

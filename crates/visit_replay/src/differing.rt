@@ -12,7 +12,7 @@ ghost use Rattle.visit_replay.specs.inside.Differing.{AreCompared, AreLookedUp, 
 ghost use Rattle.visit_replay.specs.inside.FieldsNow.{IsButFor};
 ghost use Rattle.visit_replay.specs.inside.KeptFields.{Keeps, TakesIn};
 ghost use Rattle.visit_replay.specs.inside.OneEvent.{AimsAt, IsBetween, aimed};
-ghost use Rattle.visit_replay.specs.inside.Senders.{KnowsForms};
+ghost use Rattle.visit_replay.specs.inside.Senders.{KnowsForms, names_left};
 
 use crate::aims::{Aiming, aim_at};
 use crate::comparisons::Comparisons;
@@ -134,7 +134,7 @@ fn kept_by_number(
     let now = only_by_number(alloc, requests)?;
     let mut all = BTreeMap::new(alloc);
     let mut fields = Fields::new(alloc);
-    let mut own = OwnLookups::new(alloc, &visit.page);
+    let mut own = OwnLookups::new(alloc, &visit.page, fresh);
     let events = visit.events.as_slice();
     for k in 0..asking_end(events) {
         let event = &events[k];
@@ -164,13 +164,13 @@ fn take_in<'v>(
     requires fields { Keeps (by_path visit.now.page) fields.now visit.now.page (take k visit.now.events) }
     requires target { IfSome (slice_get visit.now.events k) (λ event. IsTargetOf visit.now.page event target) }
     requires known { AreCompared fresh.now compared.old.all.items }
-    requires own { KnowsOwn visit.now.page own.old }
+    requires own { KnowsOwn fresh.now visit.now.page own.old }
     ensures known { OnOk result (AreCompared fresh.now compared.new.all.items) }
-    ensures own { OnOk result (KnowsOwn visit.now.page own.new) }
+    ensures own { OnOk result (KnowsOwn fresh.now visit.now.page own.new) }
     ensures kept { OnOk result ((requests : List PlainRequest) → HasOnly requests now.now
         → HasNumbered fresh.now requests visit.now k all.old → HasNumbered fresh.now requests visit.now (k + 1) all.new) }
 {
-    let Some(was) = own_request(alloc, visit, fields, k, target, fresh, own)? else {
+    let Some(was) = own_request(alloc, visit, fields, k, target, true, own)? else {
         return Ok(());
     };
     let number = was.number;
@@ -179,7 +179,7 @@ fn take_in<'v>(
     }
     let other = is_other(alloc, fresh, now, &was, compared)?;
     if other {
-        let whole = own_request(alloc, visit, fields, k, target, &[], own)?;
+        let whole = own_request(alloc, visit, fields, k, target, false, own)?;
         all.insert(number, whole)?;
         return Ok(());
     }
@@ -199,22 +199,22 @@ fn asking_end(events: &[Event]) -> usize
     end
 }
 
-// What the event with k events before it asked for at its target, by the fields as these left them; without the values of these names.
+// What the event with k events before it asked for at its target, by the fields as these left them: whole, or without what doesn't count.
 fn own_request<'v>(
     alloc: Global,
     visit: &'v Visit,
     fields: &Fields<'_>,
     k: usize,
     target: Option<u32>,
-    names: &[Text],
+    counted: bool,
     own: &mut OwnLookups<'v>,
 ) -> Result<Option<Request>, NoMemory>
     requires there { k < length visit.now.events }
     requires fields { Keeps (by_path visit.now.page) fields.now visit.now.page (take k visit.now.events) }
     requires target { IfSome (slice_get visit.now.events k) (λ event. IsTargetOf visit.now.page event target) }
-    requires own { KnowsOwn visit.now.page own.old }
-    ensures request { IfOk result (λ request. IsButFor names.now request (was_asked visit.now k)) }
-    ensures own { OnOk result (KnowsOwn visit.now.page own.new) }
+    requires own { KnowsOwn own.old.forms.names.now visit.now.page own.old }
+    ensures request { IfOk result (λ request. IsButFor (names_left counted own.old.forms) request (was_asked visit.now k)) }
+    ensures own { OnOk result (KnowsOwn own.old.forms.names.now visit.now.page own.new) }
 {
     let event = &visit.events.as_slice()[k];
     if event.request() == 0 {
@@ -226,7 +226,16 @@ fn own_request<'v>(
     let button = own.paths.button_of(&visit.page, event)?;
     let located = Located::At { target, button };
     let forms = &mut own.forms;
-    request_there(alloc, visit, &visit.page, fields, k, located, names, forms)
+    request_there(
+        alloc,
+        visit,
+        &visit.page,
+        fields,
+        k,
+        located,
+        counted,
+        forms,
+    )
 }
 
 // That of the event which acts there on a page as it is filled in.
@@ -237,16 +246,17 @@ fn request_there(
     fields: &Fields<'_>,
     k: usize,
     located: Located,
-    names: &[Text],
+    counted: bool,
     forms: &mut KnownForms<'_>,
 ) -> Result<Option<Request>, NoMemory>
     requires there { k < length visit.now.events }
     requires located { (here : Aim) × AimsAt page.now here located }
     requires known { KnowsForms page.now forms.old }
     ensures known { OnOk result (KnowsForms page.now forms.new) }
+    ensures names { forms.new.names ≡ forms.old.names }
     ensures request { IfOk result (λ request. (aim : PlainEvent → Aim) (here : Aim) → AimsAt page.now here located
         → Keeps aim fields.now page.now (take k visit.now.events)
-        → IsButFor names.now request (asked_there aim visit.now page.now k here)) }
+        → IsButFor (names_left counted forms.old) request (asked_there aim visit.now page.now k here)) }
 {
     let (target, button) = match located {
         Located::Bad(_kind) => return Ok(None),
@@ -260,7 +270,7 @@ fn request_there(
     };
     let event = &visit.events.as_slice()[k];
     let address = visit.address.as_str();
-    request_at(alloc, address, &filled, event, target, names, forms)
+    request_at(alloc, address, &filled, event, target, counted, forms)
 }
 
 // What the request was, if that differs.
@@ -349,10 +359,10 @@ fn asked_before(alloc: Global, visit: &Visit, k: usize) -> Result<Option<Request
     if k >= events.len() {
         return Ok(None);
     }
-    let mut own = OwnLookups::new(alloc, &visit.page);
+    let mut own = OwnLookups::new(alloc, &visit.page, &[]);
     let fields = fields_behind(alloc, &visit.page, events, k, &mut own.paths)?;
     let target = own.paths.target_of(&visit.page, &events[k])?;
-    own_request(alloc, visit, &fields, k, target, &[], &mut own)
+    own_request(alloc, visit, &fields, k, target, false, &mut own)
 }
 
 fn asks_now(
@@ -381,8 +391,8 @@ fn asks_now(
     let mut lookups = Lookups::new(alloc, &visit.page, new, inputs.take(alloc));
     let fields = fields_beside(alloc, &aiming, visit, new, k, &mut lookups)?;
     *inputs = lookups.repaired;
-    let mut forms = KnownForms::new(alloc, new);
-    request_there(alloc, visit, new, &fields, k, located, &[], &mut forms)
+    let mut forms = KnownForms::new(alloc, new, &[]);
+    request_there(alloc, visit, new, &fields, k, located, false, &mut forms)
 }
 
 // The fields of the page that stands there now, as the first so many events left them.

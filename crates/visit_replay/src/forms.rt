@@ -1,15 +1,14 @@
 //! What a form sends.
-ghost use Rattle.std.specs.Prelude.{◌≡◌, ◌==◌, [], map, false, All, Some, IfOk, OnOk, option_map};
+ghost use Rattle.std.specs.Prelude.{ℕ, List, ◌≡◌, ◌==◌, ◌&&◌, [], false, All, Some, IfOk, OnOk, option_map};
 ghost use Rattle.std.specs.List.{cons_option};
 ghost use Rattle.std.specs.Option.{option_map_or};
 ghost use Rattle.form_urlencoded.specs.Form.{append_pair, extend_pairs};
-ghost use Rattle.page_looks.specs.Outline.{is_one_of};
 ghost use Rattle.page_tree.specs.Tree.{Tree};
 ghost use Rattle.page_tree.specs.Number.{place_numbered};
 ghost use Rattle.visit_replay.specs.Form.{value_or, is_post, action_of};
 ghost use Rattle.visit_replay.specs.inside.KeptFields.{text_now};
-ghost use Rattle.visit_replay.specs.inside.FieldsNow.{pair_of, pair_now, with_pairs, emptied};
-ghost use Rattle.visit_replay.specs.inside.Senders.{IsSender, sent_all};
+ghost use Rattle.visit_replay.specs.inside.FieldsNow.{pair_of, pair_now, with_pairs, told};
+ghost use Rattle.visit_replay.specs.inside.Senders.{SaysFresh, IsSender, sent_all};
 
 use crate::fields::Fields;
 use crate::senders::{Sender, unless_empty};
@@ -32,19 +31,19 @@ pub(crate) struct SentPair<'a> {
     pub(crate) value: &'a str,
 }
 
-/// The pairs of a form whose senders these are, as `application/x-www-form-urlencoded`. Those of these names have no value: a long one that doesn't count
-/// needn't be encoded.
+/// The pairs of a form whose senders these are, as `application/x-www-form-urlencoded`: all of them, or those alone that count, whose names aren't fresh.
 pub(crate) fn encoded(
     alloc: Global,
     filled: &Filled<'_, '_>,
     senders: &[Sender<'_>],
-    names: &[Text],
+    counted: bool,
 ) -> Result<Text, NoMemory>
     requires { All (IsSender filled.now.page.now) senders.now }
-    ensures { IfOk result (λ text. text ≡ extend_pairs [] (map (emptied names.now) (sent_all filled.now senders.now))) }
+    ensures { IfOk result (λ text. (names : List (List ℕ)) → All (SaysFresh names) senders.now
+        → text ≡ extend_pairs [] (told counted names (sent_all filled.now senders.now))) }
 {
     let mut pairs = Serializer::new(String::new(alloc));
-    add_pairs(&mut pairs, filled, senders, names)?;
+    add_pairs(&mut pairs, filled, senders, counted)?;
     Ok(Text::from(pairs.finish()))
 }
 
@@ -72,14 +71,14 @@ fn add_pairs<'a>(
     pairs: &mut Serializer,
     filled: &Filled<'a, '_>,
     senders: &'a [Sender<'_>],
-    names: &[Text],
+    counted: bool,
 ) -> Result<(), NoMemory>
     requires { All (IsSender filled.now.page.now) senders.now }
-    ensures { OnOk result (pairs.new
-        ≡ with_pairs pairs.old (map (emptied names.now) (sent_all filled.now senders.now))) }
+    ensures { OnOk result ((names : List (List ℕ)) → All (SaysFresh names) senders.now
+        → pairs.new ≡ with_pairs pairs.old (told counted names (sent_all filled.now senders.now))) }
 {
     for sender in senders {
-        add_pair(pairs, filled, sender, names)?;
+        add_pair(pairs, filled, sender, counted)?;
     }
     Ok(())
 }
@@ -89,32 +88,25 @@ fn add_pair<'a>(
     pairs: &mut Serializer,
     filled: &Filled<'a, '_>,
     sender: &'a Sender<'_>,
-    names: &[Text],
+    counted: bool,
 ) -> Result<(), NoMemory>
     requires { IsSender filled.now.page.now sender.now }
-    ensures { OnOk result (pairs.new
-        ≡ with_pairs pairs.old (map (emptied names.now) (cons_option (pair_now filled.now sender.now.number) []))) }
+    ensures { OnOk result ((names : List (List ℕ)) → SaysFresh names sender.now
+        → pairs.new ≡ with_pairs pairs.old (told counted names (cons_option (pair_now filled.now sender.now.number) []))) }
 {
-    match sent_by(filled, sender) {
-        Some(sent) => pairs.append_pair(sent.name, value_unless(names, sent.name, sent.value)),
-        None => Ok(()),
+    if is_passed_over(counted, sender) {
+        return Ok(());
     }
+    if let Some(sent) = sent_by(filled, sender) {
+        pairs.append_pair(sent.name, sent.value)?;
+    }
+    Ok(())
 }
 
-// The value, or none under one of these names.
-fn value_unless<'a>(names: &[Text], name: &str, value: &'a str) -> &'a str
-    ensures { (name.now, result.now) ≡ emptied names.now (name.now, value.now) }
+fn is_passed_over(counted: bool, sender: &Sender<'_>) -> bool
+    ensures { result ≡ (counted && sender.now.is_fresh) }
 {
-    if is_among(names, name) {
-        return "";
-    }
-    value
-}
-
-fn is_among(names: &[Text], name: &str) -> bool
-    ensures { result ≡ is_one_of names.now name.now }
-{
-    names.iter().any(|one| name == one.as_str())
+    counted && sender.is_fresh
 }
 
 // ---- one node

@@ -1,11 +1,13 @@
 //! Whether two addresses differ but for the values of fresh names. Pairs that are written alike in both aren't decoded.
-ghost use Rattle.std.specs.Prelude.{◌≡◌, ◌==◌, not, IfOk, IfSome, Some};
+ghost use Rattle.std.specs.Prelude.{ℕ, List, ◌≡◌, ◌==◌, not, IfOk, IfSome, IsTrue, Some};
 ghost use Rattle.std.specs.List.{list_all};
 ghost use Rattle.std.specs.Str.{bytes_eq};
 ghost use Rattle.page_looks.specs.Sending.{kept_pairs, query_text, without_fresh};
+ghost use Rattle.visit_replay.specs.declared.fresh_queries.Queries.{Queries as PlainQueries};
+ghost use Rattle.visit_replay.specs.declared.fresh_queries.Compared.TheVariants.{Left};
 ghost use Rattle.visit_replay.specs.inside.Queries.{IsQueryOf, TellsFirst};
 
-use page_looks::{first_pair, has_fresh_name, without_fresh};
+use page_looks::{first_pair, is_passed_over, without_fresh};
 use page_tree::{NoMemory, Text};
 use std::alloc::Global;
 
@@ -41,6 +43,16 @@ pub(crate) fn differ(
         differ_in_pairs(alloc, fresh, was.1, is.1)
     } else {
         differ_whole(alloc, fresh, before, now)
+    }
+}
+
+/// Whether that is the query of an address which has no fragment.
+pub(crate) fn has_query(address: &str, query: &str) -> bool
+    ensures { IsTrue result → (start : List ℕ) × IsQueryOf address.now start query.now }
+{
+    match query_of(address) {
+        None => false,
+        Some((_start, own)) => own == query,
     }
 }
 
@@ -103,7 +115,7 @@ fn told_first<'a>(
         (None, None) => Ok(Compared::Alike),
         (Some(was), None) => {
             let (pair, rest) = first_pair(was);
-            if has_fresh_name(alloc, fresh, pair)? {
+            if is_passed_over(alloc, fresh, pair)? {
                 let further = Queries {
                     was: rest,
                     is: None,
@@ -114,7 +126,7 @@ fn told_first<'a>(
         }
         (None, Some(is)) => {
             let (pair, rest) = first_pair(is);
-            if has_fresh_name(alloc, fresh, pair)? {
+            if is_passed_over(alloc, fresh, pair)? {
                 let further = Queries {
                     was: None,
                     is: rest,
@@ -144,19 +156,33 @@ fn told_of_both<'a>(
         };
         return Ok(Compared::Left(further));
     }
-    if has_fresh_name(alloc, fresh, pair)? {
+    if is_passed_over(alloc, fresh, pair)? {
         let further = Queries {
             was: rest,
             is: Some(is),
         };
-        return Ok(Compared::Left(further));
+        return Ok(left_behind(further));
     }
-    if has_fresh_name(alloc, fresh, other)? {
+    if is_passed_over(alloc, fresh, other)? {
         let further = Queries {
             was: Some(was),
             is: others,
         };
-        return Ok(Compared::Left(further));
+        return Ok(left_behind(further));
     }
     Ok(Compared::Apart)
+}
+
+// What tells what is left behind a pair that doesn't count: mostly that both are written alike.
+fn left_behind(further: Queries<'_>) -> Compared<'_>
+    ensures { (fresh : List (List ℕ)) (left : PlainQueries) → TellsFirst fresh left (Left further.entry)
+        → TellsFirst fresh left result }
+{
+    let (Some(was), Some(is)) = (further.was, further.is) else {
+        return Compared::Left(further);
+    };
+    if was == is {
+        return Compared::Alike;
+    }
+    Compared::Left(further)
 }

@@ -30,7 +30,7 @@ impl<'v, 'p> Lookups<'v, 'p> {
             paths: KnownPaths::new(alloc),
             recorded: KnownInputs::new(alloc, old),
             repaired,
-            forms: KnownForms::new(alloc, new),
+            forms: KnownForms::new(alloc, new, &[]),
         }
     }
 }

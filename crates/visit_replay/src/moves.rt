@@ -1,5 +1,5 @@
 //! Which requests of a visit go elsewhere now: those that later visits name, all of them at once.
-ghost use Rattle.std.specs.Prelude.{ℕ, List, Option, ◌≡◌, ◌≤◌, ◌<◌, true, length, take, IfOk, OnOk, IsSome, option_map};
+ghost use Rattle.std.specs.Prelude.{ℕ, List, [], Option, unwrap_or, ◌≡◌, ◌≤◌, ◌<◌, true, length, take, IfOk, OnOk, IsSome, option_map};
 ghost use Rattle.std.specs.BTreeMap.{get};
 ghost use Rattle.std.specs.Ordering.{nat_cmp};
 ghost use Rattle.upload_reader.specs.declared.message.Event.{Event};
@@ -14,7 +14,7 @@ ghost use Rattle.visit_replay.specs.inside.Moves.{IsFresh, IsRight, HasAddresses
 use crate::comparisons::Comparisons;
 use crate::fields::Fields;
 use crate::finding::Finding;
-use crate::moving::{goes_elsewhere, note, requests_of};
+use crate::moving::{goes_elsewhere, names_of, note, requests_of};
 use crate::outcome::Outcome;
 use crate::own_lookups::OwnLookups;
 use client_log::Visit;
@@ -108,7 +108,7 @@ impl Asked {
         let addresses = addresses_of(alloc, outcome)?;
         let mut fields = Fields::new(alloc);
         let mut compared = Comparisons::new(alloc);
-        let mut own = OwnLookups::new(alloc, &visit.page);
+        let mut own = OwnLookups::new(alloc, &visit.page, names_of(finding));
         let events = visit.events.as_slice();
         for k in 0..last_asked(events, &self.numbers) {
             meet(
@@ -177,10 +177,10 @@ fn meet<'v>(
     requires there { k < length visit.now.events }
     requires fields { Keeps (by_path visit.now.page) fields.now visit.now.page (take k visit.now.events) }
     requires known { KnowsTexts finding.now compared.old }
-    requires own { KnowsOwn visit.now.page own.old }
+    requires own { KnowsOwn (unwrap_or finding.now []) visit.now.page own.old }
     ensures meets { OnOk result (MeetsOne finding.now visit.now k addresses.now numbers.old numbers.new) }
     ensures known { OnOk result (KnowsTexts finding.now compared.new) }
-    ensures own { OnOk result (KnowsOwn visit.now.page own.new) }
+    ensures own { OnOk result (KnowsOwn (unwrap_or finding.now []) visit.now.page own.new) }
 {
     let number = visit.events.as_slice()[k].request();
     if !is_pending(numbers, number) {
@@ -212,9 +212,9 @@ fn is_apart<'v>(
     requires there { k < length visit.now.events }
     requires fields { Keeps (by_path visit.now.page) fields.now visit.now.page (take k visit.now.events) }
     requires known { KnowsTexts finding.now compared.old }
-    requires own { KnowsOwn visit.now.page own.old }
+    requires own { KnowsOwn (unwrap_or finding.now []) visit.now.page own.old }
     ensures known { OnOk result (KnowsTexts finding.now compared.new) }
-    ensures own { OnOk result (KnowsOwn visit.now.page own.new) }
+    ensures own { OnOk result (KnowsOwn (unwrap_or finding.now []) visit.now.page own.new) }
     ensures apart { IfOk result
         (λ apart. apart ≡ are_apart finding.now (own_request visit.now k) (option_map (λ address. address.now) now.entry)) }
 {

@@ -1,5 +1,5 @@
 //! Whether a request of a visit goes elsewhere now.
-ghost use Rattle.std.specs.Prelude.{◌≡◌, ◌<◌, length, take, Some, IfOk, IfSome, OnOk, option_map};
+ghost use Rattle.std.specs.Prelude.{[], ◌≡◌, ◌<◌, unwrap_or, length, take, Some, IfOk, IfSome, OnOk, option_map};
 ghost use Rattle.visit_replay.specs.Aim.{by_path};
 ghost use Rattle.visit_replay.specs.Moved.{requests_of, address_now, event_numbered, own_request, are_apart, is_moved};
 ghost use Rattle.visit_replay.specs.inside.KeptFields.{Keeps, TakesIn};
@@ -15,7 +15,7 @@ use crate::outcome::Outcome;
 use crate::own_lookups::OwnLookups;
 use crate::requests::{Request, leads_elsewhere};
 use client_log::Visit;
-use page_tree::{NoMemory, Page};
+use page_tree::{NoMemory, Page, Text};
 use std::alloc::Global;
 use upload_reader::Event;
 
@@ -41,7 +41,7 @@ pub fn moved(
     let Some(k) = event_numbered(events, from) else {
         return Ok(false);
     };
-    let mut own = OwnLookups::new(alloc, &visit.page);
+    let mut own = OwnLookups::new(alloc, &visit.page, names_of(finding));
     let fields = fields_behind(alloc, &visit.page, events, k, &mut own.paths)?;
     let mut compared = Comparisons::new(alloc);
     let now = now.address.as_str();
@@ -55,6 +55,16 @@ pub fn moved(
         &mut compared,
         &mut own,
     )
+}
+
+/// The names that are fresh, if events find their places by their elements.
+pub(crate) fn names_of(finding: &Finding) -> &[Text]
+    ensures { result.now ≡ unwrap_or finding.now [] }
+{
+    match finding.names() {
+        None => &[],
+        Some(fresh) => fresh.as_slice(),
+    }
 }
 
 // ---- what the replay asks for
@@ -102,10 +112,10 @@ pub(crate) fn goes_elsewhere<'v>(
     requires there { k < length visit.now.events }
     requires fields { Keeps (by_path visit.now.page) fields.now visit.now.page (take k visit.now.events) }
     requires known { KnowsTexts finding.now compared.old }
-    requires own { KnowsOwn visit.now.page own.old }
+    requires own { KnowsOwn (unwrap_or finding.now []) visit.now.page own.old }
     ensures answer { IfOk result (λ answer. answer ≡ are_apart finding.now (own_request visit.now k) (Some now.now)) }
     ensures known { OnOk result (KnowsTexts finding.now compared.new) }
-    ensures own { OnOk result (KnowsOwn visit.now.page own.new) }
+    ensures own { OnOk result (KnowsOwn (unwrap_or finding.now []) visit.now.page own.new) }
 {
     let page = &visit.page;
     let event = &visit.events.as_slice()[k];

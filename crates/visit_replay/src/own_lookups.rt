@@ -3,7 +3,7 @@ ghost use Rattle.visit_replay.specs.inside.Differing.{KnowsOwn};
 
 use crate::known_forms::KnownForms;
 use crate::known_paths::KnownPaths;
-use page_tree::Page;
+use page_tree::{Page, Text};
 use std::alloc::Global;
 
 /// Paths, and what stands under forms.
@@ -14,13 +14,13 @@ pub(crate) struct OwnLookups<'v> {
 }
 
 impl<'v> OwnLookups<'v> {
-    /// Nothing yet. It takes no memory.
-    pub(crate) fn new(alloc: Global, page: &'v Page) -> OwnLookups<'v>
-        ensures { KnowsOwn page.now result }
+    /// Nothing yet, where these names are fresh. It takes no memory.
+    pub(crate) fn new(alloc: Global, page: &'v Page, names: &'v [Text]) -> OwnLookups<'v>
+        ensures { KnowsOwn names.now page.now result }
     {
         OwnLookups {
             paths: KnownPaths::new(alloc),
-            forms: KnownForms::new(alloc, page),
+            forms: KnownForms::new(alloc, page, names),
         }
     }
 }

@@ -226,7 +226,7 @@ fn step<'a>(
     };
     let address = visit.address.as_str();
     let forms = &mut lookups.forms;
-    if let Some(request) = request_at(alloc, address, &filled, event, target, &[], forms)? {
+    if let Some(request) = request_at(alloc, address, &filled, event, target, false, forms)? {
         requests.push(request)?;
     }
     fields.note(new, event, target)?;

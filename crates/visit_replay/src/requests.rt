@@ -1,5 +1,5 @@
 //! Requests, and how a replayed visit makes them.
-ghost use Rattle.std.specs.Prelude.{◌≡◌, ◌<◌, [], ◌∷◌, ◌++◌, not, All, List, IfOk, OnOk, OnErr, option_map, codes};
+ghost use Rattle.std.specs.Prelude.{◌≡◌, ◌<◌, [], ◌∷◌, ◌++◌, not, All, ℕ, List, unwrap_or, IfOk, OnOk, OnErr, option_map, codes};
 ghost use Rattle.std.specs.Str.{bytes_eq};
 ghost use Rattle.page_looks.specs.Sending.{without_fresh};
 ghost use Rattle.form_urlencoded.specs.Form.{extend_pairs};
@@ -11,7 +11,7 @@ ghost use Rattle.visit_replay.specs.inside.FieldsNow.{IsRequestAt, LeadsElsewher
 ghost use Rattle.visit_replay.specs.Moved.{what_counts};
 ghost use Rattle.visit_replay.specs.inside.Differing.{KnowsTexts};
 ghost use Rattle.visit_replay.specs.inside.OneEvent.{IsWithin};
-ghost use Rattle.visit_replay.specs.inside.Senders.{IsSender, KnowsForms, sent_all};
+ghost use Rattle.visit_replay.specs.inside.Senders.{SaysFresh, IsSender, KnowsForms, names_left, sent_all};
 
 use crate::address::bare;
 use crate::comparing::is_sent_to;
@@ -113,21 +113,22 @@ pub(crate) fn load_request(alloc: Global, address: &str) -> Result<Request, NoMe
     })
 }
 
-/// That of an event whose target has that number, if it makes one, on the page as it is filled in before the event; without the values of these names.
+/// That of an event whose target has that number, if it makes one, on the page as it is filled in before the event: whole, or without what doesn't count.
 pub(crate) fn request_at(
     alloc: Global,
     address: &str,
     filled: &Filled<'_, '_>,
     event: &Event,
     target: u32,
-    names: &[Text],
+    counted: bool,
     forms: &mut KnownForms<'_>,
 ) -> Result<Option<Request>, NoMemory>
     requires there { target < nodes filled.now.page.now }
     requires button { IsWithin filled.now.button filled.now.page.now }
     requires known { KnowsForms filled.now.page.now forms.old }
-    ensures request { IfOk result (IsRequestAt names.now address.now filled.now event.now target) }
+    ensures request { IfOk result (IsRequestAt (names_left counted forms.old) address.now filled.now event.now target) }
     ensures known { OnOk result (KnowsForms filled.now.page.now forms.new) }
+    ensures names { forms.new.names ≡ forms.old.names }
 {
     let new = filled.page;
     match event {
@@ -138,7 +139,7 @@ pub(crate) fn request_at(
             let action = forms::action_of(address, new, target);
             forms.look_under(alloc, target)?;
             let senders = forms.senders_under(target);
-            let pairs = forms::encoded(alloc, filled, senders.as_slice(), names)?;
+            let pairs = forms::encoded(alloc, filled, senders.as_slice(), counted)?;
             let post = forms::is_post(new, target);
             Ok(Some(form_request(alloc, post, *req, action, pairs)?))
         }
@@ -161,9 +162,11 @@ pub(crate) fn leads_elsewhere(
     requires button { IsWithin filled.now.button filled.now.page.now }
     requires known { KnowsTexts finding.now compared.old }
     requires forms { KnowsForms filled.now.page.now forms.old }
+    requires names { forms.old.names.now ≡ unwrap_or finding.now [] }
     ensures leads { IfOk result (LeadsElsewhere finding.now address.now filled.now event.now target now.now) }
     ensures known { OnOk result (KnowsTexts finding.now compared.new) }
     ensures forms { OnOk result (KnowsForms filled.now.page.now forms.new) }
+    ensures names { forms.new.names ≡ forms.old.names }
 {
     let page = filled.page;
     match event {
@@ -204,7 +207,7 @@ fn are_apart(
     }
 }
 
-// The same of what a form sends under get. Values of fresh names don't count, so they aren't encoded.
+// The same of what a form sends under get. Pairs of fresh names don't count, so they aren't encoded.
 fn is_query_apart(
     alloc: Global,
     filled: &Filled<'_, '_>,
@@ -215,6 +218,7 @@ fn is_query_apart(
     compared: &mut Comparisons,
 ) -> Result<bool, NoMemory>
     requires senders { All (IsSender filled.now.page.now) senders.now }
+    requires marked { All (SaysFresh (unwrap_or finding.now [])) senders.now }
     requires known { KnowsTexts finding.now compared.old }
     ensures apart { IfOk result (λ apart. apart ≡ not (bytes_eq (what_counts finding.now
         (bare action.now ++ codes "?" ++ extend_pairs [] (sent_all filled.now senders.now))) (what_counts finding.now now.now))) }
@@ -223,7 +227,7 @@ fn is_query_apart(
     match finding.names() {
         None => Ok(!is_sent_to(filled, senders, bare(action), now)),
         Some(fresh) => {
-            let sent = counted_address(alloc, fresh.as_slice(), filled, senders, action)?;
+            let sent = counted_address(alloc, filled, senders, action)?;
             compared.differ(alloc, fresh.as_slice(), sent.as_str(), now)
         }
     }
@@ -232,16 +236,15 @@ fn is_query_apart(
 // An address that counts as the one that it goes to.
 fn counted_address(
     alloc: Global,
-    fresh: &[Text],
     filled: &Filled<'_, '_>,
     senders: &[Sender<'_>],
     action: &str,
 ) -> Result<Text, NoMemory>
     requires { All (IsSender filled.now.page.now) senders.now }
-    ensures { IfOk result (λ sent. without_fresh fresh.now sent ≡ without_fresh fresh.now
-        (bare action.now ++ codes "?" ++ extend_pairs [] (sent_all filled.now senders.now))) }
+    ensures { IfOk result (λ sent. (names : List (List ℕ)) → All (SaysFresh names) senders.now
+        → without_fresh names sent ≡ without_fresh names (bare action.now ++ codes "?" ++ extend_pairs [] (sent_all filled.now senders.now))) }
 {
-    let pairs = forms::encoded(alloc, filled, senders, fresh)?;
+    let pairs = forms::encoded(alloc, filled, senders, true)?;
     with_query(alloc, bare(action), pairs.as_str())
 }
 

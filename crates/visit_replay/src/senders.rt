@@ -2,24 +2,26 @@
 ghost use Rattle.std.specs.Prelude.{ℕ, List, Bool, ◌≡◌, ◌<◌, ◌++◌, [], false, None, All, IfOk, OnOk, unwrap_or, option_map};
 ghost use Rattle.std.specs.Cow.{cow_str_bytes};
 ghost use Rattle.std.specs.List.{cons_option};
+ghost use Rattle.page_looks.specs.Outline.{is_one_of};
 ghost use Rattle.page_tree.specs.Limits.{nodes};
 ghost use Rattle.page_tree.specs.Control.{control_at, start_text_at};
 ghost use Rattle.page_tree.specs.Number.{place_numbered};
 ghost use Rattle.visit_replay.specs.Form.{sent_name, sent_value, unless_empty};
-ghost use Rattle.visit_replay.specs.inside.FieldsNow.{pair_now};
-ghost use Rattle.visit_replay.specs.inside.Senders.{IsSender, SendUnder, sent_all};
+ghost use Rattle.visit_replay.specs.inside.FieldsNow.{is_of_one, pair_now};
+ghost use Rattle.visit_replay.specs.inside.Senders.{SaysFresh, IsSender, SendUnder, sent_all};
 ghost use Rattle.visit_replay.specs.declared.forms.Filled.{Filled as PlainFilled};
 
 use crate::conflicts::is_disabled;
-use page_tree::{Control, NoMemory, Page};
+use page_tree::{Control, NoMemory, Page, Text};
 use std::alloc::Global;
 use std::borrow::CowStr;
 
-/// One of them: its number, its name, and the text that it starts with.
+/// One of them: its number, its name, whether that is fresh, and the text that it starts with.
 #[derive(Drop)]
 pub(crate) struct Sender<'p> {
     pub(crate) number: u32,
     pub(crate) name: &'p str,
+    pub(crate) is_fresh: bool,
     pub(crate) start: CowStr<'p, Global>,
 }
 
@@ -30,17 +32,22 @@ pub(crate) struct Senders<'p> {
 }
 
 impl<'p> Senders<'p> {
-    /// Those under a form. The time grows with how many nodes stand there.
-    pub(crate) fn under(alloc: Global, page: &'p Page, form: u32) -> Result<Senders<'p>, NoMemory>
+    /// Those under a form, where these names are fresh. The time grows with how many nodes stand there.
+    pub(crate) fn under(
+        alloc: Global,
+        page: &'p Page,
+        form: u32,
+        names: &[Text],
+    ) -> Result<Senders<'p>, NoMemory>
         requires { form < nodes page.now }
-        ensures { IfOk result (SendUnder page.now form) }
+        ensures { IfOk result (SendUnder names.now page.now form) }
     {
         let mut them = Senders {
             all: Vec::new(alloc),
         };
         let under = page.nodes_under(form);
         for number in under.start..under.end {
-            them.note(page, number)?;
+            them.note(page, number, names)?;
         }
         Ok(them)
     }
@@ -52,8 +59,10 @@ impl<'p> Senders<'p> {
     }
 
     // Takes in one node more, if it may send something.
-    fn note(&mut self, page: &'p Page, number: u32) -> Result<(), NoMemory>
+    fn note(&mut self, page: &'p Page, number: u32, names: &[Text]) -> Result<(), NoMemory>
         ensures each { OnOk result (All (IsSender page.now) self.old.all.items → All (IsSender page.now) self.new.all.items) }
+        ensures marked { OnOk result (All (SaysFresh names.now) self.old.all.items
+            → All (SaysFresh names.now) self.new.all.items) }
         ensures pairs { OnOk result ((filled : PlainFilled) → filled.page.now ≡ page.now → sent_all filled self.new.all.items
             ≡ sent_all filled self.old.all.items ++ cons_option (pair_now filled number) []) }
     {
@@ -67,10 +76,24 @@ impl<'p> Senders<'p> {
         self.all.push(Sender {
             number,
             name,
+            is_fresh: is_among(names, name),
             start,
         })?;
         Ok(())
     }
+}
+
+// Whether a pair of that name has one of these.
+fn is_among(names: &[Text], name: &str) -> bool
+    ensures { (value : List ℕ) → result ≡ is_of_one names.now (name.now, value) }
+{
+    is_one_of(names, name)
+}
+
+fn is_one_of(names: &[Text], name: &str) -> bool
+    ensures { result ≡ is_one_of names.now name.now }
+{
+    names.iter().any(|one| name == one.as_str())
 }
 
 // A control that is disabled, or has no name, sends nothing.

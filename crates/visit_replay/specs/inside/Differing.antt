@@ -88,9 +88,10 @@ abbrev pub AreLookedUp : Tree → Tree → Lookups → Type 0
 AreLookedUp old new lookups = KnowsPaths old lookups.paths.paths.items
     × KnowsInputs old lookups.recorded × KnowsInputs new lookups.repaired × KnowsForms new lookups.forms
 
--- what was looked up on the page that a visit was made on
-abbrev pub KnowsOwn : Tree → OwnLookups → Type 0
-KnowsOwn page own = KnowsPaths page own.paths.paths.items × KnowsForms page own.forms
+-- what was looked up on the page that a visit was made on, where these names are fresh
+abbrev pub KnowsOwn : List (List ℕ) → Tree → OwnLookups → Type 0
+KnowsOwn names page own =
+    KnowsPaths page own.paths.paths.items × KnowsForms page own.forms × (own.forms.names.now ≡ names)
 
 -- what was found of texts that were compared
 abbrev pub AreCompared : List (List ℕ) → List Comparison → Type 0

@@ -1,6 +1,6 @@
 -- What a form sends, by the fields as they are kept and without the events that changed them. Nodes go by their
 -- numbers.
-use Rattle.std.specs.Prelude.{◌≡◌, ℕ, ◌-◌, List, [], ◌∷◌, ◌++◌, Bool, false, ◌==◌, if◌then◌else◌, Option, Some, None, option_map, codes}
+use Rattle.std.specs.Prelude.{◌≡◌, ℕ, ◌-◌, List, [], ◌∷◌, ◌++◌, Bool, false, ◌==◌, if◌then◌else◌, Option, Some, None, option_map, codes, filter, not}
 use Rattle.std.specs.List.{filter_map, range_with_len}
 use Rattle.std.specs.Option.{option_map_or}
 use Rattle.page_tree.specs.Number.{place_numbered}
@@ -45,9 +45,13 @@ OfSent filled form IsSo = let new = filled.page.now in
     (aim : Event → Aim) (before : List Event) → Keeps aim filled.fields.now new before
     → IsSo (pairs_of aim new before (places_numbered filled.button new) (place_numbered form new))
 
--- a pair, without its value where it has one of these names
-abbrev pub emptied : List (List ℕ) → Pair → Pair
-emptied names pair = if is_one_of names (pair_name (serialize_pair pair)) then (pair.0, []) else pair
+-- it has one of these names
+abbrev pub is_of_one : List (List ℕ) → Pair → Bool
+is_of_one names pair = is_one_of names (pair_name (serialize_pair pair))
+
+-- all pairs, or those alone that count
+abbrev pub told : Bool → List (List ℕ) → List Pair → List Pair
+told counted names pairs = if counted then filter (λ pair. not (is_of_one names pair)) pairs else pairs
 
 -- a request without the pairs of these names
 abbrev pub without_those : List (List ℕ) → Request → Request
@@ -56,7 +60,7 @@ without_those names r = record r {
   pairs = without_fresh names (codes "?" ++ r.pairs);
 }
 
--- it is that request, but for the values of these names
+-- it is that request, but for the pairs of these names
 abbrev pub IsButFor : List (List ℕ) → Option Request → Option Request → Type 0
 IsButFor names it request = (names ≡ [] → it ≡ request)
     × (option_map (without_those names) it ≡ option_map (without_those names) request)

@@ -1,5 +1,5 @@
 -- The nodes under a form that may send something, as the code keeps them.
-use Rattle.std.specs.Prelude.{ℕ, ◌≡◌, List, [], All, Some, IfSome, unwrap_or}
+use Rattle.std.specs.Prelude.{ℕ, ◌≡◌, List, [], All, Bool, if◌then◌else◌, Some, IfSome, unwrap_or}
 use Rattle.std.specs.BTreeMap.{get}
 use Rattle.std.specs.Cow.{cow_str_bytes}
 use Rattle.std.specs.List.{filter_map}
@@ -8,7 +8,7 @@ use Rattle.page_tree.specs.Tree.{Tree}
 use Rattle.page_tree.specs.Control.{start_text_at}
 use Rattle.page_tree.specs.Number.{place_numbered}
 use Rattle.visit_replay.specs.Form.{Pair, sent_name}
-use Rattle.visit_replay.specs.inside.FieldsNow.{OfSent, pair_now}
+use Rattle.visit_replay.specs.inside.FieldsNow.{OfSent, is_of_one, pair_now}
 use Rattle.visit_replay.specs.inside.OneEvent.{IsWithin}
 use Rattle.visit_replay.specs.declared.forms.Filled.{Filled}
 use Rattle.visit_replay.specs.declared.known_forms.KnownForms.{KnownForms}
@@ -20,16 +20,25 @@ pub record IsSender (page : Tree) (sender : Sender) : Type 0 where
   pub name : sent_name (place_numbered sender.number page) page ≡ Some sender.name.now
   pub start : cow_str_bytes sender.start ≡ unwrap_or (start_text_at (place_numbered sender.number page) page) []
 
+-- it is known whether that is one of these names
+abbrev pub SaysFresh : List (List ℕ) → Sender → Type 0
+SaysFresh names sender = (value : List ℕ) → sender.is_fresh ≡ is_of_one names (sender.name.now, value)
+
 -- what these send
 abbrev pub sent_all : Filled → List Sender → List Pair
 sent_all filled senders = filter_map (λ sender. pair_now filled sender.number) senders
 
 -- nothing else under that form sends anything, however the page is filled in
-pub record SendUnder (page : Tree) (form : ℕ) (them : Senders) : Type 0 where
+pub record SendUnder (names : List (List ℕ)) (page : Tree) (form : ℕ) (them : Senders) : Type 0 where
   pub each : All (IsSender page) them.all.items
+  pub marked : All (SaysFresh names) them.all.items
   pub pairs : (filled : Filled) → filled.page.now ≡ page → IsWithin filled.button page
       → OfSent filled form (λ pairs. sent_all filled them.all.items ≡ pairs)
 
 abbrev pub KnowsForms : Tree → KnownForms → Type 0
 KnowsForms page known =
-    (known.page.now ≡ page) × ((form : ℕ) → IfSome (get nat_cmp known.forms form) (SendUnder page form))
+    (known.page.now ≡ page) × ((form : ℕ) → IfSome (get nat_cmp known.forms form) (SendUnder known.names.now page form))
+
+-- the names that aren't looked at
+abbrev pub names_left : Bool → KnownForms → List (List ℕ)
+names_left counted known = if counted then known.names.now else []

@@ -5,6 +5,7 @@ use Rattle.visit_replay.specs.Difference.{was_asked}
 use Rattle.visit_replay.specs.inside.Differing.{IsTargetOf}
 use Rattle.visit_replay.specs.inside.FieldsNow.{IsButFor}
 use Rattle.visit_replay.specs.inside.OneEvent.{AimsAt}
+use Rattle.visit_replay.specs.inside.Senders.{names_left}
 use Rattle.visit_replay.specs.declared.conflicts.Located.TheVariants.{At}
 use Rattle.visit_replay.proofs.Asking.{aims_there, asked_here, asked_nothing}
 use Rattle.visit_replay.proofs.FreshValues.{is_but_for_none}
@@ -20,7 +21,7 @@ returns-in_default-clause-request c =
     let at : slice_get visit.events c.args.k ≡ Some event = stands_at visit c.args.k event c.requires.there is in
     let leads : IsTargetOf page event c.args.target = subst (λ o. IfSome o (λ e. IsTargetOf page e c.args.target)) at c.requires.target in
     let nowhere : IsTargetOf page event None = rw c.in_default.is at leads in
-    is_but_for_none c.args.names.now None (was_asked visit c.args.k) (sym (asked_nothing visit c.args.k event at nowhere))
+    is_but_for_none (names_left c.args.counted c.args.own.now.forms) None (was_asked visit c.args.k) (sym (asked_nothing visit c.args.k event at nowhere))
 
 pub request_there-requires-clause-located : goal.request_there-requires-clause-located
 request_there-requires-clause-located c =
@@ -47,4 +48,4 @@ returns-clause-request c =
     let there : AimsAt page (by_path page event) (At c.in-Some.target button) =
     (leads.0, c.in_ok-button.ensures.within, aims_there page event c.in-Some.target button leads c.in_ok-button.ensures.place) in
     IfOk-weaker c.request_there.result _ _
-    (λ request told. subst (IsButFor c.args.names.now request) (asked_here visit c.args.k event at) (told (by_path page) (by_path page event) there c.requires.fields)) c.request_there.ensures.request
+    (λ request told. subst (IsButFor (names_left c.args.counted c.args.own.now.forms) request) (asked_here visit c.args.k event at) (told (by_path page) (by_path page event) there c.requires.fields)) c.request_there.ensures.request

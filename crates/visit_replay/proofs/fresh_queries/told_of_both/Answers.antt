@@ -1,5 +1,6 @@
-use Rattle.std.proofs.Common.{sym, ◌∙◌, arith}
-use Rattle.visit_replay.proofs.QueriesBeside.{both_apart, both_same, less_left}
+use Rattle.std.proofs.Common.{Some, sym, ◌∙◌, arith}
+use Rattle.page_looks.specs.Sending.{kept_pairs}
+use Rattle.visit_replay.proofs.QueriesBeside.{both_apart, both_same, less_left, passed_first, passed_second}
 use Rattle.visit_replay.proofs.fresh_queries.told_of_both.Goals as goal
 
 pub returns-then-eq : goal.returns-then-eq
@@ -13,4 +14,13 @@ returns-then-eq c =
 pub returns : goal.returns
 returns c =
     both_apart c.args.fresh.now c.args.was.now c.args.is.now c.first_pair.result.0.now c.first_pair-2.result.0.now c.first_pair.result.1 c.first_pair-2.result.1 c.first_pair.ensures.pairs c.first_pair-2.ensures.pairs
-    (sym c.eq.ensures ∙ c.if-eq.false) (sym c.in_ok-has_fresh_name.ensures ∙ c.if-branch.false) (sym c.in_ok-has_fresh_name-2.ensures ∙ c.if-branch-2.false)
+    (sym c.eq.ensures ∙ c.if-eq.false) (sym c.in_ok-is_passed_over.ensures ∙ c.if-branch.false) (sym c.in_ok-is_passed_over-2.ensures ∙ c.if-branch-2.false)
+
+pub returns-then-branch : goal.returns-then-branch
+returns-then-branch c =
+    let was = c.args.was.now in
+    let is = c.args.is.now in
+    c.left_behind.ensures c.args.fresh.now (record { was = Some c.args.was; is = Some c.args.is }) (
+      passed_first c.args.fresh.now was c.first_pair.result.0.now c.first_pair.result.1 (kept_pairs c.args.fresh.now is) c.first_pair.ensures.pairs (sym c.in_ok-is_passed_over.ensures ∙ c.if-branch.true),
+      omega (arith, less_left was c.first_pair.result.1 c.first_pair.ensures.shorter),
+    )

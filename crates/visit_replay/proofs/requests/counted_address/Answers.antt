@@ -7,9 +7,8 @@ use Rattle.visit_replay.proofs.requests.counted_address.Goals as goal
 
 pub returns : goal.returns
 returns c =
-    let fresh = c.args.fresh.now in
     IfOk-weaker c.with_query.result _ _
-    (λ sent is.
-    ap (without_fresh fresh) (is ∙ ap₂ (λ a b. a ++ codes "?" ++ b) c.bare.ensures (c.as_str.ensures ∙ c.in_ok-pairs.ensures))
-    ∙ same_address fresh c.args.action.now (sent_all c.args.filled.now c.args.senders.now))
+    (λ sent is names marked.
+    ap (without_fresh names) (is ∙ ap₂ (λ a b. a ++ codes "?" ++ b) c.bare.ensures (c.as_str.ensures ∙ c.in_ok-pairs.ensures names marked))
+    ∙ same_address names c.args.action.now (sent_all c.args.filled.now c.args.senders.now))
     c.with_query.ensures

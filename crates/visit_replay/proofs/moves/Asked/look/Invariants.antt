@@ -1,4 +1,4 @@
-use Rattle.std.proofs.Common.{◌≡◌, ℕ, take, is_some}
+use Rattle.std.proofs.Common.{◌≡◌, ℕ, take, is_some, unwrap_or, []}
 use Rattle.std.specs.BTreeMap.{get}
 use Rattle.std.specs.Ordering.{nat_cmp}
 use Rattle.visit_replay.specs.Aim.{by_path}
@@ -13,5 +13,5 @@ invariant-loop-k l = record {
   met : IsMet l.finding l.visit l.outcome l.k l.self.numbers;
   same : (number : ℕ) → is_some (get nat_cmp l.self.numbers number) ≡ is_some (get nat_cmp l.fn.self.numbers number);
   known : KnowsTexts l.finding l.compared;
-  own : KnowsOwn l.visit.page l.own;
+  own : KnowsOwn (unwrap_or l.finding []) l.visit.page l.own;
 }

@@ -10,6 +10,7 @@ loop-number-preserved c =
     record {
       up = omega (arith, l.invariant.up);
       each = c.in_ok-note.ensures.each l.invariant.each;
+      marked = c.in_ok-note.ensures.marked l.invariant.marked;
       pairs = λ filled on.
           c.in_ok-note.ensures.pairs filled on
           ∙ ap (λ before. before ++ cons_option (pair_now filled l.number) []) (l.invariant.pairs filled on)
@@ -25,6 +26,7 @@ returns c =
     let over : l.number ≡ under.end = omega (arith, c.loop-number-test.false, l.auto.number-end, some.0) in
     record {
       each = l.invariant.each;
+      marked = l.invariant.marked;
       pairs = λ filled on within aim before kept.
           l.invariant.pairs filled on ∙ ap (pairs_now filled under.start) over
           ∙ sent_under filled page on c.args.form under.start under.end within c.nodes_under-under.ensures.under some.0 some.1 aim before kept;
