@@ -279,6 +279,30 @@ fn e4_a_line_that_is_too_long_is_judged_by_its_first_two_members(
     Ok(())
 }
 
+// No JSON, by a text that stands for no character, an end that is missing, and a number that begins with 0.
+const BAD_B1: &str = "{\"v\":\"b\",\"n\":1,\"t\":\"load\",\"at\":1,\"path\":\"\\ud800\"}\n";
+
+const UNENDED_A2: &str = "{\"v\":\"a\",\"n\":2,\"t\":\"end\"\n";
+
+const UNTOLD_A2: &str = "{\"t\":\"end\",\"at\":3,\"v\":\"a\",\"n\":02}\n";
+
+#[test]
+fn e5_a_line_that_is_no_json_is_judged_by_its_first_two_members(
+    rt: HostRuntime,
+) -> Result<(), Fail> {
+    let mut all = begin(&rt, NEVER, 9, 1 << 20)?;
+    let waits = "{\"have\":{\"a\":0},\"refused\":{}}\n";
+    assert!(rt; tells(&rt, &mut all, &[UNENDED_A2], waits)?);
+    let untold = "{\"have\":{},\"refused\":{}}\n";
+    assert!(rt; tells(&rt, &mut all, &[UNTOLD_A2], untold)?);
+    let stored = "{\"have\":{\"a\":2},\"refused\":{}}\n";
+    assert!(rt; tells(&rt, &mut all, &[A1, A2, UNENDED_A2], stored)?);
+    let refused = "{\"have\":{\"b\":0},\"refused\":{\"b\":\"E5\"}}\n";
+    assert!(rt; tells(&rt, &mut all, &[BAD_B1, B1], refused)?);
+    assert!(rt; tells(&rt, &mut all, &[B1], refused)?);
+    Ok(())
+}
+
 // Whether a line counts that stands behind so many of these texts and that end.
 fn counts_behind<R: AllocGlobal + RandomSource>(
     rt: &R,
