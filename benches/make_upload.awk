@@ -14,7 +14,7 @@ BEGIN {
     split("/a /b /c", address, " ")
     if (!workers) workers = 1
     print "{\"patched\":[\"/a\"]," (same ? "\"same\":[]," : "") "\"workers\":" workers ",\"quota\":4294967295,\"watch\":[\"/html/body/p\"],\"pages\":{\"/a\":" page "}}"
-    say("{\"t\":\"hello\",\"client\":\"bench\"}")
+    say("{\"t\":\"hello\",\"client\":\"" (client ? client : "bench") "\"}")
     for (visit = 1; bytes < size; visit++) {
         at = visit * 1000
         shown = page

@@ -5,6 +5,8 @@
    too.
    REFUSED_READ: how many bytes standard input gives before one read fails; it goes on behind that. READ_PIECE: how many
    a read gives at the most.
+   REFUSED_OPEN, REFUSED_FILE_READ: the number of an open by a path with no slash in front, and of a read of another file
+   than standard input, counted from 1, that fails; where a `-` stands before that of an open, for want of memory.
    REFUSED_WRITE: how many bytes standard output takes, one a write, before it fails; where a `-` stands before the
    number, before it takes nothing.
    REFUSED_SYNC: the name of a file; while it is there, each sync of data fails.
@@ -115,9 +117,22 @@ int pthread_detach(pthread_t thread) {
     return answer;
 }
 
+int open(const char *path, int flags, ...) {
+    static int asked;
+    const char *word = getenv("REFUSED_OPEN");
+    va_list more;
+    va_start(more, flags);
+    int mode = flags & O_CREAT ? va_arg(more, int) : 0;
+    va_end(more);
+    if (word && *path != '/' && ++asked == abs(atoi(word))) return errno = *word == '-' ? ENOMEM : EACCES, -1;
+    return syscall(SYS_openat, AT_FDCWD, path, flags, mode);
+}
+
 /* One thread alone reads standard input, and one writes standard output. */
 ssize_t read(int file, void *bytes, size_t room) {
-    const char *at = getenv("REFUSED_READ"), *piece = getenv("READ_PIECE");
+    static int asked;
+    const char *at = getenv("REFUSED_READ"), *piece = getenv("READ_PIECE"), *number = getenv("REFUSED_FILE_READ");
+    if (file != 0 && number && __atomic_add_fetch(&asked, 1, __ATOMIC_SEQ_CST) == atoi(number)) return errno = EIO, -1;
     if (file != 0 || (!at && !piece)) return syscall(SYS_read, file, bytes, room);
     if (piece && room > strtoul(piece, 0, 10)) room = strtoul(piece, 0, 10);
     if (at && !read_failed) {

@@ -3,6 +3,7 @@ pub mod Steps
 pub mod Gathering
 pub mod Divided
 pub mod Working
+pub mod OwnPages
 pub mod Placing
 pub mod ByClient
 pub mod Named

@@ -1,5 +1,5 @@
 -- Visits in another order, and what they give by their numbers.
-use Rattle.std.proofs.Common.{◌≡◌, ◌≢◌, ℕ, ◌+◌, ◌<◌, ◌≤◌, ◌==◌, List, [], ◌∷◌, ◌++◌, length, map, zip, cond, All, Some, get_or, slice_get, inl, inr, refl, sym, ap, subst, ◌∙◌, arith}
+use Rattle.std.proofs.Common.{◌≡◌, ◌≢◌, ℕ, ◌+◌, ◌<◌, ◌≤◌, ◌==◌, List, [], ◌∷◌, ◌++◌, length, map, zip, cond, All, Option, Some, get_or, slice_get, inl, inr, refl, sym, ap, subst, ◌∙◌, arith}
 use Rattle.std.specs.Borrow.{Bor}
 use Rattle.std.specs.List.Sorted.{IsPermutation}
 use Rattle.std.proofs.lemmas.Bool.{cases_lt}
@@ -8,15 +8,18 @@ use Rattle.std.proofs.lemmas.List.{length-append, length-map, map-append}
 use Rattle.std.proofs.lemmas.List.Elements.{All-push, All-map, All-weaker, All-cons, All-head, All-tail}
 use Rattle.std.proofs.lemmas.List.Sorted.{All-permutation, sum_by-IsPermutation}
 use Rattle.std.proofs.lemmas.Option.{slice_get_within, slice_get-get_or}
+use Rattle.page_tree.specs.Tree.{Tree}
 use Rattle.client_log.specs.declared.visit.Visit.{Visit}
 use Rattle.visit_replay.specs.Outcome.{outcome}
 use Rattle.visit_replay.specs.RepairedSite.{RepairedSite}
 use Rattle.visit_replay.specs.declared.outcome.Outcome.{Outcome}
 use Rattle.visit_replay.proofs.Places.{map_at, same_places}
 use Rattle.replay_workers.proofs.Lists.{once_at, sum-map}
+use Rattle.replay_workers.proofs.OwnPages.{page_count, page_outcome_there}
 use Rattle.replay_workers.proofs.Placing.{times_push}
 use Rattle.replay_workers.specs.Draws.{times}
-use Rattle.replay_workers.specs.Work.{own_outcomes, done_numbers, AreOf}
+use Rattle.replay_workers.specs.Work.{with_own_page, own_page_outcomes, done_numbers, AreOf}
+use Rattle.replay_workers.specs.inside.Clients.{page_at}
 use Rattle.replay_workers.specs.inside.Ordered.{AreAll, as_done}
 use Rattle.replay_workers.specs.inside.Shares.{PlacesThese}
 use Rattle.replay_workers.specs.declared.in_order.Numbered.{Numbered}
@@ -81,15 +84,18 @@ all_sorted visits all sorted front moved size = record {
 
 -- ---- by their numbers again
 
-module _ (f : Visit → Outcome) where
-  done_is : (all : List Numbered) → map as_done (zip all (map f (map (λ one. one.visit.now) all)))
-      ≡ map (λ one. record { number = one.number; outcome = f one.visit.now }) all
-  done_is [] = refl
-  done_is (one ∷ all) = ap (λ rest. record { number = one.number; outcome = f one.visit.now } ∷ rest) (done_is all)
+module _ (site : RepairedSite) (pages : List (Option Tree)) where
+  -- what each gives, on its own page where it has one
+  abbrev gives : Numbered → Done
+  gives one = record { number = one.number; outcome = outcome (with_own_page site (page_at pages one.number)) one.visit.now }
 
-done_numbers_are : (all : List Numbered) (f : Visit → Outcome) → map (λ (d : Done). d.number) (map (λ (one : Numbered). record { number = one.number; outcome = f one.visit.now }) all) ≡ numbers all
-done_numbers_are [] f = refl
-done_numbers_are (one ∷ all) f = ap (λ rest. one.number ∷ rest) (done_numbers_are all f)
+  done_is : (all : List Numbered) → map as_done (zip all (own_page_outcomes site (map (λ one. page_at pages one.number) all) (map (λ one. one.visit.now) all))) ≡ map gives all
+  done_is [] = refl
+  done_is (one ∷ all) = ap (λ rest. gives one ∷ rest) (done_is all)
+
+  done_numbers_are : (all : List Numbered) → map (λ (d : Done). d.number) (map gives all) ≡ numbers all
+  done_numbers_are [] = refl
+  done_numbers_are (one ∷ all) = ap (λ rest. one.number ∷ rest) (done_numbers_are all)
 
 pub done_within : (n : ℕ) (all : List Numbered) (own : List Outcome) → All (λ one. one.number < n) all → All (λ d. d.number < n) (map as_done (zip all own))
 done_within n [] own within = λ k d below. absurd (omega (arith, below))
@@ -104,23 +110,23 @@ numbers_within visits n all size =
     All-weaker (λ (one : Numbered). slice_get visits one.number ≡ Some one.visit.now) (λ one. one.number < n)
     (λ one at. let within = slice_get_within visits one.number one.visit.now at in omega (arith, within, size)) all
 
-pub placed_again : (site : RepairedSite) (visits : List Visit) (all : List Numbered) (own before after : List Outcome) → AreAll visits all
-    → own ≡ own_outcomes site (map (λ one. one.visit.now) all) → PlacesThese (map as_done (zip all own)) before after → length after ≡ length visits
-    → after ≡ own_outcomes site visits
-placed_again site visits all own before after are is placed size =
-    same_places after (own_outcomes site visits) (size ∙ sym (length-map visits (outcome site))) (λ x below.
+pub placed_again : (site : RepairedSite) (pages : List (Option Tree)) (visits : List Visit) (all : List Numbered) (own before after : List Outcome) → AreAll visits all
+    → own ≡ own_page_outcomes site (map (λ one. page_at pages one.number) all) (map (λ one. one.visit.now) all) → PlacesThese (map as_done (zip all own)) before after → length after ≡ length visits
+    → after ≡ own_page_outcomes site pages visits
+placed_again site pages visits all own before after are is placed size =
+    same_places after (own_page_outcomes site pages visits) (size ∙ sym (page_count site pages visits)) (λ x below.
     let there : 1 ≤ times x (numbers all) = are.there x (omega (arith, below, size)) in
-    let comes : 1 ≤ times x (done_numbers made) = subst (λ ns. 1 ≤ times x ns) (sym (done_numbers_are all (outcome site))) there in
+    let comes : 1 ≤ times x (done_numbers made) = subst (λ ns. 1 ≤ times x ns) (sym (done_numbers_are site pages all)) there in
     let these : PlacesThese made before after = subst (λ them. PlacesThese them before after) done placed in
-    these (own_outcomes site visits) x right (inr comes))
+    these (own_page_outcomes site pages visits) x right (inr comes))
   where
     made : List Done
-    made = map (λ one. record { number = one.number; outcome = outcome site one.visit.now }) all
+    made = map (gives site pages) all
 
     done : map as_done (zip all own) ≡ made
-    done = ap (λ o. map as_done (zip all o)) is ∙ done_is (outcome site) all
+    done = ap (λ o. map as_done (zip all o)) is ∙ done_is site pages all
 
-    right : AreOf (own_outcomes site visits) made
-    right = All-map (λ (d : Done). slice_get (own_outcomes site visits) d.number ≡ Some d.outcome) (λ (one : Numbered). record { number = one.number; outcome = outcome site one.visit.now }) all
+    right : AreOf (own_page_outcomes site pages visits) made
+    right = All-map (λ (d : Done). slice_get (own_page_outcomes site pages visits) d.number ≡ Some d.outcome) (gives site pages) all
         (All-weaker (λ (one : Numbered). slice_get visits one.number ≡ Some one.visit.now) _
-        (λ one at. map_at (outcome site) visits one.number one.visit.now at) all are.each)
+        (λ one at. page_outcome_there site pages visits one.number one.visit.now at) all are.each)

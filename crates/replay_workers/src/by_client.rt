@@ -1,9 +1,14 @@
 //! The visits of all clients as one list, and what they give, given back by client.
 ghost use Rattle.std.specs.Prelude.{◌≡◌, ◌≤◌, ◌++◌, length, map, IfOk, OnOk};
+ghost use Rattle.std.specs.List.{flat_map};
 ghost use Rattle.std.specs.Vec.Iter.{into_iter_items};
-ghost use Rattle.replay_workers.specs.inside.Clients.{visits_of_all, FollowByClient};
+ghost use Rattle.own_pages.specs.OwnPages.{own_page_at};
+ghost use Rattle.replay_workers.specs.inside.Clients.{plain_page, own_pages_of, visits_of_all, follow_all};
 
+use crate::pool::KeptVisits;
 use client_log::Visit;
+use own_pages::OwnPages;
+use page_tree::Page;
 use std::alloc::{AllocError, Global};
 use std::vec::IntoIter;
 use visit_replay::{Finding, Outcome, follow_parents};
@@ -33,6 +38,52 @@ fn add_visits<'a>(all: &mut Vec<&'a Visit>, visits: &'a [Visit]) -> Result<(), A
     Ok(())
 }
 
+/// The visits of each.
+pub(crate) fn lists_of<'v>(
+    alloc: Global,
+    clients: &[KeptVisits<'v>],
+) -> Result<Vec<&'v [Visit]>, AllocError>
+    ensures { IfOk result (λ all. map (λ visits. visits.now) all.items ≡ map (λ one. one.visits.now) clients.now) }
+{
+    let mut all = Vec::with_capacity(alloc, clients.len())?;
+    for one in clients {
+        all.push_reserved(one.visits);
+    }
+    Ok(all)
+}
+
+/// The page of its own that each of all visits has.
+pub(crate) fn pages_by_visit<'a>(
+    alloc: Global,
+    own: &'a OwnPages,
+    clients: &[KeptVisits<'_>],
+) -> Result<Vec<Option<&'a Page>>, AllocError>
+    ensures { IfOk result (λ all. map plain_page all.items
+        ≡ flat_map (λ one. own_pages_of (own_page_at own.now) one.client.now one.visits.now) clients.now) }
+{
+    let mut all = Vec::new(alloc);
+    for one in clients {
+        add_pages(&mut all, own, one.client, one.visits)?;
+    }
+    Ok(all)
+}
+
+fn add_pages<'a>(
+    all: &mut Vec<Option<&'a Page>>,
+    own: &'a OwnPages,
+    client: &str,
+    visits: &[Visit],
+) -> Result<(), AllocError>
+    ensures { OnOk result (map plain_page all.new.items
+        ≡ map plain_page all.old.items ++ own_pages_of (own_page_at own.now) client.now visits.now) }
+{
+    all.reserve(visits.len())?;
+    for visit in visits {
+        all.push_reserved(own.get(client, visit.number));
+    }
+    Ok(())
+}
+
 /// What each client's visits give behind their parents, by what all give by themselves.
 pub(crate) fn follow_each(
     alloc: Global,
@@ -41,7 +92,7 @@ pub(crate) fn follow_each(
     own: Vec<Outcome>,
 ) -> Result<Vec<Vec<Outcome>>, AllocError>
     requires { length own.items ≡ length (visits_of_all clients.now) }
-    ensures { IfOk result (λ all. FollowByClient finding.now clients.now own.items (map (λ one. one.items) all.items)) }
+    ensures { IfOk result (λ all. map (λ one. one.items) all.items ≡ follow_all finding.now clients.now own.items) }
 {
     let mut all = Vec::with_capacity(alloc, clients.len())?;
     let mut rest = own.into_iter();

@@ -1,13 +1,16 @@
 //! Visits in the order of their addresses, so that those to one page are replayed one after another, and what they give in their own order again.
-ghost use Rattle.std.specs.Prelude.{◌≡◌, length, map, IfOk};
+ghost use Rattle.std.specs.Prelude.{◌≡◌, List, Option, length, map, IfOk};
 ghost use Rattle.std.specs.List.{zip};
 ghost use Rattle.visit_replay.specs.RepairedSite.{RepairedSite};
-ghost use Rattle.replay_workers.specs.Work.{own_outcomes};
+ghost use Rattle.page_tree.specs.Tree.{Tree};
+ghost use Rattle.replay_workers.specs.Work.{own_page_outcomes};
+ghost use Rattle.replay_workers.specs.inside.Clients.{plain_page, page_at};
 ghost use Rattle.replay_workers.specs.inside.Ordered.{AreAll, as_done};
 
 use crate::pool::{place, untouched};
-use crate::share::Done;
+use crate::share::{Done, page_at};
 use client_log::Visit;
+use page_tree::Page;
 use std::alloc::{AllocError, Global};
 use visit_replay::Outcome;
 
@@ -50,6 +53,22 @@ pub(crate) fn visits_of<'a>(
     Ok(visits)
 }
 
+/// The page of its own that each of these has.
+pub(crate) fn pages_in_order<'a>(
+    alloc: Global,
+    own_pages: &[Option<&'a Page>],
+    all: &[Numbered<'_>],
+) -> Result<Vec<Option<&'a Page>>, AllocError>
+    ensures { IfOk result (λ pages. map plain_page pages.items
+        ≡ map (λ one. page_at (map plain_page own_pages.now) one.number) all.now) }
+{
+    let mut pages = Vec::with_capacity(alloc, all.len())?;
+    for one in all {
+        pages.push_reserved(page_at(own_pages, one.number));
+    }
+    Ok(pages)
+}
+
 /// What these give, by their numbers.
 pub(crate) fn by_number(
     alloc: Global,
@@ -59,9 +78,10 @@ pub(crate) fn by_number(
 ) -> Result<Vec<Outcome>, AllocError>
     requires all { AreAll (map (λ visit. visit.now) visits.now) all.now }
     requires count { length own.items ≡ length all.now }
-    ensures { IfOk result (λ outcomes. (site : RepairedSite)
-        → own.items ≡ own_outcomes site (map (λ one. one.visit.now) all.now)
-        → outcomes.items ≡ own_outcomes site (map (λ visit. visit.now) visits.now)) }
+    ensures { IfOk result (λ outcomes. (site : RepairedSite) (pages : List (Option Tree))
+        → own.items ≡ own_page_outcomes site (map (λ one. page_at pages one.number) all.now)
+        (map (λ one. one.visit.now) all.now)
+        → outcomes.items ≡ own_page_outcomes site pages (map (λ visit. visit.now) visits.now)) }
 {
     let mut outcomes = untouched(alloc, visits.len())?;
     let done = beside_numbers(alloc, all, own)?;

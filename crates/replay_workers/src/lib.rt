@@ -19,7 +19,7 @@ mod view;
 pub use claims::Claims;
 pub use fault::PoolFault;
 pub use last_page::{LastPage, PageThere};
-pub use pool::replay_all;
+pub use pool::{KeptVisits, replay_all, replay_owned};
 pub use seat::Seat;
 pub use share::{Done, Share, work};
 pub use site_pages::{PageAt, SitePages, pages_of};

@@ -7,20 +7,24 @@ ghost use Rattle.visit_replay.specs.RepairedSite.{site_by};
 ghost use Rattle.visit_replay.specs.declared.outcome.Outcome.TheVariants.{Untouched};
 ghost use Rattle.replay_workers.specs.Draws.{fresh_seat};
 ghost use Rattle.visit_replay.specs.Limits.{AreWorkers};
-ghost use Rattle.replay_workers.specs.Work.{own_outcomes, IsShare};
+ghost use Rattle.own_pages.specs.OwnPages.{own_page_at};
+ghost use Rattle.replay_workers.specs.Work.{own_outcomes, own_page_outcomes, outcomes_with_own, IsShare};
+ghost use Rattle.replay_workers.specs.inside.Clients.{plain_page};
 ghost use Rattle.replay_workers.specs.inside.Shares.{PlacesAll, PlacesThese};
 ghost use Rattle.replay_workers.specs.SitePages.{ArePagesOf};
 ghost use Rattle.replay_workers.specs.declared.fault.PoolFault.TheVariants.{BadWorkers, NoMemory};
 
-use crate::by_client::{follow_each, in_one_list};
+use crate::by_client::{follow_each, in_one_list, lists_of, pages_by_visit};
 use crate::claims::Claims;
 use crate::fault::PoolFault;
-use crate::in_order::{by_address, by_number, visits_of};
+use crate::in_order::{by_address, by_number, pages_in_order, visits_of};
 use crate::seat::Seat;
-use crate::share::{Done, Share, work};
+use crate::share::{Done, Share, work_with};
 use crate::site_pages::{SitePages, pages_of};
 use crate::view::Terms;
 use client_log::Visit;
+use own_pages::OwnPages;
+use page_tree::Page;
 use site_hooks::SiteHooks;
 use std::alloc::{AllocError, Global};
 use std::thread;
@@ -60,7 +64,45 @@ pub fn replay_all<H: SiteHooks, R: AllocGlobal + Threads + Sync>(
     Ok(follow_each(rt.alloc(), finding, clients, own)?)
 }
 
-// What each visit gives by itself. Where events go by their elements, those to one page are replayed one after another.
+/// A client, and the visits that are kept of it.
+#[derive(Clone, Copy)]
+pub struct KeptVisits<'v> {
+    pub client: &'v str,
+    pub visits: &'v [Visit],
+}
+
+/// The same on a site that has pages of single visits too: such a page stands, for its visit, at whatever address.
+pub fn replay_owned<H: SiteHooks, R: AllocGlobal + Threads + Sync>(
+    rt: &R,
+    workers: u32,
+    hooks: &H,
+    own: &OwnPages,
+    patch: &Patch,
+    finding: &Finding,
+    clients: &[KeptVisits<'_>],
+) -> Result<Vec<Vec<Outcome>>, PoolFault>
+    ensures workers { IfOk result (λ _. AreWorkers workers) }
+    ensures ok { IfOk result (λ all. map (λ own. own.items) all.items ≡
+        map (λ one. outcomes_with_own (site_by H.page_of H.signals hooks.now patch.now finding.now) (own_page_at own.now)
+        one.client.now one.visits.now) clients.now) }
+    ensures refused { IfErr result (λ fault. fault ≢ NoMemory → (fault ≡ BadWorkers) × ¬ AreWorkers workers) }
+    ensures memory { IfErr result (λ fault. fault ≡ NoMemory → AreWorkers workers) }
+{
+    if workers < 1 || workers > MAX_WORKERS {
+        return Err(PoolFault::BadWorkers);
+    }
+    let alloc = rt.alloc();
+    let kept = lists_of(alloc, clients)?;
+    let lists = kept.as_slice();
+    let visits = in_one_list(alloc, lists)?;
+    let all = visits.as_slice();
+    let pages = pages_by_visit(alloc, own, clients)?;
+    let own_pages = pages.as_slice();
+    let outcomes = replay_with_pages(rt, alloc, workers, hooks, patch, finding, all, own_pages)?;
+    Ok(follow_each(alloc, finding, lists, outcomes)?)
+}
+
+// What each visit gives by itself.
 fn replay_listed<H: SiteHooks, R: Threads + Sync>(
     rt: &R,
     alloc: Global,
@@ -74,13 +116,36 @@ fn replay_listed<H: SiteHooks, R: Threads + Sync>(
     ensures { IfOk result (λ own. own.items ≡
         own_outcomes (site_by H.page_of H.signals hooks.now patch.now finding.now) (map (λ visit. visit.now) visits.now)) }
 {
+    replay_with_pages(rt, alloc, workers, hooks, patch, finding, visits, &[])
+}
+
+// The same where visits have such pages of their own. Where events go by their elements, those to one page of the site are replayed one after another.
+fn replay_with_pages<H: SiteHooks, R: Threads + Sync>(
+    rt: &R,
+    alloc: Global,
+    workers: u32,
+    hooks: &H,
+    patch: &Patch,
+    finding: &Finding,
+    visits: &[&Visit],
+    own_pages: &[Option<&Page>],
+) -> Result<Vec<Outcome>, AllocError>
+    requires { AreWorkers workers }
+    ensures { IfOk result (λ outcomes. outcomes.items ≡
+        own_page_outcomes (site_by H.page_of H.signals hooks.now patch.now finding.now)
+        (map plain_page own_pages.now) (map (λ visit. visit.now) visits.now)) }
+{
     if finding.names().is_none() {
-        return replay_in_turn(rt, alloc, workers, hooks, patch, finding, visits);
+        return replay_in_turn(rt, alloc, workers, hooks, patch, finding, visits, own_pages);
     }
     let all = by_address(alloc, visits)?;
-    let sorted = visits_of(alloc, all.as_slice())?;
-    let own = replay_in_turn(rt, alloc, workers, hooks, patch, finding, sorted.as_slice())?;
-    by_number(alloc, visits, all.as_slice(), own)
+    let these = all.as_slice();
+    let sorted = visits_of(alloc, these)?;
+    let listed = sorted.as_slice();
+    let moved = pages_in_order(alloc, own_pages, these)?;
+    let pages = moved.as_slice();
+    let outcomes = replay_in_turn(rt, alloc, workers, hooks, patch, finding, listed, pages)?;
+    by_number(alloc, visits, these, outcomes)
 }
 
 // The same in the order of the list. No thread is started where there are none.
@@ -92,10 +157,12 @@ fn replay_in_turn<H: SiteHooks, R: Threads + Sync>(
     patch: &Patch,
     finding: &Finding,
     visits: &[&Visit],
+    own_pages: &[Option<&Page>],
 ) -> Result<Vec<Outcome>, AllocError>
     requires { AreWorkers workers }
-    ensures { IfOk result (λ own. own.items ≡
-        own_outcomes (site_by H.page_of H.signals hooks.now patch.now finding.now) (map (λ visit. visit.now) visits.now)) }
+    ensures { IfOk result (λ outcomes. outcomes.items ≡
+        own_page_outcomes (site_by H.page_of H.signals hooks.now patch.now finding.now)
+        (map plain_page own_pages.now) (map (λ visit. visit.now) visits.now)) }
 {
     if visits.is_empty() {
         return Ok(Vec::new(alloc));
@@ -104,7 +171,7 @@ fn replay_in_turn<H: SiteHooks, R: Threads + Sync>(
     let count = visits.len() as u64;
     let (claims, seats) = Claims::under(alloc, Terms { count, workers })?;
     replay_each(
-        rt, alloc, hooks, patch, finding, &pages, visits, claims, seats,
+        rt, alloc, hooks, patch, finding, &pages, visits, own_pages, claims, seats,
     )
 }
 
@@ -117,6 +184,7 @@ fn replay_each<H: SiteHooks, R: Threads + Sync>(
     finding: &Finding,
     pages: &SitePages<'_>,
     visits: &[&Visit],
+    own_pages: &[Option<&Page>],
     claims: Claims,
     seats: Vec<Seat>,
 ) -> Result<Vec<Outcome>, AllocError>
@@ -125,7 +193,8 @@ fn replay_each<H: SiteHooks, R: Threads + Sync>(
     requires some { 1 ≤ claims.workers }
     requires count { claims.count ≡ length visits.now }
     ensures { IfOk result (λ own. own.items ≡
-        own_outcomes (site_by H.page_of H.signals hooks.now patch.now finding.now) (map (λ visit. visit.now) visits.now)) }
+        own_page_outcomes (site_by H.page_of H.signals hooks.now patch.now finding.now)
+        (map plain_page own_pages.now) (map (λ visit. visit.now) visits.now)) }
 {
     let mut own = untouched(alloc, visits.len())?;
     let room = Vec::with_capacity(alloc, seats.len())?;
@@ -137,10 +206,14 @@ fn replay_each<H: SiteHooks, R: Threads + Sync>(
             requires { (seat ≡ fresh_seat lent.now) × (lent.now.count ≡ length visits.now)
                 × ArePagesOf (H.page_of hooks.now) pages.now.all.items }
             ensures { IsShare
-                (own_outcomes (site_by H.page_of H.signals hooks.entry.now patch.entry.now finding.entry.now)
-                (map (λ visit. visit.now) visits.entry.now))
+                (own_page_outcomes (site_by H.page_of H.signals hooks.entry.now patch.entry.now finding.entry.now)
+                (map plain_page own_pages.entry.now) (map (λ visit. visit.now) visits.entry.now))
                 lent.entry.now (fresh_seat lent.entry.now) result }
-        { work(alloc, hooks, patch, finding, pages, visits, lent, seat) },
+        {
+            work_with(
+                alloc, hooks, patch, finding, pages, visits, own_pages, lent, seat,
+            )
+        },
     )?;
     let seats = place_all(shares, own.as_mut_slice(), room)?;
     let _drawn = claims.close(seats);

@@ -9,6 +9,8 @@ mod call_tests;
 #[cfg(test)]
 mod fixtures;
 #[cfg(test)]
+mod folder_tests;
+#[cfg(test)]
 mod listen_tests;
 #[cfg(test)]
 mod serve_tests;

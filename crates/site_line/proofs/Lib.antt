@@ -1,2 +1,4 @@
 pub mod PagesAdded
+pub mod RefusedLaws
 pub mod SiteLaws
+pub mod TakenLaws

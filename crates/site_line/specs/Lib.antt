@@ -3,4 +3,5 @@ pub mod Decision
 pub mod Site
 pub mod Reading
 pub mod Fault
+pub mod Refused
 pub mod inside

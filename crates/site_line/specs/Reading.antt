@@ -4,6 +4,7 @@ use Rattle.site_hooks.specs.Table.{table_page as page_at, watched_in}
 use Rattle.site_hooks.specs.declared.table.Table.{Table}
 use Rattle.visit_replay.specs.Outcome.{is_listed}
 use Rattle.site_line.specs.Site.{Site as PlainSite, page_among}
+use Rattle.site_line.specs.declared.parts.SiteParts.{SiteParts}
 use Rattle.site_line.specs.declared.site.Site.{Site}
 use Rattle.conflict_desk.specs.declared.decision.Decision.{Decision}
 
@@ -34,3 +35,13 @@ pub record AnswersAs (site : Site) (plain : PlainSite) : Type 0 where
   pub quota : site_quota site ≡ plain.quota
   pub workers : site_workers site ≡ plain.workers
   pub decisions : site_decisions site ≡ plain.decisions
+
+-- they are what that site is made of
+pub record ArePartsOfSite (parts : SiteParts) (plain : PlainSite) : Type 0 where
+  pub patched : parts.patched.items ≡ plain.patched
+  pub pages : (address : List ℕ) → page_at parts.table address ≡ page_among plain.pages address
+  pub watched : watched_in parts.table ≡ plain.watched
+  pub same : parts.finding ≡ plain.same
+  pub quota : parts.quota ≡ plain.quota
+  pub workers : parts.workers ≡ plain.workers
+  pub decisions : parts.decisions.items ≡ plain.decisions

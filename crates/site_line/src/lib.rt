@@ -5,8 +5,12 @@
 
 mod decision;
 mod fault;
+mod parts;
 mod reading;
+mod refused;
 mod site;
 
 pub use fault::SiteFault;
+pub use parts::SiteParts;
+pub use refused::{SiteMember, refused_member};
 pub use site::Site;

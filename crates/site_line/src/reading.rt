@@ -118,15 +118,28 @@ pub(crate) fn read_same(
     ensures fails { IfErr result
         (FailsWhere ((names : Option (List (List ℕ))) → same_in (view value.now) ≡ Some names → ¬ AreFewNames names)) }
 {
+    match read_fresh(alloc, value)? {
+        None => Ok(Finding::by_path()),
+        Some(names) => Ok(Finding::by_element(FreshNames::new(names, keys))),
+    }
+}
+
+/// The names of fresh values, where they are given.
+pub(crate) fn read_fresh(alloc: Global, value: &Value) -> Result<Option<Vec<Text>>, SiteFault>
+    ensures ok { IfOk result (λ fresh. let names = option_map (λ all. all.items) fresh in
+        (same_in (view value.now) ≡ Some names) × AreFewNames names) }
+    ensures fails { IfErr result
+        (FailsWhere ((names : Option (List (List ℕ))) → same_in (view value.now) ≡ Some names → ¬ AreFewNames names)) }
+{
     let Some(given) = value.get("same") else {
-        return Ok(Finding::by_path());
+        return Ok(None);
     };
     let items = read_items(given)?;
     let names = read_texts(alloc, items)?;
     if names.len() > MAX_FRESH {
         return Err(SiteFault::BadMember);
     }
-    Ok(Finding::by_element(FreshNames::new(names, keys)))
+    Ok(Some(names))
 }
 
 fn read_texts(alloc: Global, items: &[Value]) -> Result<Vec<Text>, SiteFault>

@@ -1,19 +1,14 @@
 //! The repaired site.
-ghost use Rattle.std.specs.Prelude.{◌≡◌, IfOk, IfErr, IsErrOf};
+ghost use Rattle.std.specs.Prelude.{◌≡◌, IfOk, IsErrOf};
 ghost use Rattle.serde_json.specs.Data.{Data};
-ghost use Rattle.serde_json.specs.View.{view};
 ghost use Rattle.visit_replay.specs.Limits.{AreWorkers};
-ghost use Rattle.site_line.specs.Site.{Site as PlainSite, IsSiteOf, IsSiteLine, IsNoSite, IsJsonOf};
+ghost use Rattle.site_line.specs.Site.{Site as PlainSite, IsSiteLine, IsNoSite, IsJsonOf};
 ghost use Rattle.site_line.specs.declared.fault.SiteFault.TheVariants.{NotJson, BadMember};
 
 use crate::fault::SiteFault;
-use crate::reading::{
-    read_decisions, read_line, read_members, read_pages, read_patched, read_quota, read_same,
-    read_watched, read_workers,
-};
+use crate::parts::SiteParts;
 use client_log::Quota;
 use conflict_desk::Decision;
-use serde_json::Value;
 use site_hooks::Table;
 use std::alloc::Global;
 use std::hash::RandomState;
@@ -33,8 +28,7 @@ pub struct Site {
 }
 
 impl Site {
-    ghost use Rattle.site_line.specs.Reading.{site_patch, site_table, site_same, site_quota, site_workers, site_decisions, AnswersAs};
-    ghost use Rattle.site_line.specs.inside.{FailsWhere};
+    ghost use Rattle.site_line.specs.Reading.{site_patch, site_table, site_same, site_quota, site_workers, site_decisions, ArePartsOfSite, AnswersAs};
 
     /// The site that a line says: a JSON object with `patched` (an array of address texts), `pages` (an object, from address to page), `watch` (an
     /// array of path texts), `same` (an array of 16 names at most; without it events go by their paths), `quota` (1 to 4,294,967,295 bytes, else 1,048,576),
@@ -46,31 +40,22 @@ impl Site {
         ensures not_json { IsErrOf result NotJson → (d : Data) → ¬ IsJsonOf line.now d }
         ensures bad_member { IsErrOf result BadMember → (d : Data) × IsJsonOf line.now d × IsNoSite d }
     {
-        let value = read_line(alloc, line)?;
-        Site::from_value(alloc, keys, &value)
+        let parts = SiteParts::read(alloc, keys, line)?;
+        Ok(Site::of_parts(parts))
     }
 
-    // Z2 where the value is no object, or a member is wrong.
-    fn from_value(alloc: Global, keys: RandomState, value: &Value) -> Result<Site, SiteFault>
-        ensures ok { IfOk result (λ site. (plain : PlainSite) × IsSiteOf (view value.now) plain × AnswersAs site plain) }
-        ensures fails { IfErr result (FailsWhere (IsNoSite (view value.now))) }
+    /// The site that is made of these. It takes no memory.
+    pub fn of_parts(parts: SiteParts) -> Site
+        ensures { (plain : PlainSite) → ArePartsOfSite parts plain → AnswersAs result plain }
     {
-        read_members(value)?;
-        let patch = Patch::new(read_patched(alloc, value)?);
-        let mut table = read_watched(alloc, value)?;
-        read_pages(alloc, value, &mut table)?;
-        let finding = read_same(alloc, keys, value)?;
-        let quota = read_quota(value)?;
-        let workers = read_workers(value)?;
-        let decisions = read_decisions(alloc, value)?;
-        Ok(Site {
-            patch,
-            table,
-            finding,
-            quota,
-            workers,
-            decisions,
-        })
+        Site {
+            patch: Patch::new(parts.patched),
+            table: parts.table,
+            finding: parts.finding,
+            quota: parts.quota,
+            workers: parts.workers,
+            decisions: parts.decisions,
+        }
     }
 
     /// Which addresses were repaired.

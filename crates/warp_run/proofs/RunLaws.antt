@@ -88,17 +88,17 @@ abbrev case_on : Option (List (List ℕ)) → Option Tree → Visit × Outcome �
 case_on same page one = record { visit = one.0.number; parent = one.0.parent; outcome = one.1; difference = difference same one.0 page one.1 }
 
 same_told : (site : Site) (plain : PlainSite) (ones : List (Visit × Outcome)) → AnswersAs site plain
-    → map (as_case (repaired_site site).page_of (repaired_site site).same) ones ≡ map (as_case (plain_repaired plain).page_of (plain_repaired plain).same) ones
+    → map (as_case (λ visit. (repaired_site site).page_of visit.address) (repaired_site site).same) ones ≡ map (as_case (λ visit. (plain_repaired plain).page_of visit.address) (plain_repaired plain).same) ones
 same_told site plain [] stands = refl
 same_told site plain (one ∷ ones) stands =
     ap₂ (λ (case : Case) (cases : List Case). case ∷ cases)
     (ap₂ (λ (same : Option (List (List ℕ))) (page : Option Tree). case_on same page one) stands.same (stands.pages one.0.address)) (same_told site plain ones stands)
 
 same_cases : (site : Site) (plain : PlainSite) (visits : List Visit) → AnswersAs site plain
-    → map (as_case (repaired_site site).page_of (repaired_site site).same) (zip visits (outcomes (repaired_site site) visits))
-    ≡ map (as_case (plain_repaired plain).page_of (plain_repaired plain).same) (zip visits (outcomes (plain_repaired plain) visits))
+    → map (as_case (λ visit. (repaired_site site).page_of visit.address) (repaired_site site).same) (zip visits (outcomes (repaired_site site) visits))
+    ≡ map (as_case (λ visit. (plain_repaired plain).page_of visit.address) (plain_repaired plain).same) (zip visits (outcomes (plain_repaired plain) visits))
 same_cases site plain visits stands =
-    ap (λ outs. map (as_case (repaired_site site).page_of (repaired_site site).same) (zip visits outs)) (same_outcomes site plain visits stands)
+    ap (λ outs. map (as_case (λ visit. (repaired_site site).page_of visit.address) (repaired_site site).same) (zip visits outs)) (same_outcomes site plain visits stands)
     ∙ same_told site plain (zip visits (outcomes (plain_repaired plain) visits)) stands
 
 -- ---- what is made of what was taken is that of the input

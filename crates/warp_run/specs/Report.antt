@@ -144,6 +144,12 @@ report_text repaired =
     let clients = flat_map (client_text repaired.desk) repaired.clients in
     stop_line repaired.stop ++ (clients ++ flat_map decision_line repaired.decided)
 
+-- the same with these lines behind the first
+abbrev pub report_with : List ℕ → Repaired → List ℕ
+report_with uploads repaired =
+    let clients = flat_map (client_text repaired.desk) repaired.clients in
+    stop_line repaired.stop ++ (uploads ++ (clients ++ flat_map decision_line repaired.decided))
+
 -- ---- the writing of it
 
 -- The whole text is written; or a part from its front, and then a write failed or took nothing (O1); or nothing, for

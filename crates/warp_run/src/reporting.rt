@@ -8,7 +8,7 @@ ghost use Rattle.conflict_desk.specs.Book.{standing_in, standing_requests};
 ghost use Rattle.conflict_desk.specs.declared.decided.Standing.TheVariants.{Waiting};
 ghost use Rattle.warp_run.specs.inside.{first_was, others_behind};
 ghost use Rattle.warp_run.specs.Report as plain;
-ghost use Rattle.warp_run.specs.Report.{WritesReport, report_text};
+ghost use Rattle.warp_run.specs.Report.{WritesReport, report_text, report_with};
 
 mod fault;
 
@@ -36,15 +36,29 @@ pub fn report<W: Sink>(
 ) -> Result<(), ReportFault>
     ensures { WritesReport (writes_of W.puts W.contents writer.old writer.new) (report_text repaired.now) result }
 {
-    let text = compose(alloc, repaired)?;
+    report_with(alloc, "", repaired, writer)
+}
+
+/// The same with these lines behind the first.
+pub fn report_with<W: Sink>(
+    alloc: Global,
+    uploads: &str,
+    repaired: &Repaired,
+    writer: &mut W,
+) -> Result<(), ReportFault>
+    ensures { WritesReport (writes_of W.puts W.contents writer.old writer.new)
+        (report_with uploads.now repaired.now) result }
+{
+    let text = compose(alloc, uploads, repaired)?;
     Ok(write_text(writer, text.as_bytes())?)
 }
 
-fn compose(alloc: Global, repaired: &Repaired) -> Result<String, NoMemory>
-    ensures { IfOk result (λ text. string_bytes text ≡ report_text repaired.now) }
+fn compose(alloc: Global, uploads: &str, repaired: &Repaired) -> Result<String, NoMemory>
+    ensures { IfOk result (λ text. string_bytes text ≡ report_with uploads.now repaired.now) }
 {
     let mut text = String::new(alloc);
     text.push_str(stop_line(repaired.stop))?;
+    text.push_str(uploads)?;
     add_clients(&mut text, &repaired.desk, repaired.clients.as_slice())?;
     add_decisions(&mut text, repaired.decided.as_slice())?;
     Ok(text)
@@ -94,7 +108,8 @@ fn add_client_line(text: &mut String, client: &ClientSummary) -> Result<(), NoMe
     write!(text, " cost {cost} lost {lost}\n")
 }
 
-fn add_end(text: &mut String, end: Option<Ending>) -> Result<(), NoMemory>
+/// Writes how a lane ended.
+pub fn add_end(text: &mut String, end: Option<Ending>) -> Result<(), NoMemory>
     ensures { OnOk result (string_bytes text.new ≡ string_bytes text.old ++ plain.end_word end) }
 {
     match end {
@@ -296,8 +311,8 @@ fn add_request(text: &mut String, request: &Request) -> Result<(), NoMemory>
     text.push('\n')
 }
 
-// The word as a JSON string.
-fn add_quoted(text: &mut String, word: &str) -> Result<(), NoMemory>
+/// Writes the word as a JSON string.
+pub fn add_quoted(text: &mut String, word: &str) -> Result<(), NoMemory>
     ensures { OnOk result (string_bytes text.new ≡ string_bytes text.old ++ plain.json_string word.now) }
 {
     if word.len() > MAX_SHORT || !is_plain(word.as_bytes()) {

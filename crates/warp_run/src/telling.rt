@@ -4,19 +4,22 @@ ghost use Rattle.std.specs.Prelude.{ℕ, List, Option, ◌≡◌, map, All, IfOk
 ghost use Rattle.page_tree.specs.Tree.{Tree};
 ghost use Rattle.std.specs.List.{zip};
 ghost use Rattle.replay_workers.specs.SitePages.{ArePagesOf, IsLastOf};
-ghost use Rattle.warp_run.specs.inside.Telling.{AreAllTold, AreTold, IsTold, as_pair, as_pairs};
+ghost use Rattle.own_pages.specs.OwnPages.{own_page_at};
+ghost use Rattle.warp_run.specs.inside.Telling.{AreAllTold, AreTold, IsTold, as_pair, as_pairs, pairs_made};
 
 use client_log::Visit;
-use page_tree::NoMemory;
-use replay_workers::{LastPage, SitePages, pages_of};
+use own_pages::OwnPages;
+use page_tree::{NoMemory, Page};
+use replay_workers::{KeptVisits, LastPage, SitePages, pages_of};
 use site_hooks::SiteHooks;
 use std::alloc::Global;
 use visit_replay::{ConflictKind, Difference, Finding, Outcome, Patch};
 
-/// A visit with its outcome, and what its requests were, where that is known already.
+/// A visit, the page of its own that it has, if any, and its outcome; and what its requests were, where that is known already.
 #[derive(Drop)]
 pub(crate) struct ToldVisit<'a> {
     pub(crate) visit: &'a Visit,
+    pub(crate) own: Option<&'a Page>,
     pub(crate) outcome: Outcome,
     pub(crate) difference: Option<Difference>,
 }
@@ -24,42 +27,45 @@ pub(crate) struct ToldVisit<'a> {
 /// Each client's visits with their outcomes.
 pub(crate) fn with_visits<'a>(
     alloc: Global,
-    clients: &[&'a [Visit]],
+    own: &'a OwnPages,
+    clients: &[KeptVisits<'a>],
     outcomes: Vec<Vec<Outcome>>,
 ) -> Result<Vec<Vec<ToldVisit<'a>>>, NoMemory>
     ensures pairs { IfOk result (λ all. map as_pairs all.items
-        ≡ map (λ one. zip one.0.now one.1.items) (zip clients.now outcomes.items)) }
+        ≡ map (pairs_made (own_page_at own.now)) (zip clients.now outcomes.items)) }
     ensures told { IfOk result (λ all. (page_of : List ℕ → Option Tree) (same : Option (List (List ℕ)))
         → AreAllTold page_of same all.items) }
 {
     let mut all = Vec::new(alloc);
     let mut rest = outcomes.into_iter();
-    for visits in clients {
-        let Some(own) = rest.next() else {
+    for one in clients {
+        let Some(these) = rest.next() else {
             break;
         };
-        all.push(pair_up(alloc, visits, own)?)?;
+        all.push(pair_up(alloc, own, one, these)?)?;
     }
     Ok(all)
 }
 
 fn pair_up<'a>(
     alloc: Global,
-    visits: &'a [Visit],
+    own: &'a OwnPages,
+    kept: &KeptVisits<'a>,
     outcomes: Vec<Outcome>,
 ) -> Result<Vec<ToldVisit<'a>>, NoMemory>
-    ensures pairs { IfOk result (λ all. as_pairs all ≡ zip visits.now outcomes.items) }
+    ensures pairs { IfOk result (λ all. as_pairs all ≡ pairs_made (own_page_at own.now) (kept.now, outcomes)) }
     ensures told { IfOk result (λ all. (page_of : List ℕ → Option Tree) (same : Option (List (List ℕ)))
         → AreTold page_of same all.items) }
 {
     let mut all = Vec::new(alloc);
     let mut rest = outcomes.into_iter();
-    for visit in visits {
+    for visit in kept.visits {
         let Some(outcome) = rest.next() else {
             break;
         };
         all.push(ToldVisit {
             visit,
+            own: own.get(kept.client, visit.number),
             outcome,
             difference: None,
         })?;
@@ -120,7 +126,7 @@ fn add_stopped<'a>(
 ) -> Result<(), NoMemory> {
     for index in 0..told.len() {
         let one = &told[index];
-        if is_stopped(&one.outcome) {
+        if is_stopped(one) {
             stopped.push(Stopped {
                 client,
                 index,
@@ -139,14 +145,16 @@ fn visits_of<'a>(alloc: Global, stopped: &[Stopped<'a>]) -> Result<Vec<&'a Visit
     Ok(visits)
 }
 
-fn is_stopped(outcome: &Outcome) -> bool {
-    matches!(
-        outcome,
-        Outcome::Conflict {
-            kind: ConflictKind::Changed,
-            ..
-        }
-    )
+// One with a page of its own is told by itself.
+fn is_stopped(one: &ToldVisit<'_>) -> bool {
+    one.own.is_none()
+        && matches!(
+            one.outcome,
+            Outcome::Conflict {
+                kind: ConflictKind::Changed,
+                ..
+            }
+        )
 }
 
 // Tells it of the visit at that place among those of the client at that place.
@@ -210,7 +218,12 @@ fn tell<'p, H: SiteHooks>(
     ensures pair { as_pair one.new ≡ as_pair one.old }
     ensures told { IsTold (H.page_of hooks.now) finding.now one.new }
 {
-    let difference = last.told(alloc, hooks, finding, pages, one.visit, &one.outcome)?;
-    one.difference = Some(difference);
-    Ok(())
+    match one.own {
+        Some(_) => Ok(()),
+        None => {
+            let difference = last.told(alloc, hooks, finding, pages, one.visit, &one.outcome)?;
+            one.difference = Some(difference);
+            Ok(())
+        }
+    }
 }

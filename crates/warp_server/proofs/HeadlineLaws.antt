@@ -28,7 +28,7 @@ use Rattle.conflict_desk.proofs.Decisions.{decided_in, unless_refused}
 -- ---- the lanes of a round
 
 -- entries of clients that differ stand behind one another
-insert_behind : {X : Type 0} (es rest : List (List ℕ × X)) → IsDistinct bytes_eq (keys_of (es ++ rest)) → insert_all bytes_eq es rest ≡ es ++ rest
+pub insert_behind : {X : Type 0} (es rest : List (List ℕ × X)) → IsDistinct bytes_eq (keys_of (es ++ rest)) → insert_all bytes_eq es rest ≡ es ++ rest
 insert_behind es [] apart = sym (append-nil es)
 insert_behind es (e ∷ rest) apart =
     let none = absent_from_lookup (bytes_eq e.0) es (absent_before nat_list_eq_equiv es rest e apart) in
@@ -107,11 +107,11 @@ module _ (books : Books) (call : Decision) where
   call_leaves : map docket_of (after_call books call) ≡ map docket_of books
   call_leaves = refused_leaves (refusal call.client call.visit books)
 
-calls_leave : (books : Books) (calls : List Decision) → map docket_of (after_calls books calls) ≡ map docket_of books
+pub calls_leave : (books : Books) (calls : List Decision) → map docket_of (after_calls books calls) ≡ map docket_of books
 calls_leave books [] = refl
 calls_leave books (call ∷ calls) = calls_leave (after_call books call) calls ∙ call_leaves books call
 
-opened_as : (dockets : List Docket) → map docket_of (new_books dockets) ≡ dockets
+pub opened_as : (dockets : List Docket) → map docket_of (new_books dockets) ≡ dockets
 opened_as [] = refl
 opened_as (docket ∷ dockets) = ap (λ rest. docket ∷ rest) (opened_as dockets)
 

@@ -9,7 +9,7 @@ use Rattle.byte_streams.specs.Reading.{Reading}
 use Rattle.upload_reader.specs.Upload.{UploadState, Begins, IsUntouched}
 use Rattle.lanes_in_turn.specs.declared.gathered.LaneResult.{LaneResult}
 use Rattle.warp_server.specs.Rounds.{without_reader}
-use Rattle.warp_server.specs.program.Callers.{IsGreeted}
+use Rattle.warp_server.specs.program.Callers.{Sayings, IsGreeted, GivesBack, IsReadSo}
 use Rattle.warp_run.specs.Run.{fresh_lines}
 
 pub all_weaker : {X : Type 0} (P Q : X → Type 0) → ((x : X) → P x → Q x) → (xs : List X) → AllByRecursion P xs → AllByRecursion Q xs
@@ -38,6 +38,12 @@ module _ {C X : Type 0} (step : C → X → C → Type 0) where
   pub all_more : (callers between now : C) (xs ys : List X) → FoldsTo step callers xs between → FoldsTo step between ys now → FoldsTo step callers (xs ++ ys) now
   all_more callers between now [] ys same rest = subst (λ c. FoldsTo step c ys now) (sym same) rest
   all_more callers between now (x ∷ xs) ys (next, one, first) rest = (next, one, all_more next between now xs ys first rest)
+
+-- each that was given back was read so
+pub all_read : {C R : Type 0} (says : Sayings C R) (callers now : C) (uploads : List (UploadState R)) → FoldsTo (GivesBack says) callers uploads now
+    → AllByRecursion (IsReadSo says.was_read) uploads
+all_read says callers now [] back = tt
+all_read says callers now (upload ∷ uploads) (next, (reader, read, takes), rest) = ((reader, read), all_read says next now uploads rest)
 
 -- ---- entries that are let go one by one, and their uploads
 

@@ -30,7 +30,7 @@ use Rattle.warp_server.proofs.RoundSteps.{all_weaker}
 -- ---- lists
 
 module _ {X : Type 0} where
-  all_both : (P Q S : X → Type 0) → ((x : X) → P x → Q x → S x) → (xs : List X) → AllByRecursion P xs → AllByRecursion Q xs → AllByRecursion S xs
+  pub all_both : (P Q S : X → Type 0) → ((x : X) → P x → Q x → S x) → (xs : List X) → AllByRecursion P xs → AllByRecursion Q xs → AllByRecursion S xs
   all_both P Q S both [] all also = tt
   all_both P Q S both (x ∷ xs) all also = (both x all.0 also.0, all_both P Q S both xs all.1 also.1)
 
@@ -44,11 +44,11 @@ module _ {X : Type 0} where
   none_passes test (x ∷ xs) none = cond-false (test x) (x ∷ filter test xs) (filter test xs) none.0 ∙ none_passes test xs none.1
 
 module _ {X Y : Type 0} where
-  all_mapped : (f : X → Y) (P : Y → Type 0) (xs : List X) → AllByRecursion (λ x. P (f x)) xs → AllByRecursion P (map f xs)
+  pub all_mapped : (f : X → Y) (P : Y → Type 0) (xs : List X) → AllByRecursion (λ x. P (f x)) xs → AllByRecursion P (map f xs)
   all_mapped f P [] all = tt
   all_mapped f P (x ∷ xs) all = (all.0, all_mapped f P xs all.1)
 
-  all_of_mapped : (f : X → Y) (P : Y → Type 0) (xs : List X) → AllByRecursion P (map f xs) → AllByRecursion (λ x. P (f x)) xs
+  pub all_of_mapped : (f : X → Y) (P : Y → Type 0) (xs : List X) → AllByRecursion P (map f xs) → AllByRecursion (λ x. P (f x)) xs
   all_of_mapped f P [] all = tt
   all_of_mapped f P (x ∷ xs) all = (all.0, all_of_mapped f P xs all.1)
 
@@ -338,6 +338,17 @@ module _ {R : Type 0} where
           let all = all_among Has stayed g.gathers.lanes (stayed_apart knows) new old in
           let gone = all_weaker Has (λ entry. Has (entry.0, without_reader entry.1)) (λ entry has. record { messages = has.messages; is_log = has.is_log; kept_are = has.kept_are }) (went g) all in
           subst (AllByRecursion Has) (sym (after_round g)) (all_mapped (λ entry. (entry.0, without_reader entry.1)) Has (went g) gone)
+
+  -- the client of each upload of a round has an entry then
+  pub round_known : (quota : ℕ) (earlier : Gathered R) (uploads : List (UploadState R)) (gathered : Gathered R) → GathersRound quota earlier uploads gathered
+      → AllByRecursion (λ upload. IsSome (get bytes_eq gathered.clients upload.client)) uploads
+  round_known quota earlier uploads gathered g =
+      let keys = keys_of earlier.clients.entries in let clients = clients_of uploads in
+      let Have : UploadState R → Type 0 = λ upload. Has upload.client (keys_of gathered.clients.entries) in
+      let Known : UploadState R → Type 0 = λ upload. IsSome (get bytes_eq gathered.clients upload.client) in
+      all_weaker Have Known (λ upload has. is_some-lookup (bytes_eq upload.client) gathered.clients.entries ∙ has) uploads
+      (subst (λ now. AllByRecursion (λ upload. Has upload.client now) uploads) (sym (keys_after quota [] earlier uploads gathered g))
+      (all_of_mapped (λ upload. upload.client) (λ client. Has client (set_all bytes_eq keys clients)) uploads (own_all keys clients)))
 
   -- ---- all rounds
 

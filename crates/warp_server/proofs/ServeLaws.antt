@@ -37,7 +37,7 @@ done_or_short : (short : Bool) → ((if short then OutOfMemory else Done) ≡ Do
 done_or_short true = inr refl
 done_or_short false = inl refl
 
-status_cases : {R : Type 0} (stop : Stop) (lanes : List (LaneResult R)) → (status_by stop lanes ≡ Done) ⊎ (status_by stop lanes ≡ OutOfMemory)
+pub status_cases : {R : Type 0} (stop : Stop) (lanes : List (LaneResult R)) → (status_by stop lanes ≡ Done) ⊎ (status_by stop lanes ≡ OutOfMemory)
 status_cases stops.Memory lanes = inr refl
 status_cases other lanes = done_or_short (list_any (λ lane. gave_up lane.end) lanes)
 

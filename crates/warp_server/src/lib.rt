@@ -8,8 +8,8 @@
 mod program;
 
 pub use program::{
-    AnswerFault, Answered, Call, CallFault, Callers, Listening, MAX_ROUNDS, Opens, accept_call,
-    answer, listen, listen_by, serve, serve_callers,
+    AnswerFault, Answered, Call, CallFault, Callers, Listening, MAX_ROUNDS, Opens, Replaying,
+    Words, accept_call, answer, listen, listen_by, serve, serve_callers, take_round,
 };
 pub use upload_lanes::{
     GatherFault, Gathered, LaneResult, RefusedRound, Stop, gather, gather_again,

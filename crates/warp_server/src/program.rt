@@ -8,10 +8,13 @@ mod listening;
 mod opens;
 mod rounds;
 mod serving;
+mod words;
 
 pub use answering::{AnswerFault, Answered, answer};
-pub use call::{Call, CallFault, Listening, MAX_ROUNDS, accept_call};
+pub use call::{Call, CallFault, Listening, MAX_ROUNDS, Replaying, accept_call};
 pub use callers::Callers;
 pub use listening::{listen, listen_by};
 pub use opens::Opens;
+pub use rounds::take_round;
 pub use serving::{serve, serve_callers};
+pub use words::Words;

@@ -1,6 +1,9 @@
-//! The program of the replay server: a site and uploads come in, on standard input or over connections, and the report goes to standard output.
+//! The program of the replay server: a site and uploads come in, on standard input, over connections or from files, and the report goes to standard output.
 #![tactic(auto)]
 
+use replay_folder::{ReplayEnd, replay};
+use site_file::FileWrong;
+use std::io::IsTerminal;
 use std::process::ExitCode;
 use std::{env, io};
 use upload_reader::Fed;
@@ -19,5 +22,26 @@ fn main(rt: HostRuntime) -> ExitCode {
             let status = listen(&rt, &listening, &mut writer);
             exit_with(&rt, status.code(), status.line())
         }
+        Ok(Call::Replay(replaying)) => {
+            let site_file = replaying.site_file.copy();
+            let ReplayEnd { status, wrong } = replay(
+                &rt,
+                replaying,
+                rt.stderr().is_terminal(),
+                &mut writer,
+            );
+            let code = exit_with(&rt, status.code(), status.line());
+            if let (Ok(name), Some(wrong)) = (site_file, wrong) {
+                say_wrong(&rt, name.as_str(), wrong);
+            }
+            code
+        }
     }
+}
+
+// What is wrong with the site's file.
+fn say_wrong(rt: &impl Eprint, name: &str, wrong: FileWrong) {
+    let _ = rt.eprint(name);
+    let _ = rt.eprint(":");
+    let _ = rt.eprintln(wrong);
 }

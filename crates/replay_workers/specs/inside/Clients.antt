@@ -1,19 +1,35 @@
 -- The visits of all clients as one list, and what they give, given back by client.
-use Rattle.std.specs.Prelude.{◌≡◌, ℕ, List, Option, map}
+use Rattle.std.specs.Prelude.{ℕ, List, [], ◌∷◌, length, map, zip, take, drop, Option, option_map, option_and_then, slice_get}
 use Rattle.std.specs.List.{flat_map}
 use Rattle.std.specs.Borrow.{Bor}
+use Rattle.page_tree.specs.Tree.{Tree}
 use Rattle.client_log.specs.declared.visit.Visit.{Visit}
-use Rattle.visit_replay.specs.Following.{outcomes}
-use Rattle.visit_replay.specs.RepairedSite.{RepairedSite}
+use Rattle.visit_replay.specs.Following.{behind_parents}
 use Rattle.visit_replay.specs.declared.outcome.Outcome.{Outcome}
-use Rattle.replay_workers.specs.Work.{own_outcomes}
+
+-- a page of a visit's own, if it has one
+abbrev pub plain_page : Option (Bor Tree) → Option Tree
+plain_page page = option_map (λ own. own.now) page
+
+-- that of the visit of that number
+abbrev pub page_at : List (Option Tree) → ℕ → Option Tree
+page_at pages number = option_and_then (λ page. page) (slice_get pages number)
+
+-- those of a client's visits
+abbrev pub own_pages_of : (List ℕ → ℕ → Option Tree) → List ℕ → List Visit → List (Option Tree)
+own_pages_of own_page client visits = map (λ visit. own_page client visit.number) visits
 
 -- client after client
 abbrev pub visits_of_all : List (Bor (List Visit)) → List Visit
 visits_of_all clients = flat_map (λ visits. visits.now) clients
 
--- from what each of all visits gives by itself, what each client's give behind their parents
-abbrev pub FollowByClient : Option (List (List ℕ)) → List (Bor (List Visit)) → List Outcome → List (List Outcome)
-    → Type 0
-FollowByClient same clients own all = (site : RepairedSite) → site.same ≡ same
-    → own ≡ own_outcomes site (visits_of_all clients) → all ≡ map (λ visits. outcomes site visits.now) clients
+module _ (same : Option (List (List ℕ))) where
+  -- what visits give behind their parents, by what each gives by itself
+  abbrev pub followed : List Visit → List Outcome → List Outcome
+  followed visits own = map (λ one. one.1) (behind_parents same (zip visits own))
+
+  -- the same client by client: the first that all give by themselves are those of the first client's visits
+  abbrev pub follow_all : List (Bor (List Visit)) → List Outcome → List (List Outcome)
+  follow_all [] own = []
+  follow_all (visits ∷ clients) own =
+      followed visits.now (take (length visits.now) own) ∷ follow_all clients (drop (length visits.now) own)

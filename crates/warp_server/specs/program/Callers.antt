@@ -60,6 +60,16 @@ pub record BeginsBadly {R : Type 0} (told : R → R → List Answer → Type 0) 
 abbrev pub uploads_in : {R : Type 0} → List (List ℕ × LaneResult R) → List (UploadState R)
 uploads_in entries = filter_map (λ entry. entry.1.upload) entries
 
+-- its source was read as the upload tells
+abbrev pub IsReadSo : {R : Type 0} → (R → R → List Answer → Type 0) → UploadState R → Type 0
+IsReadSo {R} was_read upload = (now : R) × IsReadOf was_read upload.lines.first now upload.lines.answers
+
+-- one round more, of which each upload was read so
+abbrev pub RoundIsRead : {R : Type 0} → (R → R → List Answer → Type 0) → ℕ → Gathered R → List (UploadState R)
+    → Gathered R → Type 0
+RoundIsRead was_read quota earlier uploads gathered = (gathers : GathersRound quota earlier uploads gathered)
+    × AllByRecursion (IsReadSo was_read) (uploads_in gathers.round.clients.entries)
+
 module _ {C R : Type 0} (says : Sayings C R) where
   -- so many came, and these uploads begin with the hellos of their sources
   pub record CameWith (lanes : ℕ) (callers : C) (uploads : List (UploadState R)) (now : C) : Type 0 where

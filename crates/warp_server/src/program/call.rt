@@ -5,8 +5,9 @@ ghost use Rattle.std.specs.Char.{is_ascii_digit};
 ghost use Rattle.std.specs.IoError.{error_kind};
 ghost use Rattle.std.specs.Vec.Iter.{into_iter_items};
 ghost use Rattle.lanes_in_turn.specs.Round.{AreRoundLanes};
-ghost use Rattle.warp_server.specs.program.Call.{is_number, number_of_word, rounds_in, listening_of, named_call, call_by, MayListen, fault_of_kind, call_exit_code, call_error_line};
+ghost use Rattle.warp_server.specs.program.Call.{is_number, number_of_word, rounds_in, listening_of, replaying_of, named_call, call_by, MayListen, fault_of_kind, call_exit_code, call_error_line};
 
+use crate::program::words::Words;
 use lanes_in_turn::MAX_ROUND_LANES;
 use page_tree::Text;
 use std::env::Args;
@@ -30,6 +31,8 @@ pub enum Call {
     Run,
     /// Take uploads over sockets.
     Listen(Listening),
+    /// Take uploads from files and folders.
+    Replay(Replaying),
 }
 
 /// How the program listens.
@@ -43,6 +46,15 @@ pub struct Listening {
     pub rounds: u32,
     /// The path of the file that has the site.
     pub site_file: Text,
+}
+
+/// What the program replays.
+#[derive(Drop)]
+pub struct Replaying {
+    /// The path of the file that has the site.
+    pub site_file: Text,
+    /// The paths of uploads and of folders of uploads, one at the least.
+    pub uploads: Words,
 }
 
 /// Why the program doesn't run.
@@ -70,7 +82,8 @@ impl CallFault {
         ensures { result.now ≡ call_error_line self }
     {
         match self {
-            CallFault::Words => "usage: warp_server [listen PORT LANES SITEFILE [ROUNDS]]",
+            CallFault::Words =>
+                "usage: warp_server [listen PORT LANES SITEFILE [ROUNDS]]\n       warp_server replay SITEFILE UPLOADS..",
             CallFault::NoMemory => "no memory",
         }
     }
@@ -106,12 +119,16 @@ fn read_named_call(mut words: Args) -> Result<Call, CallFault>
     let Some(word) = words.next() else {
         return Ok(Call::Run);
     };
-    if word.as_str() != "listen" {
-        return Err(CallFault::Words);
-    }
-    match read_listening(words) {
-        None => Err(CallFault::Words),
-        Some(listening) => Ok(Call::Listen(listening)),
+    match word.as_str() {
+        "listen" => match read_listening(words) {
+            None => Err(CallFault::Words),
+            Some(listening) => Ok(Call::Listen(listening)),
+        },
+        "replay" => match read_replaying(words) {
+            None => Err(CallFault::Words),
+            Some(replaying) => Ok(Call::Replay(replaying)),
+        },
+        _ => Err(CallFault::Words),
     }
 }
 
@@ -128,6 +145,18 @@ fn read_listening(mut words: Args) -> Option<Listening>
         lanes: number_of_word(1, MAX_ROUND_LANES, &lanes)?,
         rounds: read_rounds(words)?,
         site_file: Text::from(site_file),
+    })
+}
+
+// The words behind `replay`.
+fn read_replaying(mut words: Args) -> Option<Replaying>
+    ensures { result ≡ replaying_of (map string_bytes (into_iter_items words)) }
+{
+    let site_file = words.next()?;
+    let first = words.next()?;
+    Some(Replaying {
+        site_file: Text::from(site_file),
+        uploads: Words::new(Text::from(first), words),
     })
 }
 

@@ -18,7 +18,7 @@ place-requires c =
     subst (All (λ (d : Done). d.number < places)) (sym c.in_ok-done.ensures) (done_within places all c.args.own.items (numbers_within visits places all size c.requires.all.each))
 
 pub returns : goal.returns
-returns c = λ site is.
+returns c = λ site pages is.
     let visits : List Visit = map (λ (visit : Bor Visit). visit.now) c.args.visits.now in
     let outcomes = c.in_ok-outcomes.outcomes in
     let after = c.place.new.all in
@@ -26,5 +26,5 @@ returns c = λ site is.
     let placed : PlacesThese (map as_done (zip c.args.all.now c.args.own.items)) c.as_mut_slice.result.now after =
     subst (λ them. PlacesThese them c.as_mut_slice.result.now after) c.in_ok-done.ensures c.place.ensures in
     written_back after outcomes.items outcomes.len (omega (arith, outcomes.ok)) size_new
-    ∙ placed_again site visits c.args.all.now c.args.own.items c.as_mut_slice.result.now after c.requires.all is placed
+    ∙ placed_again site pages visits c.args.all.now c.args.own.items c.as_mut_slice.result.now after c.requires.all is placed
     (omega (arith, size_new, c.in_ok-outcomes.ensures, length-map c.args.visits.now (λ (visit : Bor Visit). visit.now)))

@@ -1,19 +1,11 @@
-use Rattle.std.proofs.lemmas.Result.{IfOk-weaker, IfErr-at_err}
-use Rattle.serde_json.specs.View.{view}
-use Rattle.site_line.specs.Site.{IsNoSite}
-use Rattle.site_line.specs.inside.{FailsWhere}
 use Rattle.site_line.proofs.SiteLaws.{one_site}
 use Rattle.site_line.proofs.site.Site.read.Goals as goal
 
 pub returns-clause-ok : goal.returns-clause-ok
-returns-clause-ok c =
-    IfOk-weaker c.from_value.result _ _ (λ site found. (found.0, (view c.in_ok-value.value, c.in_ok-value.ensures.ok, found.1), found.2)) c.from_value.ensures.ok
+returns-clause-ok c = let (plain, is, are) = c.in_ok-parts.ensures.ok in (plain, is, c.of_parts.ensures plain are)
 
 pub returns-clause-only : goal.returns-clause-only
 returns-clause-only c =
-    IfOk-weaker c.from_value.result _ _
-    (λ site found plain said. one_site c.args.line.now _ said.0 site found.0 plain c.in_ok-value.ensures.ok said.1 found.1 said.2 found.2) c.from_value.ensures.ok
-
-pub returns-clause-bad_member : goal.returns-clause-bad_member
-returns-clause-bad_member c =
-    λ is. (view c.in_ok-value.value, c.in_ok-value.ensures.ok, IfErr-at_err (FailsWhere (IsNoSite (view c.in_ok-value.value))) is c.from_value.ensures.fails)
+    λ other said.
+    let (plain, is, are) = c.in_ok-parts.ensures.ok in
+    one_site c.args.line.now is.0 said.0 c.of_parts.result plain other is.1 said.1 is.2 said.2 (c.of_parts.ensures plain are)

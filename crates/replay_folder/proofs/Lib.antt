@@ -1,0 +1,10 @@
+pub mod NamesLaws
+pub mod AmongLaws
+pub mod OwnLanesLaws
+pub mod OwnRoundLaws
+pub mod TakenFilesLaws
+pub mod SummaryLaws
+pub mod FolderLaws
+pub mod ReplayLaws
+pub mod LinesLaws
+pub mod RepairedLaws

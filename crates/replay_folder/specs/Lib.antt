@@ -1,0 +1,6 @@
+pub mod Names
+pub mod Ends
+pub mod Taking
+pub mod FolderReport
+pub mod Replays
+pub mod inside

@@ -1,0 +1,27 @@
+//! Replays uploads from files and folders on the site of a file, and writes one report.
+//!
+//! Which uploads a call names is told first (`names`); then each is opened, its hello read, and they are taken to their ends, round by round (`taking`); then what
+//! the logs keep is replayed, decided and reported (`replaying`). The contract of `replay_by` says what its report is of, by what its files gave.
+#![tactic(auto)]
+
+// The uploads that are named, and what becomes of each.
+mod ends;
+mod greeting;
+mod names;
+mod open_round;
+mod opens;
+mod own_lanes;
+mod taking;
+
+// The report, and all of it.
+mod concluding;
+mod lines;
+mod machine;
+mod replaying;
+mod site;
+mod summaries;
+
+pub use ends::UploadEnd;
+pub use names::{Named, name_uploads};
+pub use opens::{OpensUploads, Watches};
+pub use replaying::{ReplayEnd, replay, replay_by};

@@ -1,0 +1,187 @@
+//! All of it: the site's file, the uploads, the report.
+ghost use Rattle.std.specs.Prelude.{◌≡◌, length, None, ⊤, IfOk, IfErr};
+ghost use Rattle.byte_streams.specs.Reading.{WasRead};
+ghost use Rattle.byte_streams.specs.Streams.{fed_answers};
+ghost use Rattle.byte_streams.specs.declared.source.Fed.{Fed};
+ghost use Rattle.byte_streams.specs.Writing.{WritesNothing, writes_of};
+ghost use Rattle.conflict_desk.specs.Laws.{AllLeaveInOrder};
+ghost use Rattle.warp_run.specs.Report.{WritesReport, report_with};
+ghost use Rattle.warp_server.specs.program.Listen.{unopened_status};
+ghost use Rattle.replay_folder.specs.Ends.{folder_status};
+ghost use Rattle.replay_folder.specs.FolderReport.{upload_lines};
+ghost use Rattle.replay_folder.specs.Replays.{folder_repaired, ReplaysOn, Replays};
+ghost use Rattle.replay_folder.specs.inside.{Reports, no_site_end};
+
+use crate::concluding::repair_folder;
+use crate::ends::folder_status;
+use crate::lines::compose_lines;
+use crate::machine::{Folders, ProgressLine};
+use crate::names::{Named, name_uploads};
+use crate::open_round::TakenFiles;
+use crate::opens::{OpensUploads, Watches};
+use crate::site::site_of_file;
+use crate::taking::take_files;
+use byte_streams::{Sink, Source};
+use page_tree::NoMemory;
+use site_file::{FileWrong, NoSiteFile, SiteFile};
+use std::fs::File;
+use std::io::ErrorKind;
+use std::random::RandomSource;
+use std::rt::Files;
+use std::sync::Wait;
+use std::thread::Threads;
+use std::time::Clock;
+use warp_run::{ReportFault, Status, report_with, written_status};
+use warp_server::{Replaying, Words};
+
+/// How replaying ended.
+#[derive(Clone, Copy, Debug, PartialEq, Eq)]
+pub struct ReplayEnd {
+    pub status: Status,
+    /// What is wrong with the site's file, where that is why.
+    pub wrong: Option<FileWrong>,
+}
+
+/// Replays uploads and folders of uploads on the site of a file. It is `replay_by` with the files of this machine, of which no contract says what was opened;
+/// once a second it says on standard error how far it is, where that is shown.
+pub fn replay<
+    W: Sink,
+    T: AllocGlobal + Files<File = File> + RandomSource + Clock + Eprint + Threads + Wait + Sync,
+>(rt: &T, asked: Replaying, shown: bool, writer: &mut W) -> ReplayEnd
+    ensures { Replays {F = Fed File} (λ _ _. ⊤) (λ _ _. ⊤) (WasRead {R = Fed File} fed_answers (λ _. None)) asked
+        (writes_of W.puts W.contents writer.old writer.new) result.status result.wrong }
+{
+    let mut progress = ProgressLine {
+        rt,
+        shown,
+        last: None,
+    };
+    replay_by(rt, &Folders { rt }, asked, &mut progress, writer)
+}
+
+/// Reads the site from its file; takes the uploads that the words name, each to its end behind what its client uploaded before; replays on the site what the logs
+/// keep, by the site's workers; puts the site's decisions; and writes the report, with a line for each upload.
+///
+/// Nothing is written where the site's file says no site. An upload that can't be opened, or that doesn't begin with a hello, is told by its line, and the status is
+/// 4 then. Where memory is refused while messages are taken, the rest is left unread, and the report is written; elsewhere nothing is written then.
+pub fn replay_by<
+    F: Source + Drop + Send,
+    O: OpensUploads<File = F>,
+    P: Watches,
+    W: Sink,
+    T: AllocGlobal + RandomSource + Threads + Wait + Sync,
+>(rt: &T, opener: &O, asked: Replaying, watcher: &mut P, writer: &mut W) -> ReplayEnd
+    ensures { Replays (O.opened opener.now) (O.listed opener.now) (WasRead F.answers F.remaining) asked
+        (writes_of W.puts W.contents writer.old writer.new) result.status result.wrong }
+{
+    let Replaying { site_file, uploads } = asked;
+    let file = match opener.open(site_file.as_str()) {
+        Ok(file) => file,
+        Err(error) => return ReplayEnd {
+            status: status_unopened(error.kind()),
+            wrong: None,
+        },
+    };
+    match site_of_file(rt, file) {
+        Err(none) => no_site_end(none),
+        Ok(site) => ReplayEnd {
+            status: replay_on(rt, opener, uploads, watcher, &site, writer),
+            wrong: None,
+        },
+    }
+}
+
+// The same on the site.
+fn replay_on<
+    F: Source + Drop + Send,
+    O: OpensUploads<File = F>,
+    P: Watches,
+    W: Sink,
+    T: AllocGlobal + Threads + Wait + Sync,
+>(rt: &T, opener: &O, uploads: Words, watcher: &mut P, site: &SiteFile, writer: &mut W) -> Status
+    ensures { ReplaysOn (O.opened opener.now) (O.listed opener.now) (WasRead F.answers F.remaining) site.now uploads
+        (writes_of W.puts W.contents writer.old writer.new) result }
+{
+    match report_uploads(rt, opener, uploads, watcher, site, writer) {
+        Err(_) => Status::OutOfMemory,
+        Ok(both) => written_status(both.0, both.1),
+    }
+}
+
+// How it ends once its report is written, and whether that was.
+fn report_uploads<
+    F: Source + Drop + Send,
+    O: OpensUploads<File = F>,
+    P: Watches,
+    W: Sink,
+    T: AllocGlobal + Threads + Wait + Sync,
+>(
+    rt: &T,
+    opener: &O,
+    uploads: Words,
+    watcher: &mut P,
+    site: &SiteFile,
+    writer: &mut W,
+) -> Result<(Status, Result<(), ReportFault>), NoMemory>
+    ensures reported { IfOk result (Reports (O.opened opener.now) (O.listed opener.now) (WasRead F.answers F.remaining)
+        site.now uploads (writes_of W.puts W.contents writer.old writer.new)) }
+    ensures nothing { IfErr result (λ _. WritesNothing (writes_of W.puts W.contents writer.old writer.new)) }
+{
+    let named = name_uploads(rt.alloc(), opener, uploads)?;
+    let names = named.as_slice();
+    let taken = take_files(rt, opener, watcher, names, site.site().quota())?;
+    report_taken(rt, site, names, &taken, writer)
+}
+
+// The same of what was taken.
+fn report_taken<F: Source + Drop + Send, W: Sink, T: AllocGlobal + Threads + Sync>(
+    rt: &T,
+    site: &SiteFile,
+    named: &[Named],
+    taken: &TakenFiles<F>,
+    writer: &mut W,
+) -> Result<(Status, Result<(), ReportFault>), NoMemory>
+    requires each { length named.now ≡ length taken.now.ends.items }
+    ensures status { IfOk result (λ both. both.0 ≡ folder_status taken.now.status taken.now.ends.items) }
+    ensures reported { IfOk result (λ both. WritesReport (writes_of W.puts W.contents writer.old writer.new)
+        (report_with (upload_lines named.now taken.now.ends.items)
+        (folder_repaired site.now taken.now.ends.items taken.now.gathered)) both.1) }
+    ensures leave { IfOk result (λ _. AllLeaveInOrder
+        (folder_repaired site.now taken.now.ends.items taken.now.gathered).desk) }
+    ensures nothing { IfErr result (λ _. WritesNothing (writes_of W.puts W.contents writer.old writer.new)) }
+{
+    let ends = taken.ends.as_slice();
+    let repaired = repair_folder(rt, site, ends, &taken.gathered)?;
+    let lines = compose_lines(rt.alloc(), named, ends)?;
+    let report = report_with(rt.alloc(), lines.as_str(), &repaired, writer);
+    Ok((folder_status(taken.status, ends), report))
+}
+
+// How it ends where the file can't be opened.
+fn status_unopened(kind: ErrorKind) -> Status
+    ensures { result ≡ unopened_status kind }
+{
+    match kind {
+        ErrorKind::OutOfMemory => Status::OutOfMemory,
+        _ => Status::InputOutput,
+    }
+}
+
+fn no_site_end(none: NoSiteFile) -> ReplayEnd
+    ensures { result ≡ no_site_end none }
+{
+    match none {
+        NoSiteFile::Wrong(wrong) => ReplayEnd {
+            status: Status::BadSite,
+            wrong: Some(wrong),
+        },
+        NoSiteFile::ReadFailed => ReplayEnd {
+            status: Status::InputOutput,
+            wrong: None,
+        },
+        NoSiteFile::NoMemory => ReplayEnd {
+            status: Status::OutOfMemory,
+            wrong: None,
+        },
+    }
+}

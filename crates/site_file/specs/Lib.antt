@@ -1,0 +1,5 @@
+pub mod Addition
+pub mod SiteFile
+pub mod Kept
+pub mod Sentence
+pub mod inside
