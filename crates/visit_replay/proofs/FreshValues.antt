@@ -107,6 +107,17 @@ module _ (fresh : List (List ℕ)) where
       ap (λ ps. counting (map serialize_pair ps)) (left pair rest false is) ∙ cut (serialize_pair pair) (map serialize_pair (told true fresh rest)) false (over pair ∙ is)
       ∙ ap (λ l. serialize_pair pair ∷ l) later ∙ sym (cut (serialize_pair pair) (map serialize_pair rest) false (over pair ∙ is))
 
+  counted_first : (pair : Pair) (rest : List Pair) (b : Bool) → is_of_one fresh pair ≡ b → counting (map serialize_pair rest) ≡ map serialize_pair (told true fresh rest)
+      → counting (map serialize_pair (pair ∷ rest)) ≡ map serialize_pair (told true fresh (pair ∷ rest))
+  counted_first pair rest true is later = cut (serialize_pair pair) (map serialize_pair rest) true (over pair ∙ is) ∙ later ∙ sym (ap (map serialize_pair) (left pair rest true is))
+  counted_first pair rest false is later =
+      cut (serialize_pair pair) (map serialize_pair rest) false (over pair ∙ is) ∙ ap (λ l. serialize_pair pair ∷ l) later ∙ sym (ap (map serialize_pair) (left pair rest false is))
+
+  -- those that count are the ones that are told
+  told_parts : (pairs : List Pair) → counting (map serialize_pair pairs) ≡ map serialize_pair (told true fresh pairs)
+  told_parts [] = refl
+  told_parts (pair ∷ rest) = counted_first pair rest (is_of_one fresh pair) refl (told_parts rest)
+
   same_kept : (pairs : List Pair) → counting (map serialize_pair (told true fresh pairs)) ≡ counting (map serialize_pair pairs)
   same_kept [] = refl
   same_kept (pair ∷ rest) = kept_here pair rest (is_of_one fresh pair) refl (same_kept rest)
@@ -166,6 +177,12 @@ bare_whole : (action : List ℕ) → All (λ b. b ≢ 35) (bare action)
 bare_whole action = front_is (λ b. b ≢ 35) (λ c. c == 63 || c == 35) (λ b is. λ e. grind (arith, nat_tests)) action
 
 -- ---- a request
+
+pub counted_address_is : (fresh : List (List ℕ)) (action : List ℕ) (pairs : List Pair)
+    → without_fresh fresh (bare action ++ codes "?" ++ extend_pairs [] pairs) ≡ bare action ++ query_text (map serialize_pair (told true fresh pairs))
+counted_address_is fresh action pairs =
+    what_counts_is fresh (bare action) (extend_pairs [] pairs) (bare_unmarked action) (bare_whole action) (no_hash pairs)
+    ∙ ap (λ them. bare action ++ query_text them) (kept_of_parts fresh pairs ∙ told_parts fresh pairs)
 
 pub same_address : (fresh : List (List ℕ)) (action : List ℕ) (pairs : List Pair)
     → without_fresh fresh (bare action ++ codes "?" ++ extend_pairs [] (told true fresh pairs)) ≡ without_fresh fresh (bare action ++ codes "?" ++ extend_pairs [] pairs)

@@ -1,3 +1,4 @@
+pub mod CountedSenders
 pub mod Cut
 pub mod FieldsStandForEvents
 pub mod Numbered

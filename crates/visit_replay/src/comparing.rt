@@ -56,8 +56,8 @@ fn are_pairs<'a>(filled: &Filled<'a, '_>, senders: &'a [Sender<'_>], text: &[u8]
 
 // ---- what is left of a text; none where it begins otherwise
 
-// Behind the mark and the pair as it is encoded.
-fn pair_behind<'t>(mark: &str, sent: &SentPair<'_>, text: &'t [u8]) -> Option<&'t [u8]>
+/// Behind the mark and the pair as it is encoded.
+pub(crate) fn pair_behind<'t>(mark: &str, sent: &SentPair<'_>, text: &'t [u8]) -> Option<&'t [u8]>
     ensures { option_map (λ rest. rest.now) result
         ≡ left_behind (mark.now ++ serialize_pair (pair_of sent.now)) text.now }
 {
@@ -81,8 +81,8 @@ fn word_behind<'t>(word: &str, text: &'t [u8]) -> Option<&'t [u8]>
     Some(rest)
 }
 
-// Behind that front.
-fn behind<'t>(front: &str, text: &'t [u8]) -> Option<&'t [u8]>
+/// Behind that front.
+pub(crate) fn behind<'t>(front: &str, text: &'t [u8]) -> Option<&'t [u8]>
     ensures { option_map (λ rest. rest.now) result ≡ left_behind front.now text.now }
 {
     text.strip_prefix(front.as_bytes())

@@ -12,7 +12,7 @@ use upload_reader::Event;
 use xpath_child::Path;
 
 // How many are kept.
-const MOST: usize = 16;
+const MOST: usize = 256;
 
 /// A path, and the node that it selects alone.
 #[derive(Drop)]

@@ -16,6 +16,7 @@ mod changes;
 mod comparing;
 mod comparisons;
 mod conflicts;
+mod counted_query;
 mod counterparts;
 mod difference;
 mod differing;

@@ -1,7 +1,6 @@
 //! Requests, and how a replayed visit makes them.
 ghost use Rattle.std.specs.Prelude.{◌≡◌, ◌<◌, [], ◌∷◌, ◌++◌, not, All, ℕ, List, unwrap_or, IfOk, OnOk, OnErr, option_map, codes};
 ghost use Rattle.std.specs.Str.{bytes_eq};
-ghost use Rattle.page_looks.specs.Sending.{without_fresh};
 ghost use Rattle.form_urlencoded.specs.Form.{extend_pairs};
 ghost use Rattle.page_tree.specs.Limits.{nodes};
 ghost use Rattle.page_tree.specs.Number.{place_numbered};
@@ -16,10 +15,12 @@ ghost use Rattle.visit_replay.specs.inside.Senders.{SaysFresh, IsSender, KnowsFo
 use crate::address::bare;
 use crate::comparing::is_sent_to;
 use crate::comparisons::Comparisons;
+use crate::counted_query::is_what_counts;
 use crate::finding::Finding;
 use crate::forms::{self, Filled};
 use crate::known_forms::KnownForms;
 use crate::senders::Sender;
+use page_looks::without_fresh;
 use page_tree::{NoMemory, Page, Text};
 use std::alloc::Global;
 use std::marker::Model;
@@ -183,7 +184,7 @@ pub(crate) fn leads_elsewhere(
             }
             forms.look_under(alloc, target)?;
             let senders = forms.senders_under(target).as_slice();
-            is_query_apart(alloc, filled, senders, finding, action, now, compared)
+            is_query_apart(alloc, filled, senders, finding, action, now)
         }
     }
 }
@@ -207,7 +208,7 @@ fn are_apart(
     }
 }
 
-// The same of what a form sends under get. Pairs of fresh names don't count, so they aren't encoded.
+// The same of what a form sends under get. It is compared as it comes, up to the first byte that differs.
 fn is_query_apart(
     alloc: Global,
     filled: &Filled<'_, '_>,
@@ -215,37 +216,19 @@ fn is_query_apart(
     finding: &Finding,
     action: &str,
     now: &str,
-    compared: &mut Comparisons,
 ) -> Result<bool, NoMemory>
     requires senders { All (IsSender filled.now.page.now) senders.now }
     requires marked { All (SaysFresh (unwrap_or finding.now [])) senders.now }
-    requires known { KnowsTexts finding.now compared.old }
-    ensures apart { IfOk result (λ apart. apart ≡ not (bytes_eq (what_counts finding.now
+    ensures { IfOk result (λ apart. apart ≡ not (bytes_eq (what_counts finding.now
         (bare action.now ++ codes "?" ++ extend_pairs [] (sent_all filled.now senders.now))) (what_counts finding.now now.now))) }
-    ensures known { OnOk result (KnowsTexts finding.now compared.new) }
 {
     match finding.names() {
         None => Ok(!is_sent_to(filled, senders, bare(action), now)),
         Some(fresh) => {
-            let sent = counted_address(alloc, filled, senders, action)?;
-            compared.differ(alloc, fresh.as_slice(), sent.as_str(), now)
+            let counts = without_fresh(alloc, fresh.as_slice(), now)?;
+            Ok(!is_what_counts(filled, senders, action, counts.as_str()))
         }
     }
-}
-
-// An address that counts as the one that it goes to.
-fn counted_address(
-    alloc: Global,
-    filled: &Filled<'_, '_>,
-    senders: &[Sender<'_>],
-    action: &str,
-) -> Result<Text, NoMemory>
-    requires { All (IsSender filled.now.page.now) senders.now }
-    ensures { IfOk result (λ sent. (names : List (List ℕ)) → All (SaysFresh names) senders.now
-        → without_fresh names sent ≡ without_fresh names (bare action.now ++ codes "?" ++ extend_pairs [] (sent_all filled.now senders.now))) }
-{
-    let pairs = forms::encoded(alloc, filled, senders, true)?;
-    with_query(alloc, bare(action), pairs.as_str())
 }
 
 // A click sends the address of its link as it is written.

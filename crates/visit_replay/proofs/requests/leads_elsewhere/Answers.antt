@@ -24,7 +24,7 @@ returns-in_ok-look_under-in-Submit-clause-leads c =
     let same = ap (sent_all filled) c.as_slice-senders.ensures ∙ under.pairs filled refl c.requires.button aim before kept in
     let whole : request_at aim c.args.address.now new before c.args.event.now button form ≡ Some (sent_to false c.in-Submit.req action (extend_pairs [] them)) = search rules in
     is ∙ ap (λ pairs. not (bytes_eq (what_counts finding (bare action ++ codes "?" ++ extend_pairs [] pairs)) (what_counts finding c.args.now.now))) same
-    ∙ ap (λ r. are_apart finding r (Some c.args.now.now)) (sym whole)) c.is_query_apart.ensures.apart
+    ∙ ap (λ r. are_apart finding r (Some c.args.now.now)) (sym whole)) c.is_query_apart.ensures
 
 pub is_query_apart-requires-clause-marked : goal.is_query_apart-requires-clause-marked
 is_query_apart-requires-clause-marked c =
