@@ -117,22 +117,11 @@ int pthread_detach(pthread_t thread) {
     return answer;
 }
 
-int open(const char *path, int flags, ...) {
-    static int asked;
-    const char *word = getenv("REFUSED_OPEN");
-    va_list more;
-    va_start(more, flags);
-    int mode = flags & O_CREAT ? va_arg(more, int) : 0;
-    va_end(more);
-    if (word && *path != '/' && ++asked == abs(atoi(word))) return errno = *word == '-' ? ENOMEM : EACCES, -1;
-    return syscall(SYS_openat, AT_FDCWD, path, flags, mode);
-}
-
 /* One thread alone reads standard input, and one writes standard output. */
 ssize_t read(int file, void *bytes, size_t room) {
-    static int asked;
+    static int file_reads;
     const char *at = getenv("REFUSED_READ"), *piece = getenv("READ_PIECE"), *number = getenv("REFUSED_FILE_READ");
-    if (file != 0 && number && __atomic_add_fetch(&asked, 1, __ATOMIC_SEQ_CST) == atoi(number)) return errno = EIO, -1;
+    if (file != 0 && number && __atomic_add_fetch(&file_reads, 1, __ATOMIC_SEQ_CST) == atoi(number)) return errno = EIO, -1;
     if (file != 0 || (!at && !piece)) return syscall(SYS_read, file, bytes, room);
     if (piece && room > strtoul(piece, 0, 10)) room = strtoul(piece, 0, 10);
     if (at && !read_failed) {
@@ -220,9 +209,16 @@ CALL_OF_BYTES(pread, 1, (int file, void *to, size_t size, off_t at), at, SYS_pre
 CALL_OF_BYTES(pwrite, 1, (int file, const void *from, size_t size, off_t at), at, SYS_pwrite64, file, from, size, at)
 CALL_OF_BYTES(send, 0, (int file, const void *from, size_t size, int how), 0, SYS_sendto, file, from, size, how, 0, 0)
 
+static int open_refusal(const char *path) {
+    static int opened;
+    const char *word = getenv("REFUSED_OPEN");
+    if (word && *path != '/' && ++opened == abs(atoi(word))) return *word == '-' ? ENOMEM : EACCES;
+    return refusal("open", 1);
+}
+
 static int open_at(int at, const char *path, int how, va_list more) {
     mode_t mode = how & O_CREAT ? va_arg(more, mode_t) : 0;
-    int number = refusal("open", 1);
+    int number = open_refusal(path);
     int file = number ? (errno = number, -1) : syscall(SYS_openat, at, path, how, mode);
     return say("open", -1, file, how & O_CREAT, path);
 }
