@@ -21,3 +21,4 @@ pub mod Straying
 pub mod BesideRequests
 pub mod FreshValues
 pub mod QueriesBeside
+pub mod SentByKind

@@ -48,7 +48,7 @@ extend_sender counted names filled senders form i sender below is =
 
 -- ---- a sender whose name is fresh, or isn't
 
-abbrev with_value : Option (List ℕ) → List ℕ → Option Pair
+abbrev pub with_value : Option (List ℕ) → List ℕ → Option Pair
 with_value o name = option_map (λ v. (name, v)) o
 
 named : (name : List ℕ) (n o : Option (List ℕ)) → n ≡ Some name → option_and_then (with_value o) n ≡ with_value o name
@@ -61,15 +61,21 @@ told_of names name None false marked = refl
 told_of names name (Some v) true marked = rw (← marked v) refl
 told_of names name (Some v) false marked = rw (← marked v) refl
 
+-- the value that it sends, if any
+abbrev pub value_now : Filled → ℕ → Option (List ℕ)
+value_now filled number =
+    let new = filled.page.now in let place = place_numbered number new in
+    sent_value (control_at place new) (text_now filled.fields.now new number) (is_on_now filled.fields.now new number)
+    (option_map_or (λ pressed. pressed == number) filled.button false) new place
+
+pub sender_sends : (filled : Filled) (sender : Sender) → IsSender filled.page.now sender → pair_now filled sender.number ≡ with_value (value_now filled sender.number) sender.name.now
+sender_sends filled sender is = named sender.name.now (sent_name (place_numbered sender.number filled.page.now) filled.page.now) (value_now filled sender.number) is.name
+
 pub told_here : (names : List (List ℕ)) (filled : Filled) (sender : Sender) → IsSender filled.page.now sender → SaysFresh names sender
     → told true names (cons_option (pair_now filled sender.number) []) ≡ (if sender.is_fresh then [] else cons_option (pair_now filled sender.number) [])
 told_here names filled sender is marked =
-    let new = filled.page.now in
-    let place = place_numbered sender.number new in
-    let value = sent_value (control_at place new) (text_now filled.fields.now new sender.number) (is_on_now filled.fields.now new sender.number)
-    (option_map_or (λ pressed. pressed == sender.number) filled.button false) new place in
-    let whole : pair_now filled sender.number ≡ option_map (λ v. (sender.name.now, v)) value = named sender.name.now (sent_name place new) value is.name in
-    ap (λ o. told true names (cons_option o [])) whole ∙ told_of names sender.name.now value sender.is_fresh marked ∙ ap (λ (o : Option Pair). if sender.is_fresh then [] else cons_option o []) (sym whole)
+    let whole = sender_sends filled sender is in
+    ap (λ o. told true names (cons_option o [])) whole ∙ told_of names sender.name.now (value_now filled sender.number) sender.is_fresh marked ∙ ap (λ (o : Option Pair). if sender.is_fresh then [] else cons_option o []) (sym whole)
 
 pub told_either : (counted : Bool) (names : List (List ℕ)) (filled : Filled) (sender : Sender) → IsSender filled.page.now sender → SaysFresh names sender
     → told counted names (cons_option (pair_now filled sender.number) []) ≡ (if counted && sender.is_fresh then [] else cons_option (pair_now filled sender.number) [])

@@ -1,6 +1,5 @@
 -- What the fields keep after one event more.
-use Rattle.std.proofs.Common.{◌≡◌, ℕ, ◌<◌, List, [], ◌∷◌, Bool, true, false, not, ◌==◌, if◌then◌else◌, Option, Some, None, unwrap_or, option_map, inl, inr, refl, sym, ◌∙◌, ap}
-use Rattle.std.proofs.lemmas.Bool.Decides.{eqb_tells}
+use Rattle.std.proofs.Common.{◌≡◌, ℕ, ◌<◌, List, [], ◌∷◌, Bool, true, false, not, ◌==◌, if◌then◌else◌, get_or, Option, Some, None, unwrap_or, option_map, refl, sym, ◌∙◌, ap}
 use Rattle.std.specs.BTreeMap.{get}
 use Rattle.std.specs.Borrow.{Bor}
 use Rattle.std.specs.Ordering.{nat_cmp}
@@ -15,7 +14,7 @@ use Rattle.upload_reader.specs.declared.message.Event.TheVariants.{Input, Click,
 use Rattle.xpath_child.specs.Path.{Step}
 use Rattle.visit_replay.specs.Aim.{Aim, place_of_aim}
 use Rattle.visit_replay.specs.Field.{is_there, text_after, is_on_after}
-use Rattle.visit_replay.specs.inside.KeptFields.{TakesIn, text_now, is_on_now}
+use Rattle.visit_replay.specs.inside.KeptFields.{TakesIn, text_now, turned_now, is_on_now}
 use Rattle.visit_replay.specs.inside.OneEvent.{IsNodeOf}
 use Rattle.visit_replay.specs.declared.fields.Fields.{Fields}
 use Rattle.visit_replay.proofs.Numbered.{same_place}
@@ -45,24 +44,29 @@ either true x = refl
 either false x = refl
 
 pub kept_input : {at : ℕ} {path : List Step} {value : List ℕ} (aim : Event → Aim) (old fields : Fields) (new : Tree) (event : Event) (number : ℕ) (text : Bor (List ℕ)) → event ≡ Input at path value → text.now ≡ value
-    → IsNodeOf (aim event) new number → ((other : ℕ) → get nat_cmp fields.texts other ≡ (if number == other then Some text else get nat_cmp old.texts other)) → fields.checks ≡ old.checks → TakesIn aim new event old fields
+    → IsNodeOf (aim event) new number → ((other : ℕ) → get nat_cmp fields.texts other ≡ (if number == other then Some text else get nat_cmp old.texts other)) → fields.turned ≡ old.turned → TakesIn aim new event old fields
 kept_input {at} {path} {value} aim old fields new event number text is same target texts checks =
     rw is (kept_push aim old fields new (Input at path value)
     (λ other few.
     let start = unwrap_or (start_text_at (place_numbered other new) new) [] in
     ap (λ o. unwrap_or (option_map (λ t. t.now) o) start) (texts other) ∙ written_now (number == other) text (get nat_cmp old.texts other) start
     ∙ rw (rw is at target.1, same_place number other new target.0 few, same) refl)
-    (λ other few checkbox. ap (λ m. unwrap_or (get nat_cmp m other) (start_checked_at (place_numbered other new) new)) checks
+    (λ other few checkbox. ap (λ t. let start = start_checked_at (place_numbered other new) new in if get_or t.items other false then not start else start) checks
     ∙ either (is_there (place_numbered other new) (place_of_aim (aim (Input at path value)))) (is_on_now old new other)))
 
 -- a checkbox with that number was turned, each other one is as it was
-pub turned_at : (old : Fields) (new : Tree) (number other : ℕ)
-    → unwrap_or (if number == other then Some (not (is_on_now old new number)) else get nat_cmp old.checks other) (start_checked_at (place_numbered other new) new)
-    ≡ (if number == other then not (is_on_now old new other) else is_on_now old new other)
-turned_at old new number other = elim (eqb_tells number other) [
-  | inl same ↦ rw same.0 (ap (λ n. not (is_on_now old new n)) same.1)
-  | inr apart ↦ rw apart.0 refl
-]
+turned_back : (t b start : Bool) → (if (if b then not t else t) then not start else start) ≡ (if b then not (if t then not start else start) else (if t then not start else start))
+turned_back true true true = refl
+turned_back true true false = refl
+turned_back true false start = refl
+turned_back false true start = refl
+turned_back false false start = refl
+
+pub turned_at : (old fields : Fields) (new : Tree) (number other : ℕ) → turned_now fields other ≡ (if number == other then not (turned_now old other) else turned_now old other)
+    → is_on_now fields new other ≡ (if number == other then not (is_on_now old new other) else is_on_now old new other)
+turned_at old fields new number other turned =
+    let start = start_checked_at (place_numbered other new) new in
+    ap (λ t. if t then not start else start) turned ∙ turned_back (turned_now old other) (number == other) start
 
 pub kept_click : {at req : ℕ} {path : List Step} (aim : Event → Aim) (old fields : Fields) (new : Tree) (event : Event) (number : ℕ) → event ≡ Click at path req → IsNodeOf (aim event) new number → fields.texts ≡ old.texts
     → ((other : ℕ) → control_at (place_numbered other new) new ≡ control.Check → is_on_now fields new other ≡ (if number == other then not (is_on_now old new other) else is_on_now old new other)) → TakesIn aim new event old fields

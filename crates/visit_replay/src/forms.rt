@@ -3,17 +3,15 @@ ghost use Rattle.std.specs.Prelude.{ℕ, List, ◌≡◌, ◌==◌, ◌&&◌, []
 ghost use Rattle.std.specs.List.{cons_option};
 ghost use Rattle.std.specs.Option.{option_map_or};
 ghost use Rattle.form_urlencoded.specs.Form.{append_pair, extend_pairs};
-ghost use Rattle.page_tree.specs.Tree.{Tree};
 ghost use Rattle.page_tree.specs.Number.{place_numbered};
-ghost use Rattle.visit_replay.specs.Form.{value_or, is_post, action_of};
-ghost use Rattle.visit_replay.specs.inside.KeptFields.{text_now};
+ghost use Rattle.visit_replay.specs.Form.{is_post, action_of};
 ghost use Rattle.visit_replay.specs.inside.FieldsNow.{pair_of, pair_now, with_pairs, told};
 ghost use Rattle.visit_replay.specs.inside.Senders.{SaysFresh, IsSender, sent_all};
 
 use crate::fields::Fields;
-use crate::senders::{Sender, unless_empty};
+use crate::senders::{MaySend, Sender, unless_empty};
 use form_urlencoded::Serializer;
-use page_tree::{Control, NoMemory, Page, Text};
+use page_tree::{NoMemory, Page, Text};
 use std::alloc::Global;
 
 /// A page as it is filled in: with what its fields hold, and the number of the button that was pressed, if any.
@@ -112,33 +110,26 @@ fn is_passed_over(counted: bool, sender: &Sender<'_>) -> bool
 // ---- one node
 
 /// What it sends, if anything.
-#[tactic(auto, unfolding(crate::specs::Form::sent_value))]
 pub(crate) fn sent_by<'a>(filled: &Filled<'a, '_>, sender: &'a Sender<'_>) -> Option<SentPair<'a>>
     requires { IsSender filled.now.page.now sender.now }
     ensures { option_map pair_of result ≡ pair_now filled.now sender.now.number }
 {
-    let page = filled.page;
+    let fields = filled.fields;
     let number = sender.number;
-    match page.control_of(number) {
-        Control::Text => Some(sent_as(sender, text_of(filled.fields, sender))),
-        Control::Check if filled.fields.is_on(page, number) => {
-            Some(sent_as(sender, value_or("on", page, number)))
+    match &sender.sends {
+        MaySend::Text { start } => {
+            let text = fields.text_from(start.as_str(), number);
+            Some(sent_as(sender, text))
         }
-        Control::Radio if page.start_checked_of(number) => {
-            Some(sent_as(sender, value_or("on", page, number)))
+        MaySend::IfOn { value, starts_on } if fields.is_on_from(*starts_on, number) => {
+            Some(sent_as(sender, value))
         }
-        Control::Submit if is_pressed(filled.button, number) => {
-            Some(sent_as(sender, value_or("", page, number)))
+        MaySend::Always { value } => Some(sent_as(sender, value)),
+        MaySend::IfPressed { value } if is_pressed(filled.button, number) => {
+            Some(sent_as(sender, value))
         }
         _ => None,
     }
-}
-
-// The text that a text control holds now.
-fn text_of<'a>(fields: &'a Fields<'_>, sender: &'a Sender<'_>) -> &'a str
-    ensures { (page : Tree) → IsSender page sender.now → result.now ≡ text_now fields.now page sender.now.number }
-{
-    fields.text(sender.number).unwrap_or(sender.start.as_str())
 }
 
 fn sent_as<'a>(sender: &'a Sender<'_>, value: &'a str) -> SentPair<'a>
@@ -148,12 +139,6 @@ fn sent_as<'a>(sender: &'a Sender<'_>, value: &'a str) -> SentPair<'a>
         name: sender.name,
         value,
     }
-}
-
-fn value_or<'a>(default: &'a str, page: &'a Page, number: u32) -> &'a str
-    ensures { result.now ≡ value_or default.now (place_numbered number page.now) page.now }
-{
-    page.attribute_of(number, "value").unwrap_or(default)
 }
 
 fn is_pressed(button: Option<u32>, number: u32) -> bool

@@ -1,14 +1,14 @@
 //! The nodes under a form that may send something. They are listed once, since many submits may send the same form.
-ghost use Rattle.std.specs.Prelude.{ℕ, List, Bool, ◌≡◌, ◌<◌, ◌++◌, [], false, None, All, IfOk, OnOk, unwrap_or, option_map};
+ghost use Rattle.std.specs.Prelude.{ℕ, List, Bool, ◌≡◌, ◌<◌, ◌++◌, [], None, All, IfOk, IfSome, OnOk, unwrap_or, option_map};
 ghost use Rattle.std.specs.Cow.{cow_str_bytes};
 ghost use Rattle.std.specs.List.{cons_option};
 ghost use Rattle.page_looks.specs.Outline.{is_one_of};
 ghost use Rattle.page_tree.specs.Limits.{nodes};
 ghost use Rattle.page_tree.specs.Control.{control_at, start_text_at};
 ghost use Rattle.page_tree.specs.Number.{place_numbered};
-ghost use Rattle.visit_replay.specs.Form.{sent_name, sent_value, unless_empty};
+ghost use Rattle.visit_replay.specs.Form.{sent_name, sent_value, unless_empty, value_or};
 ghost use Rattle.visit_replay.specs.inside.FieldsNow.{is_of_one, pair_now};
-ghost use Rattle.visit_replay.specs.inside.Senders.{SaysFresh, IsSender, SendUnder, sent_all};
+ghost use Rattle.visit_replay.specs.inside.Senders.{SaysFresh, IsSender, SendsThere, SendUnder, sent_all};
 ghost use Rattle.visit_replay.specs.declared.forms.Filled.{Filled as PlainFilled};
 
 use crate::conflicts::is_disabled;
@@ -16,13 +16,22 @@ use page_tree::{Control, NoMemory, Page, Text};
 use std::alloc::Global;
 use std::borrow::CowStr;
 
-/// One of them: its number, its name, whether that is fresh, and the text that it starts with.
+/// One of them: its number, its name, whether that is fresh, and what it sends.
 #[derive(Drop)]
 pub(crate) struct Sender<'p> {
     pub(crate) number: u32,
     pub(crate) name: &'p str,
     pub(crate) is_fresh: bool,
-    pub(crate) start: CowStr<'p, Global>,
+    pub(crate) sends: MaySend<'p>,
+}
+
+/// What a node sends: the text that it holds, or its value, if it is on or was pressed.
+#[derive(Drop)]
+pub(crate) enum MaySend<'p> {
+    Text { start: CowStr<'p, Global> },
+    IfOn { value: &'p str, starts_on: bool },
+    Always { value: &'p str },
+    IfPressed { value: &'p str },
 }
 
 /// All of them under a form, in order.
@@ -69,15 +78,14 @@ impl<'p> Senders<'p> {
         let Some(name) = sent_name(page, number) else {
             return Ok(());
         };
-        if !may_send(page, number) {
+        let Some(sends) = sends_at(page, number)? else {
             return Ok(());
-        }
-        let start = start_of(page, number)?;
+        };
         self.all.push(Sender {
             number,
             name,
             is_fresh: is_among(names, name),
-            start,
+            sends,
         })?;
         Ok(())
     }
@@ -116,16 +124,32 @@ pub(crate) fn unless_empty(text: Option<&str>) -> Option<&str>
     }
 }
 
-// Whether it is a control that may send its value: one whose state can't change must start on.
+// What a node may send, if anything: a radio button, whose state can't change, must start on.
 #[tactic(auto, unfolding(crate::specs::Form::sent_value))]
-fn may_send(page: &Page, number: u32) -> bool
-    ensures { result ≡ false → (text : List ℕ) (on pressed : Bool)
-        → sent_value (control_at (place_numbered number page.now) page.now) text on pressed page.now (place_numbered number page.now) ≡ None }
+fn sends_at<'p>(page: &'p Page, number: u32) -> Result<Option<MaySend<'p>>, NoMemory>
+    ensures some { IfOk result (λ sends. IfSome sends (SendsThere page.now number)) }
+    ensures none { IfOk result (λ sends. sends ≡ None → (text : List ℕ) (on pressed : Bool)
+        → sent_value (control_at (place_numbered number page.now) page.now) text on pressed page.now (place_numbered number page.now) ≡ None) }
 {
     match page.control_of(number) {
-        Control::Text | Control::Check | Control::Submit => true,
-        Control::Radio => page.start_checked_of(number),
-        _ => false,
+        Control::Text => {
+            let start = start_of(page, number)?;
+            Ok(Some(MaySend::Text { start }))
+        }
+        Control::Check => {
+            let value = value_or("on", page, number);
+            let starts_on = page.start_checked_of(number);
+            Ok(Some(MaySend::IfOn { value, starts_on }))
+        }
+        Control::Radio if page.start_checked_of(number) => {
+            let value = value_or("on", page, number);
+            Ok(Some(MaySend::Always { value }))
+        }
+        Control::Submit => {
+            let value = value_or("", page, number);
+            Ok(Some(MaySend::IfPressed { value }))
+        }
+        _ => Ok(None),
     }
 }
 
@@ -137,4 +161,10 @@ fn start_of<'p>(page: &'p Page, number: u32) -> Result<CowStr<'p, Global>, NoMem
         Some(text) => Ok(text),
         None => Ok(CowStr::Borrowed("")),
     }
+}
+
+fn value_or<'a>(default: &'a str, page: &'a Page, number: u32) -> &'a str
+    ensures { result.now ≡ value_or default.now (place_numbered number page.now) page.now }
+{
+    page.attribute_of(number, "value").unwrap_or(default)
 }

@@ -1,6 +1,6 @@
 -- The fields that the code keeps while it goes through the events of a visit, by the numbers of their nodes: what they
 -- hold now, and what they stand for.
-use Rattle.std.specs.Prelude.{ℕ, ◌≡◌, ◌<◌, List, [], ◌∷◌, ◌++◌, Bool, unwrap_or, option_map}
+use Rattle.std.specs.Prelude.{ℕ, ◌≡◌, ◌<◌, List, [], ◌∷◌, ◌++◌, Bool, false, not, if◌then◌else◌, get_or, unwrap_or, option_map}
 use Rattle.std.specs.BTreeMap.{get}
 use Rattle.std.specs.Ordering.{nat_cmp}
 use Rattle.page_tree.specs.Tree.{Tree}
@@ -18,10 +18,14 @@ abbrev pub text_now : Fields → Tree → ℕ → List ℕ
 text_now fields new number = unwrap_or (option_map (λ text. text.now) (get nat_cmp fields.texts number))
     (unwrap_or (start_text_at (place_numbered number new) new) [])
 
--- the state of the checkbox with that number, or its start state
+-- whether the checkbox with that number isn't as it started
+abbrev pub turned_now : Fields → ℕ → Bool
+turned_now fields number = get_or fields.turned.items number false
+
 abbrev pub is_on_now : Fields → Tree → ℕ → Bool
 is_on_now fields new number =
-    unwrap_or (get nat_cmp fields.checks number) (start_checked_at (place_numbered number new) new)
+    let start = start_checked_at (place_numbered number new) new in
+    if turned_now fields number then not start else start
 
 -- they hold what these events left at each node
 pub record Keeps (aim : Event → Aim) (fields : Fields) (new : Tree) (before : List Event) : Type 0 where

@@ -1,24 +1,40 @@
 -- The nodes under a form that may send something, as the code keeps them.
-use Rattle.std.specs.Prelude.{ℕ, ◌≡◌, List, [], All, Bool, if◌then◌else◌, Some, IfSome, unwrap_or}
+use Rattle.std.specs.Prelude.{ℕ, ◌≡◌, List, [], All, Bool, true, if◌then◌else◌, Some, IfSome, unwrap_or, codes}
 use Rattle.std.specs.BTreeMap.{get}
 use Rattle.std.specs.Cow.{cow_str_bytes}
 use Rattle.std.specs.List.{filter_map}
 use Rattle.std.specs.Ordering.{nat_cmp}
 use Rattle.page_tree.specs.Tree.{Tree}
-use Rattle.page_tree.specs.Control.{start_text_at}
+use Rattle.page_tree.specs.Control.{control_at, start_text_at, start_checked_at}
 use Rattle.page_tree.specs.Number.{place_numbered}
-use Rattle.visit_replay.specs.Form.{Pair, sent_name}
+use Rattle.page_tree.specs.declared.control.Control.TheVariants as control
+use Rattle.visit_replay.specs.Form.{Pair, sent_name, value_or}
 use Rattle.visit_replay.specs.inside.FieldsNow.{OfSent, is_of_one, pair_now}
 use Rattle.visit_replay.specs.inside.OneEvent.{IsWithin}
 use Rattle.visit_replay.specs.declared.forms.Filled.{Filled}
 use Rattle.visit_replay.specs.declared.known_forms.KnownForms.{KnownForms}
 use Rattle.visit_replay.specs.declared.senders.Sender.{Sender}
 use Rattle.visit_replay.specs.declared.senders.Senders.{Senders}
+use Rattle.visit_replay.specs.declared.senders.MaySend.{MaySend}
+use Rattle.visit_replay.specs.declared.senders.MaySend.TheVariants.{Text, IfOn, Always, IfPressed}
 
--- the name that it has, and the text that it starts with
+-- a node of that kind, with the text, value and state that it starts with
+abbrev pub SendsThere : Tree → ℕ → MaySend → Type 0
+SendsThere page number (Text start) = let place = place_numbered number page in
+    (control_at place page ≡ control.Text) × (cow_str_bytes start ≡ unwrap_or (start_text_at place page) [])
+SendsThere page number (IfOn value starts_on) = let place = place_numbered number page in
+    (control_at place page ≡ control.Check) × (value.now ≡ value_or (codes "on") place page)
+    × (starts_on ≡ start_checked_at place page)
+SendsThere page number (Always value) = let place = place_numbered number page in
+    (control_at place page ≡ control.Radio) × (value.now ≡ value_or (codes "on") place page)
+    × (start_checked_at place page ≡ true)
+SendsThere page number (IfPressed value) = let place = place_numbered number page in
+    (control_at place page ≡ control.Submit) × (value.now ≡ value_or [] place page)
+
+-- the name that it has, and what it sends
 pub record IsSender (page : Tree) (sender : Sender) : Type 0 where
   pub name : sent_name (place_numbered sender.number page) page ≡ Some sender.name.now
-  pub start : cow_str_bytes sender.start ≡ unwrap_or (start_text_at (place_numbered sender.number page) page) []
+  pub sends : SendsThere page sender.number sender.sends
 
 -- it is known whether that is one of these names
 abbrev pub SaysFresh : List (List ℕ) → Sender → Type 0

@@ -1,4 +1,4 @@
-use Rattle.std.proofs.Common.{◌≡◌, ℕ, List, [], All, map, true, drop}
+use Rattle.std.proofs.Common.{◌≡◌, ℕ, List, All, map, true, drop}
 use Rattle.std.specs.Str.{bytes_eq}
 use Rattle.form_urlencoded.specs.Form.{serialize_pair}
 use Rattle.page_looks.specs.Sending.{query_text}

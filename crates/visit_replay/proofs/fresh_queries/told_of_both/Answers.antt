@@ -1,6 +1,6 @@
 use Rattle.std.proofs.Common.{Some, sym, ◌∙◌, arith}
 use Rattle.page_looks.specs.Sending.{kept_pairs}
-use Rattle.visit_replay.proofs.QueriesBeside.{both_apart, both_same, less_left, passed_first, passed_second}
+use Rattle.visit_replay.proofs.QueriesBeside.{both_apart, both_same, less_left, passed_first}
 use Rattle.visit_replay.proofs.fresh_queries.told_of_both.Goals as goal
 
 pub returns-then-eq : goal.returns-then-eq

@@ -1,25 +1,19 @@
-use Rattle.std.proofs.Common.{◌≡◌, ◌==◌, ℕ, not, Some, unwrap_or, if◌then◌else◌, inl, inr, refl, ap, ◌∙◌, rules}
-use Rattle.std.specs.BTreeMap.{get}
-use Rattle.std.specs.Ordering.{nat_cmp}
+use Rattle.std.proofs.Common.{inl, inr, refl, ap, ◌∙◌, rules}
 use Rattle.std.proofs.lemmas.Bool.Decides.{eqb_tells}
-use Rattle.page_tree.specs.Control.{control_at, start_checked_at}
+use Rattle.page_tree.specs.Control.{control_at}
 use Rattle.page_tree.specs.Number.{place_numbered}
 use Rattle.visit_replay.proofs.Overlay.{kept_input, kept_click, kept_submit, turned_at}
 use Rattle.visit_replay.proofs.fields.Fields.note.Goals as goal
 
 pub returns-in_ok-insert-in-Input : goal.returns-in_ok-insert-in-Input
 returns-in_ok-insert-in-Input c = λ aim there.
-    kept_input aim c.args.self.now (record { texts = c.insert.new.self; checks = c.args.self.now.checks }) c.args.new.now c.args.event.now c.args.number c.as_str.result c.in-Input.is c.as_str.ensures there
+    kept_input aim c.args.self.now (record { texts = c.insert.new.self; turned = c.args.self.now.turned }) c.args.new.now c.args.event.now c.args.number c.as_str.result c.in-Input.is c.as_str.ensures there
     (λ other. search (rules, c.in_ok-insert-in-Input.ensures.updates.0 other)) refl
 
-pub returns-in_ok-insert-in-Check : goal.returns-in_ok-insert-in-Check
-returns-in_ok-insert-in-Check c =
-    let old = c.args.self.now in
-    let new = c.args.new.now in
-    let put : (other : ℕ) → get nat_cmp c.insert-in-Check.new.self other ≡ (if c.args.number == other then Some (not c.is_on-on.result) else get nat_cmp old.checks other) =
-    λ other. search (rules, c.in_ok-insert-in-Check.ensures.updates.0 other) in
-    λ aim there. kept_click aim old (record { texts = old.texts; checks = c.insert-in-Check.new.self }) new c.args.event.now c.args.number c.in-Click.is there refl
-    (λ other checkbox. ap (λ o. unwrap_or o (start_checked_at (place_numbered other new) new)) (rw c.is_on-on.ensures at (put other)) ∙ turned_at old new c.args.number other)
+pub returns-in_ok-turn-in-Check : goal.returns-in_ok-turn-in-Check
+returns-in_ok-turn-in-Check c = λ aim there.
+    kept_click aim c.args.self.now c.turn.new.self c.args.new.now c.args.event.now c.args.number c.in-Click.is there c.turn.ensures.texts
+    (λ other checkbox. turned_at c.args.self.now c.turn.new.self c.args.new.now c.args.number other (c.in_ok-turn-in-Check.ensures.turned other))
 
 pub returns-in_default : goal.returns-in_default
 returns-in_default c = λ aim there. kept_click aim c.args.self.now c.args.self.now c.args.new.now c.args.event.now c.args.number c.in-Click.is there refl (λ other checkbox. elim (eqb_tells c.args.number other) [
