@@ -6,7 +6,7 @@ ghost use Rattle.collect_http.specs.Answering.{Answers, RoundSettles, origin_of}
 ghost use Rattle.collect_server.specs.Rounds.{AreAt, IsServingRound, PlaceKeeps};
 
 use crate::call::Collecting;
-use crate::disk_file::DiskFile;
+use crate::disk_file::{DiskFile, file_fault};
 use crate::disk_folder::DiskFolder;
 use crate::peer::Peer;
 use crate::peers::Peers;
@@ -25,7 +25,7 @@ use std::net::Net;
 use std::random::RandomSource;
 use std::rt::{Clock, Files};
 use std::time::{Duration, Instant};
-use upload_files::GrowingFile;
+use upload_files::{FileFault, GrowingFile};
 use upload_folder::{Clients, Folder};
 
 // What `/recorder.js` gives, until the recorder is part of the server.
@@ -55,6 +55,8 @@ pub struct Serving<F, D> {
     poll: Poll,
     events: Events,
     peers: Peers,
+    // So many rounds in a row lacked descriptors for connections, the last one among them.
+    crowded: u64,
 }
 
 impl<
@@ -94,6 +96,7 @@ impl<
             poll,
             events: Events::with_capacity(alloc, MAX_EVENTS)?,
             peers: Peers::new(alloc)?,
+            crowded: 0,
         })
     }
 }
@@ -130,33 +133,44 @@ impl<F: GrowingFile + Drop, D: Folder<F>> Serving<F, D> {
         self.accept(now);
         self.peers.give_turn();
         self.peers.read(&mut self.collector, now);
-        let stands = self.collector.settle();
+        let stands = self.collector.settle(self.crowded > 0);
         self.peers.write(stands, now);
         Ok(())
     }
 
-    // Waits until a socket is ready, or not at all where there is something to do.
+    // Waits until a socket is ready, or not at all where there is something to do, or files were just closed for
+    // connections that wait.
     fn wait(&mut self) -> io::Result<()>
         ensures peers { AreAt PlaceKeeps self.old.peers.places.items self.new.peers.places.items }
         ensures collector { self.new.collector ≡ self.old.collector }
     {
-        let timeout = Duration::from_secs(if self.peers.is_busy() { 0 } else { TICK });
+        let is_busy = self.peers.is_busy() || self.crowded == 1;
+        let timeout = Duration::from_secs(if is_busy { 0 } else { TICK });
         self.poll.poll(&mut self.events, Some(timeout))?;
         wake_all(&self.events, &mut self.peers);
         Ok(())
     }
 
-    // Takes the connections that have come.
+    // Takes the connections that have come, and looks whether there are descriptors for them.
     fn accept(&mut self, now: Instant)
         ensures peers { AreAt PlaceKeeps self.old.peers.places.items self.new.peers.places.items }
         ensures collector { self.new.collector ≡ self.old.collector }
     {
+        let mut is_crowded = false;
         for _ in 0..MAX_ACCEPTS {
             match self.listener.accept() {
                 Ok((stream, _)) => self.take_in(stream, now),
-                Err(_) => break,
+                Err(fault) => {
+                    is_crowded = file_fault(&fault) == FileFault::Crowded;
+                    break;
+                }
             }
         }
+        self.crowded = if is_crowded {
+            self.crowded.saturating_add(1)
+        } else {
+            0
+        };
     }
 
     // Gives a connection a place. One that can't be waited for is closed.

@@ -174,7 +174,7 @@ fn is_answered<R: AllocGlobal + RandomSource>(
     let mut collector = begin(rt, NEVER, 9, 1 << 20)?;
     let answer = ask(rt, &mut collector, head_of(asks), "")?;
     let has = has_status(rt.alloc(), answer.as_str(), status)?;
-    Ok(has && collector.settle())
+    Ok(has && collector.settle(false))
 }
 
 #[test]
@@ -198,7 +198,7 @@ fn tells<R: AllocGlobal + RandomSource>(
     }
     let answer = ask(rt, collector, POST, body.as_str())?;
     let has = has_status(rt.alloc(), answer.as_str(), 200)?;
-    Ok(has && answer.as_str().ends_with(ends) && collector.settle())
+    Ok(has && answer.as_str().ends_with(ends) && collector.settle(false))
 }
 
 #[test]
@@ -380,7 +380,7 @@ fn is_told_again<R: AllocGlobal + RandomSource>(rt: &R, fails_at: u64) -> Result
     let mut told = 0;
     for body in [A1, A2, A1, A2, A2] {
         let answer = ask(rt, &mut collector, POST, body)?;
-        let settled = collector.settle();
+        let settled = collector.settle(false);
         if let Some(count) = counted(answer.as_str(), settled) {
             if count < told {
                 return Ok(false);
@@ -419,8 +419,9 @@ fn four_files_are_made_in_a_round(rt: HostRuntime) -> Result<(), Fail> {
     for digit in 0..4 {
         assert!(rt; has_posted(&rt, &mut all, digit, 200)?);
     }
-    assert!(rt; has_posted(&rt, &mut all, 4, 503)?);
-    assert!(rt; all.settle() && has_posted(&rt, &mut all, 4, 200)?);
+    assert!(rt; all.has_read_enough() && has_posted(&rt, &mut all, 4, 503)?);
+    assert!(rt; all.settle(false) && !all.has_read_enough());
+    assert!(rt; has_posted(&rt, &mut all, 4, 200)?);
     Ok(())
 }
 
@@ -430,11 +431,30 @@ fn files_that_were_closed_are_read_back_in_turn(rt: HostRuntime) -> Result<(), F
     let folder = MemoryFolder::new(rt.alloc(), NEVER, 9).with_most(3);
     let mut all = begin_over(&rt, folder, 1 << 20)?;
     for digit in 0..4 {
-        assert!(rt; has_posted(&rt, &mut all, digit, 200)? && all.settle());
+        assert!(rt; has_posted(&rt, &mut all, digit, 200)? && all.settle(false));
     }
     assert!(rt; has_posted(&rt, &mut all, 0, 200)?);
     assert!(rt; has_posted(&rt, &mut all, 1, 200)?);
     assert!(rt; has_posted(&rt, &mut all, 2, 503)?);
-    assert!(rt; all.settle() && has_posted(&rt, &mut all, 2, 200)?);
+    assert!(rt; all.settle(false) && has_posted(&rt, &mut all, 2, 200)?);
+    Ok(())
+}
+
+// Whether the first lines of two clients are told as stored.
+fn have_both_posted<R: AllocGlobal + RandomSource>(
+    rt: &R,
+    collector: &mut Collecting,
+) -> Result<bool, Fail> {
+    Ok(has_posted(rt, collector, 0, 200)? && has_posted(rt, collector, 1, 200)?)
+}
+
+// Two files that were open are read back, which takes all pieces of the round.
+#[test]
+fn files_are_closed_for_connections(rt: HostRuntime) -> Result<(), Fail> {
+    let mut all = begin(&rt, NEVER, 9, 1 << 20)?;
+    assert!(rt; have_both_posted(&rt, &mut all)? && all.settle(false));
+    assert!(rt; have_both_posted(&rt, &mut all)? && !all.has_read_enough());
+    assert!(rt; all.settle(false) && all.settle(true));
+    assert!(rt; have_both_posted(&rt, &mut all)? && all.has_read_enough());
     Ok(())
 }
