@@ -4,3 +4,5 @@ pub mod IntakeLaws
 pub mod RunLaws
 pub mod RepairLaws
 pub mod ReportLaws
+pub mod BufferLaws
+pub mod QuotingLaws

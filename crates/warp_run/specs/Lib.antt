@@ -1,6 +1,7 @@
 pub mod Repair
 pub mod Settle
 pub mod Report
+pub mod Buffer
 pub mod Conclusion
 pub mod Run
 pub mod Intake

@@ -139,16 +139,16 @@ book_text book = flat_map (visit_text book) book.cases
 abbrev pub client_text : Books → ClientSummary → List ℕ
 client_text desk client = client_line client ++ option_map_or book_text (book_of client.client desk) []
 
+abbrev pub repaired_text : Repaired → List ℕ
+repaired_text repaired =
+    flat_map (client_text repaired.desk) repaired.clients ++ flat_map decision_line repaired.decided
+
 abbrev pub report_text : Repaired → List ℕ
-report_text repaired =
-    let clients = flat_map (client_text repaired.desk) repaired.clients in
-    stop_line repaired.stop ++ (clients ++ flat_map decision_line repaired.decided)
+report_text repaired = stop_line repaired.stop ++ repaired_text repaired
 
 -- the same with these lines behind the first
 abbrev pub report_with : List ℕ → Repaired → List ℕ
-report_with uploads repaired =
-    let clients = flat_map (client_text repaired.desk) repaired.clients in
-    stop_line repaired.stop ++ (uploads ++ (clients ++ flat_map decision_line repaired.decided))
+report_with uploads repaired = stop_line repaired.stop ++ (uploads ++ repaired_text repaired)
 
 -- ---- the writing of it
 

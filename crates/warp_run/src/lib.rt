@@ -28,7 +28,9 @@ pub use lanes_in_turn::{Gathered, LaneResult, Stop};
 pub use listed::Listed;
 pub use repaired::{ClientSummary, PutDecision, Repaired};
 pub use repairing::{repair, repair_with_own};
-pub use reporting::{ReportFault, add_end, add_quoted, report, report_with};
+pub use reporting::{
+    ReportBuffer, ReportFault, add_end, add_lane_fault, add_quoted, add_repaired, add_stop, report,
+};
 pub use running::run;
 pub use settling::settle;
 pub use site_line::{Site, SiteFault};

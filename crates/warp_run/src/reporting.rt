@@ -1,34 +1,35 @@
-//! The report of what was repaired.
-ghost use Rattle.std.specs.Prelude.{◌≡◌, ◌++◌, IfOk, OnOk, Some, Err, codes, slice_get, string_bytes};
-ghost use Rattle.std.specs.List.{flat_map, list_all};
-ghost use Rattle.json.specs.Run.{is_plain};
+//! The report of what was repaired. It is written as it is made, client by client, and asks for memory only before the first write.
+ghost use Rattle.std.specs.Prelude.{◌≡◌, ◌++◌, Some, Err, codes, decimal, slice_get};
+ghost use Rattle.std.specs.List.{flat_map};
 ghost use Rattle.byte_streams.specs.Writing.{writes_of};
 ghost use Rattle.upload_reader.specs.declared.ending.Ending.TheVariants.{Over};
 ghost use Rattle.conflict_desk.specs.Book.{standing_in, standing_requests};
 ghost use Rattle.conflict_desk.specs.declared.decided.Standing.TheVariants.{Waiting};
 ghost use Rattle.warp_run.specs.inside.{first_was, others_behind};
+ghost use Rattle.warp_run.specs.Buffer.{AddsText};
 ghost use Rattle.warp_run.specs.Report as plain;
-ghost use Rattle.warp_run.specs.Report.{WritesReport, report_text, report_with};
+ghost use Rattle.warp_run.specs.Report.{WritesReport, report_text};
 
+mod buffer;
 mod fault;
+mod fault_words;
+mod quoting;
 
 use crate::repaired::{ClientSummary, PutDecision, Repaired};
-use byte_streams::{Sink, write_text};
+pub use buffer::ReportBuffer;
+use byte_streams::Sink;
 use conflict_desk::{Case, Choice, Desk, DeskFault, OpenDocket, Standing};
 pub use fault::ReportFault;
-use json::Writer;
+pub use fault_words::add_lane_fault;
+use fault_words::{conflict_code, desk_fault_code};
 use lanes_in_turn::Stop;
-use page_tree::NoMemory;
+pub use quoting::add_quoted;
 use std::alloc::Global;
-use std::mem;
 use upload_reader::{Ending, LaneEnd};
 use visit_replay::{Contrast, Difference, Method, Outcome, Request};
 
-/// How long a word may be, in bytes, that is looked at byte by byte. The writer of JSON looks at many at once, but makes up to 16 KB ready for each word.
-const MAX_SHORT: usize = 1_024;
-
-/// Writes the report: why the taking stopped, then each client with its visits and their requests, and then each decision with its answer. It is composed
-/// whole before the first write. O1 where a write fails or takes nothing, O2 where memory is refused.
+/// Writes the report: why the taking stopped, then each client with its visits and their requests, and then each decision with its answer. O1 where a write
+/// fails or takes nothing, O2 where memory is refused, and then nothing is written.
 pub fn report<W: Sink>(
     alloc: Global,
     repaired: &Repaired,
@@ -36,32 +37,25 @@ pub fn report<W: Sink>(
 ) -> Result<(), ReportFault>
     ensures { WritesReport (writes_of W.puts W.contents writer.old writer.new) (report_text repaired.now) result }
 {
-    report_with(alloc, "", repaired, writer)
+    let mut buffer = ReportBuffer::new(alloc)?;
+    add_stop(&mut buffer, writer, repaired.stop);
+    add_repaired(&mut buffer, writer, repaired);
+    buffer.finish(writer)
 }
 
-/// The same with these lines behind the first.
-pub fn report_with<W: Sink>(
-    alloc: Global,
-    uploads: &str,
-    repaired: &Repaired,
-    writer: &mut W,
-) -> Result<(), ReportFault>
-    ensures { WritesReport (writes_of W.puts W.contents writer.old writer.new)
-        (report_with uploads.now repaired.now) result }
+/// Adds the first line: why the taking stopped.
+pub fn add_stop<W: Sink>(buffer: &mut ReportBuffer, writer: &mut W, stop: Stop)
+    ensures { AddsText W.puts W.contents writer.old buffer.old writer.new buffer.new (plain.stop_line stop) }
 {
-    let text = compose(alloc, uploads, repaired)?;
-    Ok(write_text(writer, text.as_bytes())?)
+    buffer.add(writer, stop_line(stop));
 }
 
-fn compose(alloc: Global, uploads: &str, repaired: &Repaired) -> Result<String, NoMemory>
-    ensures { IfOk result (λ text. string_bytes text ≡ report_with uploads.now repaired.now) }
+/// Adds the lines of clients and decisions.
+pub fn add_repaired<W: Sink>(buffer: &mut ReportBuffer, writer: &mut W, repaired: &Repaired)
+    ensures { AddsText W.puts W.contents writer.old buffer.old writer.new buffer.new (plain.repaired_text repaired.now) }
 {
-    let mut text = String::new(alloc);
-    text.push_str(stop_line(repaired.stop))?;
-    text.push_str(uploads)?;
-    add_clients(&mut text, &repaired.desk, repaired.clients.as_slice())?;
-    add_decisions(&mut text, repaired.decided.as_slice())?;
-    Ok(text)
+    add_clients(buffer, writer, &repaired.desk, repaired.clients.as_slice());
+    add_decisions(buffer, writer, repaired.decided.as_slice());
 }
 
 fn stop_line(stop: Stop) -> &'static str
@@ -76,98 +70,127 @@ fn stop_line(stop: Stop) -> &'static str
 
 // ---- clients
 
-fn add_clients(text: &mut String, desk: &Desk, clients: &[ClientSummary]) -> Result<(), NoMemory>
-    ensures { OnOk result (string_bytes text.new ≡ string_bytes text.old
-        ++ flat_map (plain.client_text desk.now) clients.now) }
+fn add_clients<W: Sink>(
+    buffer: &mut ReportBuffer,
+    writer: &mut W,
+    desk: &Desk,
+    clients: &[ClientSummary],
+)
+    ensures { AddsText W.puts W.contents writer.old buffer.old writer.new buffer.new
+        (flat_map (plain.client_text desk.now) clients.now) }
 {
     for client in clients {
-        add_client(text, desk, client)?;
+        add_client(buffer, writer, desk, client);
     }
-    Ok(())
 }
 
-fn add_client(text: &mut String, desk: &Desk, client: &ClientSummary) -> Result<(), NoMemory>
-    ensures { OnOk result (string_bytes text.new ≡ string_bytes text.old ++ plain.client_text desk.now client.now) }
+fn add_client<W: Sink>(
+    buffer: &mut ReportBuffer,
+    writer: &mut W,
+    desk: &Desk,
+    client: &ClientSummary,
+)
+    ensures { AddsText W.puts W.contents writer.old buffer.old writer.new buffer.new
+        (plain.client_text desk.now client.now) }
 {
-    add_client_line(text, client)?;
+    add_client_line(buffer, writer, client);
     match desk.docket(&client.client) {
-        Some(docket) => add_visits(text, docket),
-        None => Ok(()),
+        Some(docket) => add_visits(buffer, writer, docket),
+        None => {}
     }
 }
 
-fn add_client_line(text: &mut String, client: &ClientSummary) -> Result<(), NoMemory>
-    ensures { OnOk result (string_bytes text.new ≡ string_bytes text.old ++ plain.client_line client.now) }
+fn add_client_line<W: Sink>(buffer: &mut ReportBuffer, writer: &mut W, client: &ClientSummary)
+    ensures { AddsText W.puts W.contents writer.old buffer.old writer.new buffer.new (plain.client_line client.now) }
 {
-    let name = client.client.text();
-    let taken = client.taken;
-    write!(text, "client {name} taken {taken} end ")?;
-    add_end(text, client.end)?;
-    let cost = client.cost;
-    let lost = client.lost;
-    write!(text, " cost {cost} lost {lost}\n")
+    buffer.add(writer, "client ");
+    buffer.add(writer, client.client.text());
+    buffer.add_with_number(writer, " taken ", client.taken);
+    buffer.add(writer, " end ");
+    add_end(buffer, writer, client.end);
+    buffer.add_with_number(writer, " cost ", client.cost);
+    buffer.add_with_number(writer, " lost ", client.lost);
+    buffer.add(writer, "\n");
 }
 
-/// Writes how a lane ended.
-pub fn add_end(text: &mut String, end: Option<Ending>) -> Result<(), NoMemory>
-    ensures { OnOk result (string_bytes text.new ≡ string_bytes text.old ++ plain.end_word end) }
+/// Adds how a lane ended.
+pub fn add_end<W: Sink>(buffer: &mut ReportBuffer, writer: &mut W, end: Option<Ending>)
+    ensures { AddsText W.puts W.contents writer.old buffer.old writer.new buffer.new (plain.end_word end) }
 {
     match end {
-        None => text.push_str("none"),
-        Some(Ending::Over(end)) => add_lane_end(text, end),
-        Some(Ending::GaveUp) => text.push_str("gaveup"),
+        None => buffer.add(writer, "none"),
+        Some(Ending::Over(end)) => add_lane_end(buffer, writer, end),
+        Some(Ending::GaveUp) => buffer.add(writer, "gaveup"),
     }
 }
 
-fn add_lane_end(text: &mut String, end: LaneEnd) -> Result<(), NoMemory>
-    ensures { OnOk result (string_bytes text.new ≡ string_bytes text.old ++ plain.end_word (Some (Over end))) }
+fn add_lane_end<W: Sink>(buffer: &mut ReportBuffer, writer: &mut W, end: LaneEnd)
+    ensures { AddsText W.puts W.contents writer.old buffer.old writer.new buffer.new (plain.end_word (Some (Over end))) }
 {
     match end {
-        LaneEnd::Bye => text.push_str("bye"),
-        LaneEnd::Fault { line, kind } => write!(text, "{kind}@{line}"),
+        LaneEnd::Bye => buffer.add(writer, "bye"),
+        LaneEnd::Fault { line, kind } => add_lane_fault(buffer, writer, kind, line),
     }
 }
 
 // ---- visits
 
-fn add_visits(text: &mut String, docket: &OpenDocket) -> Result<(), NoMemory>
-    ensures { OnOk result (string_bytes text.new ≡ string_bytes text.old ++ plain.book_text docket.now) }
+fn add_visits<W: Sink>(buffer: &mut ReportBuffer, writer: &mut W, docket: &OpenDocket)
+    ensures { AddsText W.puts W.contents writer.old buffer.old writer.new buffer.new (plain.book_text docket.now) }
 {
     for (place, case) in docket.cases().iter().enumerate() {
-        add_visit(text, docket, place, case)?;
+        add_visit(buffer, writer, docket, place, case);
     }
-    Ok(())
 }
 
-// The visit of the case at that place.
-fn add_visit(
-    text: &mut String,
+// The visit of the case at that place; once a write failed, none.
+fn add_visit<W: Sink>(
+    buffer: &mut ReportBuffer,
+    writer: &mut W,
     docket: &OpenDocket,
     place: usize,
     case: &Case,
-) -> Result<(), NoMemory>
+)
     requires { slice_get docket.now.cases place ≡ Some case.now }
-    ensures { OnOk result (string_bytes text.new ≡ string_bytes text.old ++ plain.visit_text docket.now case.now) }
+    ensures { AddsText W.puts W.contents writer.old buffer.old writer.new buffer.new
+        (plain.visit_text docket.now case.now) }
 {
+    if buffer.has_failed() {
+        return;
+    }
     let standing = docket.standing_at(place);
-    add_visit_line(text, case.visit, standing, &case.outcome)?;
-    add_requests(text, former_of(&case.difference), docket.requests_at(place))?;
-    add_changed(text, standing, &case.difference)
+    add_visit_line(buffer, writer, case.visit, standing, &case.outcome);
+    add_requests(
+        buffer,
+        writer,
+        former_of(&case.difference),
+        docket.requests_at(place),
+    );
+    add_changed(buffer, writer, standing, &case.difference);
 }
 
-fn add_visit_line(
-    text: &mut String,
+fn add_visit_line<W: Sink>(
+    buffer: &mut ReportBuffer,
+    writer: &mut W,
     visit: u64,
     standing: Standing,
     outcome: &Outcome,
-) -> Result<(), NoMemory>
-    ensures { OnOk result (string_bytes text.new ≡ string_bytes text.old ++ plain.visit_line visit standing outcome.now) }
+)
+    ensures { AddsText W.puts W.contents writer.old buffer.old writer.new buffer.new
+        (plain.visit_line visit standing outcome.now) }
 {
-    let word = standing_word(standing);
+    buffer.add_with_number(writer, "visit ", visit);
+    buffer.add(writer, " ");
+    buffer.add(writer, standing_word(standing));
     match outcome {
-        Outcome::Untouched => write!(text, "visit {visit} {word}\n"),
-        Outcome::Done { .. } => write!(text, "visit {visit} {word}\n"),
-        Outcome::Conflict { at, kind, .. } => write!(text, "visit {visit} {word} {kind} at {at}\n"),
+        Outcome::Untouched => buffer.add(writer, "\n"),
+        Outcome::Done { .. } => buffer.add(writer, "\n"),
+        Outcome::Conflict { at, kind, .. } => {
+            buffer.add(writer, " ");
+            buffer.add(writer, conflict_code(*kind));
+            buffer.add_with_number(writer, " at ", *at);
+            buffer.add(writer, "\n");
+        }
     }
 }
 
@@ -186,38 +209,39 @@ fn standing_word(standing: Standing) -> &'static str
 // ---- requests
 
 // Each, and behind it what it was, where it is another now.
-fn add_requests(
-    text: &mut String,
+fn add_requests<W: Sink>(
+    buffer: &mut ReportBuffer,
+    writer: &mut W,
     former: &[Option<Request>],
     requests: &[Request],
-) -> Result<(), NoMemory>
-    ensures { OnOk result (string_bytes text.new ≡ string_bytes text.old
-        ++ plain.told_requests former.now requests.now) }
+)
+    ensures { AddsText W.puts W.contents writer.old buffer.old writer.new buffer.new
+        (plain.told_requests former.now requests.now) }
 {
     let mut former = former;
     let mut requests = requests;
     while let Some((request, rest)) = requests.split_first() {
-        add_request(text, request)?;
-        former = add_first(text, former)?;
+        add_request(buffer, writer, request);
+        former = add_first(buffer, writer, former);
         requests = rest;
     }
-    Ok(())
 }
 
 // The first of these, if any; it gives the others.
-fn add_first<'f>(
-    text: &mut String,
+fn add_first<'f, W: Sink>(
+    buffer: &mut ReportBuffer,
+    writer: &mut W,
     former: &'f [Option<Request>],
-) -> Result<&'f [Option<Request>], NoMemory>
-    ensures text { OnOk result (string_bytes text.new ≡ string_bytes text.old
-        ++ plain.marked_line (codes "was") (first_was former.now)) }
-    ensures others { IfOk result (λ others. others.now ≡ others_behind former.now) }
+) -> &'f [Option<Request>]
+    ensures text { AddsText W.puts W.contents writer.old buffer.old writer.new buffer.new
+        (plain.marked_line (codes "was") (first_was former.now)) }
+    ensures others { result.now ≡ others_behind former.now }
 {
     match former.split_first() {
-        None => Ok(former),
+        None => former,
         Some((was, others)) => {
-            add_was(text, was)?;
-            Ok(others)
+            add_was(buffer, writer, was);
+            others
         }
     }
 }
@@ -232,150 +256,136 @@ fn former_of(difference: &Difference) -> &[Option<Request>]
     }
 }
 
-fn add_changed(
-    text: &mut String,
+fn add_changed<W: Sink>(
+    buffer: &mut ReportBuffer,
+    writer: &mut W,
     standing: Standing,
     difference: &Difference,
-) -> Result<(), NoMemory>
-    ensures { OnOk result (string_bytes text.new ≡ string_bytes text.old
-        ++ plain.changed_text standing difference.now) }
+)
+    ensures { AddsText W.puts W.contents writer.old buffer.old writer.new buffer.new
+        (plain.changed_text standing difference.now) }
 {
     match standing {
-        Standing::Untouched => Ok(()),
-        Standing::Done => Ok(()),
-        Standing::Waiting => add_waiting(text, difference),
-        Standing::Kept => Ok(()),
-        Standing::Cancelled => Ok(()),
+        Standing::Untouched => {}
+        Standing::Done => {}
+        Standing::Waiting => add_waiting(buffer, writer, difference),
+        Standing::Kept => {}
+        Standing::Cancelled => {}
     }
 }
 
 // Under a visit that waits at K11, what its event asked for, and what it asks for now.
-fn add_waiting(text: &mut String, difference: &Difference) -> Result<(), NoMemory>
-    ensures { OnOk result (string_bytes text.new ≡ string_bytes text.old
-        ++ plain.changed_text Waiting difference.now) }
+fn add_waiting<W: Sink>(buffer: &mut ReportBuffer, writer: &mut W, difference: &Difference)
+    ensures { AddsText W.puts W.contents writer.old buffer.old writer.new buffer.new
+        (plain.changed_text Waiting difference.now) }
 {
     match difference.contrast() {
-        None => Ok(()),
-        Some(Contrast::Done { .. }) => Ok(()),
+        None => {}
+        Some(Contrast::Done { .. }) => {}
         Some(Contrast::Changed { was, now }) => {
-            add_was(text, was)?;
-            add_now(text, now)
+            add_was(buffer, writer, was);
+            add_now(buffer, writer, now);
         }
     }
 }
 
-fn add_was(text: &mut String, was: &Option<Request>) -> Result<(), NoMemory>
-    ensures { OnOk result (string_bytes text.new ≡ string_bytes text.old ++ plain.marked_line (codes "was") was.now) }
+fn add_was<W: Sink>(buffer: &mut ReportBuffer, writer: &mut W, was: &Option<Request>)
+    ensures { AddsText W.puts W.contents writer.old buffer.old writer.new buffer.new
+        (plain.marked_line (codes "was") was.now) }
 {
     match was {
-        None => Ok(()),
+        None => {}
         Some(request) => {
-            text.push_str("was ")?;
-            add_request(text, request)
+            buffer.add(writer, "was ");
+            add_request(buffer, writer, request);
         }
     }
 }
 
-fn add_now(text: &mut String, now: &Option<Request>) -> Result<(), NoMemory>
-    ensures { OnOk result (string_bytes text.new ≡ string_bytes text.old ++ plain.marked_line (codes "now") now.now) }
+fn add_now<W: Sink>(buffer: &mut ReportBuffer, writer: &mut W, now: &Option<Request>)
+    ensures { AddsText W.puts W.contents writer.old buffer.old writer.new buffer.new
+        (plain.marked_line (codes "now") now.now) }
 {
     match now {
-        None => Ok(()),
+        None => {}
         Some(request) => {
-            text.push_str("now ")?;
-            add_request(text, request)
+            buffer.add(writer, "now ");
+            add_request(buffer, writer, request);
         }
     }
 }
 
-fn add_request(text: &mut String, request: &Request) -> Result<(), NoMemory>
-    ensures { OnOk result (string_bytes text.new ≡ string_bytes text.old ++ plain.request_line request.now) }
+fn add_request<W: Sink>(buffer: &mut ReportBuffer, writer: &mut W, request: &Request)
+    ensures { AddsText W.puts W.contents writer.old buffer.old writer.new buffer.new (plain.request_line request.now) }
 {
-    let number = request.number;
     match request.method {
         Method::Load => {
-            write!(text, "load {number} ")?;
-            add_quoted(text, request.address.as_str())?;
+            add_address(buffer, writer, "load ", request);
+            buffer.add(writer, "\n");
         }
         Method::Get => {
-            write!(text, "get {number} ")?;
-            add_quoted(text, request.address.as_str())?;
+            add_address(buffer, writer, "get ", request);
+            buffer.add(writer, "\n");
         }
         Method::Post => {
-            write!(text, "post {number} ")?;
-            add_quoted(text, request.address.as_str())?;
-            text.push(' ')?;
-            add_quoted(text, request.pairs.as_str())?;
+            add_address(buffer, writer, "post ", request);
+            buffer.add(writer, " ");
+            add_quoted(buffer, writer, request.pairs.as_str());
+            buffer.add(writer, "\n");
         }
     }
-    text.push('\n')
 }
 
-/// Writes the word as a JSON string.
-pub fn add_quoted(text: &mut String, word: &str) -> Result<(), NoMemory>
-    ensures { OnOk result (string_bytes text.new ≡ string_bytes text.old ++ plain.json_string word.now) }
+// Its method, its number and where it goes.
+fn add_address<W: Sink>(buffer: &mut ReportBuffer, writer: &mut W, method: &str, request: &Request)
+    ensures { AddsText W.puts W.contents writer.old buffer.old writer.new buffer.new
+        (method.now ++ decimal request.now.number ++ codes " " ++ plain.json_string request.now.address) }
 {
-    if word.len() > MAX_SHORT || !is_plain(word.as_bytes()) {
-        return add_escaped(text, word);
-    }
-    text.push('"')?;
-    text.push_str(word)?;
-    text.push('"')
-}
-
-fn is_plain(bytes: &[u8]) -> bool
-    ensures { result ≡ list_all is_plain bytes.now }
-{
-    bytes
-        .iter()
-        .all(|byte| *byte >= 32 && *byte != b'"' && *byte != b'\\')
-}
-
-// The same by the writer of JSON, whatever stands in the word.
-fn add_escaped(text: &mut String, word: &str) -> Result<(), NoMemory>
-    ensures { OnOk result (string_bytes text.new ≡ string_bytes text.old ++ plain.json_string word.now) }
-{
-    let empty = String::new(*text.allocator());
-    let mut writer = Writer::new(mem::replace(text, empty).into_bytes());
-    writer.string(word)?;
-    *text = unsafe { String::from_utf8_unchecked(writer.into_inner()) };
-    Ok(())
+    buffer.add_with_number(writer, method, request.number);
+    buffer.add(writer, " ");
+    add_quoted(buffer, writer, request.address.as_str());
 }
 
 // ---- decisions
 
-fn add_decisions(text: &mut String, decided: &[PutDecision]) -> Result<(), NoMemory>
-    ensures { OnOk result (string_bytes text.new ≡ string_bytes text.old ++ flat_map plain.decision_line decided.now) }
+fn add_decisions<W: Sink>(buffer: &mut ReportBuffer, writer: &mut W, decided: &[PutDecision])
+    ensures { AddsText W.puts W.contents writer.old buffer.old writer.new buffer.new
+        (flat_map plain.decision_line decided.now) }
 {
     for put in decided {
-        add_decision(text, put)?;
+        add_decision(buffer, writer, put);
     }
-    Ok(())
 }
 
-fn add_decision(text: &mut String, put: &PutDecision) -> Result<(), NoMemory>
-    ensures { OnOk result (string_bytes text.new ≡ string_bytes text.old ++ plain.decision_line put.now) }
+fn add_decision<W: Sink>(buffer: &mut ReportBuffer, writer: &mut W, put: &PutDecision)
+    ensures { AddsText W.puts W.contents writer.old buffer.old writer.new buffer.new (plain.decision_line put.now) }
 {
-    let client = put.decision.client.text();
-    let visit = put.decision.visit;
-    let choice = choice_word(put.decision.choice);
-    write!(text, "decide {client} {visit} {choice} ")?;
+    buffer.add(writer, "decide ");
+    buffer.add(writer, put.decision.client.text());
+    buffer.add_with_number(writer, " ", put.decision.visit);
+    buffer.add(writer, " ");
+    buffer.add(writer, choice_word(put.decision.choice));
+    buffer.add(writer, " ");
     match put.answer {
-        Ok(()) => text.push_str("ok\n"),
-        Err(fault) => add_refusal(text, fault),
+        Ok(()) => buffer.add(writer, "ok\n"),
+        Err(fault) => add_refusal(buffer, writer, fault),
     }
 }
 
 // Why a decision wasn't made, and the line's end.
-fn add_refusal(text: &mut String, fault: DeskFault) -> Result<(), NoMemory>
-    ensures { OnOk result (string_bytes text.new ≡ string_bytes text.old
-        ++ plain.report_line (plain.answer_words (Err fault))) }
+fn add_refusal<W: Sink>(buffer: &mut ReportBuffer, writer: &mut W, fault: DeskFault)
+    ensures { AddsText W.puts W.contents writer.old buffer.old writer.new buffer.new
+        (plain.report_line (plain.answer_words (Err fault))) }
 {
+    buffer.add(writer, desk_fault_code(fault));
     match fault {
-        DeskFault::NotFront(None) => write!(text, "{fault} front none\n"),
-        DeskFault::NotFront(Some(front)) => write!(text, "{fault} front {front}\n"),
-        DeskFault::NoClient => write!(text, "{fault}\n"),
-        DeskFault::NoMemory => write!(text, "{fault}\n"),
+        DeskFault::NotFront(None) => buffer.add(writer, " front none\n"),
+        DeskFault::NotFront(Some(front)) => {
+            buffer.add_with_number(writer, " front ", front);
+            buffer.add(writer, "\n");
+        }
+        DeskFault::NoClient => buffer.add(writer, "\n"),
+        DeskFault::NoMemory => buffer.add(writer, "\n"),
     }
 }
 

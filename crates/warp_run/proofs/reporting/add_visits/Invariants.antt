@@ -1,9 +1,12 @@
-use Rattle.std.proofs.Common.{◌≡◌, ◌++◌, drop, string_bytes}
+use Rattle.std.proofs.Common.{drop}
+use Rattle.warp_run.specs.declared.reporting.buffer.ReportBuffer.{ReportBuffer}
+use Rattle.warp_run.specs.Buffer.{AddsText}
 use Rattle.std.specs.List.{flat_map}
 use Rattle.warp_run.specs.Report.{visit_text}
 use Rattle.warp_run.proofs.reporting.add_visits.Given as goal
 
+-- what adds the rest from here adds all from the start
 abbrev pub invariant-loop-place : goal.invariant-loop-place
-invariant-loop-place l =
-    string_bytes l.text ++ flat_map (visit_text l.docket) (drop l.place l.case-items)
-    ≡ string_bytes l.initial.text ++ flat_map (visit_text l.docket) l.case-items
+invariant-loop-place g l =
+    (w : g.row.W.Denot) (b : ReportBuffer) → AddsText g.W.Sink.puts g.W.Write.contents l.writer l.buffer w b (flat_map (visit_text l.docket) (drop l.place l.case-items))
+    → AddsText g.W.Sink.puts g.W.Write.contents l.initial.writer l.initial.buffer w b (flat_map (visit_text l.docket) l.case-items)

@@ -1,0 +1,10 @@
+use Rattle.std.proofs.Common.{[]}
+use Rattle.warp_run.specs.Report.{report_text}
+use Rattle.warp_run.proofs.BufferLaws.{unused_added, ◌>>◌}
+use Rattle.warp_run.proofs.reporting.report.Goals as goal
+
+pub returns : goal.returns
+returns g c =
+    let first = c.args.writer.now in
+    c.finish.ensures first (report_text c.args.repaired.now)
+    ((c.add_stop.ensures >> c.add_repaired.ensures).behind first [] (unused_added g.W.Sink.puts g.W.Write.contents first c.in_ok-buffer.buffer c.in_ok-buffer.ensures))
