@@ -93,30 +93,6 @@ module _ {X : Type 0} where
   put_over es (x ∷ xs) k v has also =
       over_by es x xs k v (bytes_eq k x.0) refl has (λ none. put_over (insert_entry bytes_eq es x.0 x.1) xs k v (has_put k es x.0 x.1 has) (or_other _ _ also none))
 
-  put_behind : (done es : Entries X) (k : List ℕ) (v : X) → list_any (bytes_eq k) (keys_of done) ≡ false → insert_entry bytes_eq (done ++ es) k v ≡ done ++ insert_entry bytes_eq es k v
-  put_behind [] es k v none = refl
-  put_behind (d ∷ done) es k v none =
-      let (one, rest) = or_none _ _ none in put_here d (done ++ es) k v false one ∙ ap (λ l. d ∷ l) (put_behind done es k v rest)
-
-  over_from : (done es xs : Entries X) → keys_of es ≡ keys_of xs → IsDistinct bytes_eq (keys_of (done ++ xs)) → insert_all bytes_eq (done ++ es) xs ≡ done ++ xs
-  over_from done [] [] same apart = refl
-  over_from done [] (x ∷ xs) same apart = cc
-  over_from done (e ∷ es) [] same apart = cc
-  over_from done (e ∷ es) (x ∷ xs) same apart =
-      let first : e.0 ≡ x.0 = cc in
-      let rest : keys_of es ≡ keys_of xs = cc in
-      let none : list_any (bytes_eq x.0) (keys_of done) ≡ false = sym (is_some-lookup (bytes_eq x.0) done) ∙ ap is_some (absent_before nat_list_eq_equiv done xs x apart) in
-      let here : insert_entry bytes_eq (e ∷ es) x.0 x.1 ≡ x ∷ es =
-      put_here e es x.0 x.1 true (subst (λ k. bytes_eq x.0 k ≡ true) (sym first) (itself x.0)) ∙ ap (λ k. (k, x.1) ∷ es) first in
-      let moved : (done ++ x ∷ []) ++ es ≡ done ++ x ∷ es = append_assoc done (x ∷ []) es in
-      let behind : (done ++ x ∷ []) ++ xs ≡ done ++ x ∷ xs = append_assoc done (x ∷ []) xs in
-      ap (λ l. insert_all bytes_eq l xs) (put_behind done (e ∷ es) x.0 x.1 none ∙ ap (λ l. done ++ l) here ∙ sym moved)
-      ∙ over_from (done ++ x ∷ []) es xs rest (subst (λ l. IsDistinct bytes_eq (keys_of l)) (sym behind) apart) ∙ behind
-
-  -- of the same clients they stand in the place of those
-  pub all_over : (es xs : Entries X) → keys_of es ≡ keys_of xs → IsDistinct bytes_eq (keys_of xs) → insert_all bytes_eq es xs ≡ xs
-  all_over es xs same apart = over_from [] es xs same apart
-
   -- ---- what holds of all
 
   all_put_by : (P : List ℕ × X → Type 0) (e : List ℕ × X) (es : Entries X) (k : List ℕ) (v : X) (b : Bool) → bytes_eq k e.0 ≡ b → P (k, v) → P e → AllByRecursion P es → AllByRecursion P (insert_entry bytes_eq es k v)

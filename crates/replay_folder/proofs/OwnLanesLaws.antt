@@ -2,14 +2,12 @@
 use Rattle.std.proofs.Common.{◌≡◌, ℕ, List, [], ◌∷◌, ◌++◌, length, map, bytes_eq, Bool, true, false, ◌||◌, is_some, Option, Some, None, refl, sym, ap, subst, ◌∙◌, true≢false, append-nil, append_assoc}
 use Rattle.std.specs.List.{AllByRecursion, list_any}
 use Rattle.std.specs.Map.{lookup}
-use Rattle.std.specs.Option.{option_map_or}
-use Rattle.std.proofs.lemmas.List.{nil_from_length}
 use Rattle.indexmap.specs.IndexMap.{insert_all, insert_entry}
 use Rattle.upload_reader.specs.Upload.{UploadState}
-use Rattle.client_log.specs.Client.{OfClient}
-use Rattle.lanes_in_turn.specs.Round.{clients_of, has_twice, new_log}
+use Rattle.lanes_in_turn.specs.Round.{clients_of, has_twice, log_before, resumed_upload}
+use Rattle.lanes_in_turn.specs.Taking.{begun_lane, new_lane}
 use Rattle.lanes_in_turn.specs.declared.gathered.LaneResult.{LaneResult}
-use Rattle.replay_folder.specs.inside.{lane_of_log, lane_before, HasClient, IsSameBehind}
+use Rattle.replay_folder.specs.inside.{HasClient, IsSameBehind}
 use Rattle.replay_folder.proofs.AmongLaws.{put_over}
 
 both_none : (a b : Bool) → (a || b) ≡ false → (a ≡ false) × (b ≡ false)
@@ -41,7 +39,7 @@ module _ {R : Type 0} where
   module _ (quota : ℕ) (first : Lanes R) (all : List (UploadState R)) where
     -- those of the uploads that are left are as they were
     pub record IsMoving (now : Lanes R) (left : List (UploadState R)) (lanes : Lanes R) : Type 0 where
-      pub lanes_are : lanes ++ map (lane_before (found_in first) quota) left ≡ map (lane_before (found_in first) quota) all
+      pub lanes_are : lanes ++ map (begun_lane (found_in first) quota) left ≡ map (begun_lane (found_in first) quota) all
       pub known : AllByRecursion (λ upload. found_in now upload.client ≡ found_in first upload.client) left
       pub apart : has_twice (clients_of left) ≡ false
       pub own : (entries : Lanes R) → AllByRecursion (HasClient entries) (clients_of all) → AllByRecursion (HasClient entries) (clients_of left)
@@ -53,7 +51,7 @@ module _ {R : Type 0} where
 
     pub none_moved : has_twice (clients_of all) ≡ false → (lanes : Lanes R) → lanes ≡ [] → IsMoving first all lanes
     none_moved apart lanes none = record {
-      lanes_are = ap (λ before. before ++ map (lane_before (found_in first) quota) all) none;
+      lanes_are = ap (λ before. before ++ map (begun_lane (found_in first) quota) all) none;
       known = as_first all;
       apart = apart;
       own = λ entries has. has;
@@ -67,30 +65,27 @@ module _ {R : Type 0} where
     others_known now next client (upload ∷ uploads) others apart known =
         let (differs, rest) = both_none _ _ apart in (others upload.client differs ∙ known.0, others_known now next client uploads others rest known.1)
 
-    moved_here : (now next : Lanes R) (upload : UploadState R) (left : List (UploadState R)) (lanes more : Lanes R) (log : OfClient) → IsMoving now (upload ∷ left) lanes
-        → log ≡ option_map_or (λ lane. lane.log) (found_in now upload.client) (new_log quota upload.client)
+    moved_here : (now next : Lanes R) (upload : UploadState R) (left : List (UploadState R)) (lanes more : Lanes R) (lane : List ℕ × LaneResult R) → IsMoving now (upload ∷ left) lanes
+        → lane ≡ begun_lane (found_in now) quota upload
         → ((other : List ℕ) → bytes_eq upload.client other ≡ false → found_in next other ≡ found_in now other) → IsSameBehind (upload.client ∷ []) now next
-        → more ≡ lanes ++ (upload.client, lane_of_log log) ∷ [] → IsMoving next left more
-    moved_here now next upload left lanes more log had is others same longer =
-        let before = lane_before (found_in first) quota in
+        → more ≡ lanes ++ lane ∷ [] → IsMoving next left more
+    moved_here now next upload left lanes more lane had is others same longer =
+        let begun = begun_lane (found_in first) quota in
         let (alone, apart) = both_none _ _ had.apart in
-        let one : (upload.client, lane_of_log log) ≡ before upload =
-        ap (λ log. (upload.client, lane_of_log log)) (is ∙ ap (λ found. option_map_or (λ (lane : LaneResult R). lane.log) found (new_log quota upload.client)) had.known.0) in record {
-          lanes_are =
-              ap (λ all. all ++ map before left) (longer ∙ ap (λ lane. lanes ++ lane ∷ []) one) ∙ append_assoc lanes (before upload ∷ []) (map before left)
-              ∙ had.lanes_are;
+        let one : lane ≡ begun upload =
+        is ∙ ap (λ found. (upload.client, new_lane (log_before quota upload found) (resumed_upload upload found))) had.known.0 in record {
+          lanes_are = ap (λ all. all ++ map begun left) (longer ∙ ap (λ lane. lanes ++ lane ∷ []) one) ∙ append_assoc lanes (begun upload ∷ []) (map begun left) ∙ had.lanes_are;
           known = others_known now next upload.client left others alone had.known.1;
           apart = apart;
           own = λ entries has. (had.own entries has).1;
           same = λ entries has. same entries ((had.own entries has).0, tt) ∙ had.same entries has;
         }
 
-    pub one_moved : (now next : Lanes R) (upload : UploadState R) (left rest : List (UploadState R)) (lanes more : Lanes R) (log : OfClient) → rest ≡ upload ∷ left → IsMoving now rest lanes
-        → log ≡ option_map_or (λ lane. lane.log) (found_in now upload.client) (new_log quota upload.client)
+    pub one_moved : (now next : Lanes R) (upload : UploadState R) (left rest : List (UploadState R)) (lanes more : Lanes R) (lane : List ℕ × LaneResult R) → rest ≡ upload ∷ left → IsMoving now rest lanes
+        → lane ≡ begun_lane (found_in now) quota upload
         → ((other : List ℕ) → bytes_eq upload.client other ≡ false → found_in next other ≡ found_in now other) → IsSameBehind (upload.client ∷ []) now next
-        → more ≡ lanes ++ (upload.client, lane_of_log log) ∷ [] → IsMoving next left more
-    one_moved now next upload left rest lanes more log split had = moved_here now next upload left lanes more log (subst (λ uploads. IsMoving now uploads lanes) split had)
+        → more ≡ lanes ++ lane ∷ [] → IsMoving next left more
+    one_moved now next upload left rest lanes more lane split had = moved_here now next upload left lanes more lane (subst (λ uploads. IsMoving now uploads lanes) split had)
 
-    pub all_moved : (now : Lanes R) (left : List (UploadState R)) (lanes : Lanes R) → length left ≡ 0 → IsMoving now left lanes → lanes ≡ map (lane_before (found_in first) quota) all
-    all_moved now left lanes none had =
-        sym (append-nil lanes) ∙ ap (λ uploads. lanes ++ map (lane_before (found_in first) quota) uploads) (sym (nil_from_length left none)) ∙ had.lanes_are
+    pub all_moved : (now : Lanes R) (left : List (UploadState R)) (lanes : Lanes R) → left ≡ [] → IsMoving now left lanes → lanes ≡ map (begun_lane (found_in first) quota) all
+    all_moved now left lanes none had = sym (append-nil lanes) ∙ ap (λ uploads. lanes ++ map (begun_lane (found_in first) quota) uploads) (sym none) ∙ had.lanes_are

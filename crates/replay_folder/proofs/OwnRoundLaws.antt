@@ -1,15 +1,15 @@
 -- A round behind the logs of its own clients alone is a round behind all that was gathered.
 use Rattle.std.proofs.Common.{◌≡◌, ℕ, List, [], ◌∷◌, length, map, flat_map, bytes_eq, Bool, true, false, ◌||◌, if◌then◌else◌, Option, Some, None, IfSome, Result, Ok, Err, refl, sym, ap, ap₂, subst, ◌∙◌}
-use Rattle.std.specs.List.{AllByRecursion, IsDistinct, cons_option, filter_map, list_any}
+use Rattle.std.specs.List.{AllByRecursion, AllZip, IsDistinct, cons_option, filter_map, list_any}
 use Rattle.std.specs.Map.{keys_of, values_of, lookup}
 use Rattle.std.specs.Option.{option_map, option_map_or}
 use Rattle.std.proofs.lemmas.Bool.{or_right}
 use Rattle.std.proofs.lemmas.Map.Made.{lookup-map_values, keys_of-map_values}
-use Rattle.indexmap.specs.IndexMap.{get, insert_all, with_entries}
+use Rattle.indexmap.specs.IndexMap.{get, insert_all, insert_entry, with_entries}
 use Rattle.byte_streams.specs.Answers.{Answer}
 use Rattle.upload_reader.specs.Upload.{UploadState}
-use Rattle.lanes_in_turn.specs.Round.{log_before, resumed_upload, without_lane, without_lanes, clients_of}
-use Rattle.lanes_in_turn.specs.Taking.{begun_lane, new_lane, never}
+use Rattle.lanes_in_turn.specs.Round.{log_before, behind_log, resumed_upload, without_lane, without_lanes, clients_of, has_twice}
+use Rattle.lanes_in_turn.specs.Taking.{TakesLane, begun_lane, new_lane, never}
 use Rattle.lanes_in_turn.specs.declared.gathered.Gathered.{Gathered}
 use Rattle.lanes_in_turn.specs.declared.gathered.LaneResult.{LaneResult}
 use Rattle.lanes_in_turn.specs.declared.gathered.Stop.{Stop}
@@ -23,10 +23,10 @@ use Rattle.warp_server.specs.program.Callers.{uploads_in, IsReadSo, RoundIsRead}
 use Rattle.warp_server.proofs.HeadlineLaws.{insert_behind, distinct, same_keys}
 use Rattle.warp_server.proofs.RoundSteps.{all_weaker}
 use Rattle.warp_server.proofs.RoundsLaws.{all_both, all_mapped, all_of_mapped}
-use Rattle.replay_folder.specs.inside.{held_as, held_upload, held_end, lane_of_log, lane_before, HasClient, IsSameBehind, KeepsLogs, IsOwnRound}
+use Rattle.replay_folder.specs.inside.{held_as, held_upload, held_end, HasClient, IsSameBehind, KeepsLogs, IsOwnRound}
 use Rattle.replay_folder.specs.declared.ends.UploadEnd.{UploadEnd}
 use Rattle.replay_folder.specs.declared.ends.UploadEnd.TheVariants as upload_end
-use Rattle.replay_folder.proofs.AmongLaws.{itself, all_over, all_among, all_found, any_among, mapped_among}
+use Rattle.replay_folder.proofs.AmongLaws.{itself, all_among, all_found, any_among, mapped_among}
 
 -- ---- lists
 
@@ -87,41 +87,58 @@ module _ {R : Type 0} where
 
   -- ---- what a round begins behind
 
-  begun_same : (quota : ℕ) (upload : UploadState R) (found : Option (LaneResult R)) → let known = Some (lane_of_log (log_before quota upload (option_map without_lane found))) in
+  -- a log and its session are all that counts of a lane before
+  pub begun_behind : (quota : ℕ) (upload : UploadState R) (found : Option (LaneResult R)) → let log = log_before quota upload found in new_lane log (behind_log log upload) ≡ new_lane log (resumed_upload upload found)
+  begun_behind quota upload None = refl
+  begun_behind quota upload (Some lane) = refl
+
+  begun_same : (quota : ℕ) (upload : UploadState R) (found : Option (LaneResult R)) → let known = option_map without_lane found in
       new_lane (log_before quota upload known) (resumed_upload upload known) ≡ new_lane (log_before quota upload found) (resumed_upload upload found)
   begun_same quota upload None = refl
   begun_same quota upload (Some lane) = refl
 
-  module _ (quota : ℕ) (known own before : List ℕ → Option (LaneResult R)) (rests : (client : List ℕ) → known client ≡ option_map without_lane (before client)) where
-    begun_one : (upload : UploadState R) → own upload.client ≡ Some (lane_before known quota upload).1 → begun_lane own quota upload ≡ begun_lane before quota upload
-    begun_one upload found =
-        let begun : Option (LaneResult R) → List ℕ × LaneResult R = λ lane. (upload.client, new_lane (log_before quota upload lane) (resumed_upload upload lane)) in
-        ap begun (found ∙ ap (λ lane. Some (lane_of_log (log_before quota upload lane))) (rests upload.client))
+  module _ (quota : ℕ) (known before : List ℕ → Option (LaneResult R)) (rests : (client : List ℕ) → known client ≡ option_map without_lane (before client)) where
+    begun_one : (upload : UploadState R) → begun_lane known quota upload ≡ begun_lane before quota upload
+    begun_one upload =
+        ap (λ lane. (upload.client, new_lane (log_before quota upload lane) (resumed_upload upload lane))) (rests upload.client)
         ∙ ap (λ lane. (upload.client, lane)) (begun_same quota upload (before upload.client))
 
-    begun_all : (uploads : List (UploadState R)) → AllByRecursion (λ upload. own upload.client ≡ Some (lane_before known quota upload).1) uploads → map (begun_lane own quota) uploads ≡ map (begun_lane before quota) uploads
-    begun_all [] found = refl
-    begun_all (upload ∷ uploads) found = ap₂ (λ lane lanes. lane ∷ lanes) (begun_one upload found.0) (begun_all uploads found.1)
-
-  pub before_keys : (known : List ℕ → Option (LaneResult R)) (quota : ℕ) (uploads : List (UploadState R)) → keys_of (map (lane_before known quota) uploads) ≡ clients_of uploads
-  before_keys known quota [] = refl
-  before_keys known quota (upload ∷ uploads) = ap (λ keys. upload.client ∷ keys) (before_keys known quota uploads)
+    begun_all : (uploads : List (UploadState R)) → map (begun_lane known quota) uploads ≡ map (begun_lane before quota) uploads
+    begun_all [] = refl
+    begun_all (upload ∷ uploads) = ap₂ (λ lane lanes. lane ∷ lanes) (begun_one upload) (begun_all uploads)
 
   found_own : (lanes : Lanes R) → IsDistinct bytes_eq (keys_of lanes) → AllByRecursion (λ entry. lookup (bytes_eq entry.0) lanes ≡ Some entry.1) lanes
   found_own lanes apart =
       subst (λ all. AllByRecursion (λ entry. lookup (bytes_eq entry.0) all ≡ Some entry.1) lanes) (insert_behind [] lanes apart) (all_found [] lanes apart)
 
-  none_gave_up : (known : List ℕ → Option (LaneResult R)) (quota : ℕ) (uploads : List (UploadState R)) → list_any (λ lane. gave_up lane.end) (values_of (map (lane_before known quota) uploads)) ≡ false
-  none_gave_up known quota [] = refl
-  none_gave_up known quota (upload ∷ uploads) = none_gave_up known quota uploads
-
-  -- no memory was refused before such lanes
-  pub before_done : (known : List ℕ → Option (LaneResult R)) (quota : ℕ) (uploads : List (UploadState R)) (before : Gathered R) → before.clients.entries ≡ map (lane_before known quota) uploads → before.stop ≡ stops.None
-      → status_of before ≡ Done
-  before_done known quota uploads before lanes stop =
-      ap₂ (λ why entries. status_by why (values_of entries)) stop lanes ∙ ap (λ short. if short then OutOfMemory else Done) (none_gave_up known quota uploads)
-
 -- ---- the round
+
+-- a question that allows no more
+pub taken_never : {R : Type 0} (allows : ℕ → Bool → Type 0) (more : ℕ) (fresh lanes : Lanes R) (stop : Stop) → ((n : ℕ) (answer : Bool) → allows n answer → answer ≡ false) → AreTaken allows more fresh lanes stop
+    → AreTaken never more fresh lanes stop
+taken_never allows more fresh lanes stop false_only taken = record {
+  lanes_are = taken.lanes_are;
+  stops = taken.stops;
+  count = taken.count;
+  each = λ recorder one at. let so = taken.each recorder one at in record { lesser = λ n few. refl; asked = λ is. false_only _ _ (so.asked is); ended = so.ended; refused = so.refused };
+  stop_is = taken.stop_is;
+}
+
+-- the lanes of such uploads, let go and put where there were none
+pub own_entries : {R : Type 0} (known : List ℕ → Option (LaneResult R)) (quota more : ℕ) (uploads : List (UploadState R)) (lanes : Lanes R) → has_twice (clients_of uploads) ≡ false
+    → AllZip (TakesLane more) (map (begun_lane known quota) uploads) lanes → insert_all bytes_eq [] (let_go lanes) ≡ let_go lanes
+own_entries known quota more uploads lanes apart are =
+    let keys = keys_of-map_values without_reader lanes ∙ same_keys known quota uploads lanes (lanes_of known quota more uploads lanes are) in
+    insert_behind [] (let_go lanes) (subst (IsDistinct bytes_eq) (sym keys) (distinct (clients_of uploads) apart))
+
+-- one lane more was let go
+pub closed_one : {R : Type 0} (own next : Lanes R) (client : List ℕ) (lane : LaneResult R) (left rest all : Lanes R) → rest ≡ (client, lane) ∷ left → next ≡ insert_entry bytes_eq own client (without_reader lane)
+    → insert_all bytes_eq own (let_go rest) ≡ insert_all bytes_eq [] (let_go all) → insert_all bytes_eq next (let_go left) ≡ insert_all bytes_eq [] (let_go all)
+closed_one own next client lane left rest all first put had = ap (λ es. insert_all bytes_eq es (let_go left)) put ∙ ap (λ lanes. insert_all bytes_eq own (let_go lanes)) (sym first) ∙ had
+
+pub read_one : {R : Type 0} (P : UploadState R → Type 0) (client : List ℕ) (lane : LaneResult R) (left rest : Lanes R) → rest ≡ (client, lane) ∷ left → IfSome lane.upload P
+    → AllByRecursion P (uploads_in left) → AllByRecursion P (uploads_in rest)
+read_one {R = R} P client lane left rest first read others = subst (λ lanes. AllByRecursion P (uploads_in lanes)) (sym first) (by_some {X = List ℕ × LaneResult R} (λ entry. entry.1.upload) P lane.upload (uploads_in left) read others)
 
 -- what was taken of the round's own clients is what is taken of them behind all that was gathered
 pub record IsSameRound {R : Type 0} (was_read : R → R → List Answer → Type 0) (quota : ℕ) (earlier own rest : Gathered R) (uploads : List (UploadState R)) : Type 0 where
@@ -134,33 +151,23 @@ pub record IsSameRound {R : Type 0} (was_read : R → R → List Answer → Type
 module _ {R : Type 0} (was_read : R → R → List Answer → Type 0) (quota : ℕ) (kept earlier own rest : Gathered R) (hollow : List (List ℕ × LaneResult R)) (uploads : List (UploadState R))
     (keeps : KeepsLogs kept earlier) (whole : status_of earlier ≡ Done) (round : IsOwnRound was_read quota (get bytes_eq kept.clients) uploads own)
     (same : IsSameBehind (clients_of uploads) kept.clients.entries hollow) (put : rest.clients.entries ≡ insert_all bytes_eq hollow (without_lanes own.clients.entries)) (stop : rest.stop ≡ own.stop) where
-  abbrev before : Gathered R
-  before = round.before
-
   abbrev lanes : List (List ℕ × LaneResult R)
-  lanes = round.read.0.gathers.lanes
+  lanes = round.lanes
 
   abbrev known : List ℕ → Option (LaneResult R)
   known = get bytes_eq kept.clients
 
   apart : IsDistinct bytes_eq (clients_of uploads)
-  apart = distinct (clients_of uploads) round.read.0.gathers.is_round.clients
+  apart = distinct (clients_of uploads) round.is_round.clients
 
   keys : keys_of lanes ≡ clients_of uploads
-  keys = same_keys (get bytes_eq before.clients) quota uploads lanes (lanes_of (get bytes_eq before.clients) quota _ uploads lanes round.read.0.gathers.taken.lanes_are)
-
-  keys_before : keys_of before.clients.entries ≡ clients_of uploads
-  keys_before = ap keys_of round.lanes ∙ before_keys known quota uploads
+  keys = same_keys known quota uploads lanes (lanes_of known quota _ uploads lanes round.taken.lanes_are)
 
   lanes_apart : IsDistinct bytes_eq (keys_of lanes)
   lanes_apart = subst (IsDistinct bytes_eq) (sym keys) apart
 
-  -- the round's own lanes are all of it
-  round_is : round.read.0.round.clients.entries ≡ lanes
-  round_is = round.read.0.gathers.clients_are ∙ all_over (without_lanes before.clients.entries) lanes (keys_of-map_values without_lane before.clients.entries ∙ keys_before ∙ sym keys) lanes_apart
-
   own_is : own.clients.entries ≡ let_go lanes
-  own_is = round.read.0.clients_are ∙ ap let_go round_is
+  own_is = round.clients_are
 
   -- ---- the same round behind all
 
@@ -170,37 +177,30 @@ module _ {R : Type 0} (was_read : R → R → List Answer → Type 0) (quota : �
   abbrev gathered : Gathered R
   gathered = record { clients = with_entries own.clients (let_go all); stop = own.stop }
 
-  found_before : AllByRecursion (λ upload. get bytes_eq before.clients upload.client ≡ Some (lane_before known quota upload).1) uploads
-  found_before =
-      let mine = map (lane_before known quota) uploads in
-      subst (λ entries. AllByRecursion (λ upload. lookup (bytes_eq upload.client) entries ≡ Some (lane_before known quota upload).1) uploads) (sym round.lanes)
-      (all_of_mapped (lane_before known quota) (λ entry. lookup (bytes_eq entry.0) mine ≡ Some entry.1) uploads (found_own mine (subst (IsDistinct bytes_eq) (sym (before_keys known quota uploads)) apart)))
-
-  begun : map (begun_lane (get bytes_eq before.clients) quota) uploads ≡ map (begun_lane (get bytes_eq earlier.clients) quota) uploads
+  begun : map (begun_lane known quota) uploads ≡ map (begun_lane (get bytes_eq earlier.clients) quota) uploads
   begun =
-      begun_all quota known (get bytes_eq before.clients) (get bytes_eq earlier.clients)
-      (λ client. ap (lookup (bytes_eq client)) keeps.clients ∙ lookup-map_values without_lane (bytes_eq client) earlier.clients.entries) uploads found_before
+      begun_all quota known (get bytes_eq earlier.clients)
+      (λ client. ap (lookup (bytes_eq client)) keeps.clients ∙ lookup-map_values without_lane (bytes_eq client) earlier.clients.entries) uploads
 
   gathers : GathersRound quota earlier uploads gathered
   gathers = record {
     whole = whole;
-    round = record { clients = with_entries own.clients all; stop = round.read.0.round.stop };
+    round = record { clients = with_entries own.clients all; stop = own.stop };
     gathers = record {
-      is_round = round.read.0.gathers.is_round;
+      is_round = round.is_round;
       lanes = lanes;
-      taken = subst (λ fresh. AreTaken never (read_ahead server_room (length uploads)) fresh lanes round.read.0.round.stop) begun round.read.0.gathers.taken;
+      taken = subst (λ fresh. AreTaken never (read_ahead server_room (length uploads)) fresh lanes own.stop) begun round.taken;
       clients_are = refl;
     };
     clients_are = refl;
-    stop_is = round.read.0.stop_is;
+    stop_is = refl;
   }
 
   read_so : AllByRecursion (IsReadSo was_read) (uploads_in all)
   read_so =
       let upload : List ℕ × LaneResult R → Option (UploadState R) = λ entry. entry.1.upload in
       some_of upload (IsReadSo was_read) all (all_among (λ entry. IfSome entry.1.upload (IsReadSo was_read)) (without_lanes earlier.clients.entries) lanes
-      (rested_unread (IsReadSo was_read) earlier.clients.entries)
-      (of_some upload (IsReadSo was_read) lanes (subst (λ entries. AllByRecursion (IsReadSo was_read) (uploads_in entries)) round_is round.read.1)))
+      (rested_unread (IsReadSo was_read) earlier.clients.entries) (of_some upload (IsReadSo was_read) lanes round.read))
 
   own_read : RoundIsRead was_read quota earlier uploads gathered
   unfolding gathers

@@ -1,5 +1,5 @@
 -- What was taken of uploads, one name after another, round by round.
-use Rattle.std.proofs.Common.{◌≡◌, ℕ, ◌+◌, ◌<◌, ◌≤◌, List, [], ◌∷◌, ◌++◌, length, map, take, get_or, flat_map, bytes_eq, Bool, true, false, ◌||◌, Option, Some, None, Result, Ok, Err, ◌⊎◌, inl, inr, refl, sym, ap, ap₂, subst, ◌∙◌, true≢false, append-nil, append_assoc, suc, arith, length-append}
+use Rattle.std.proofs.Common.{◌≡◌, ℕ, ◌+◌, ◌<◌, ◌≤◌, List, [], ◌∷◌, ◌++◌, length, map, take, drop, slice_get, get_or, flat_map, bytes_eq, Bool, true, false, ◌||◌, Option, Some, None, Result, Ok, Err, ◌⊎◌, inl, inr, refl, sym, ap, ap₂, subst, ◌∙◌, true≢false, append-nil, append_assoc, suc, arith, length-append, zero}
 use Rattle.std.specs.List.{AllByRecursion, AllZip, list_any}
 use Rattle.std.specs.Option.{IsSome, option_map_or}
 use Rattle.std.specs.Cmp.Lexicographic.{nat_list_eq_equiv}
@@ -19,9 +19,9 @@ use Rattle.warp_run.specs.declared.status.Status.{Status}
 use Rattle.warp_run.specs.declared.status.Status.TheVariants.{Done, BadSite, BadHello, OutOfMemory, InputOutput}
 use Rattle.warp_server.specs.program.Callers.{IsGreeted, RoundIsRead}
 use Rattle.warp_server.proofs.RoundsLaws.{round_known}
-use Rattle.replay_folder.specs.Ends.{TakenUpload, FileEnd, taken_so, left_unread, IsEndOf, told_end, taken_upload, is_unread}
+use Rattle.replay_folder.specs.Ends.{TakenUpload, FileEnd, unopened, taken_so, left_unread, IsEndOf, told_end, taken_upload, is_unread}
 use Rattle.replay_folder.specs.Taking.{in_order, uploads_of_round, IsToldBy, TakesRound, TakesRounds}
-use Rattle.replay_folder.specs.inside.{GreetsNamed, HasTakenFiles, HasTakenSoFar, IsTaking, Holds, LeavesUnread, AreReady, AreHeld, KeepsLogs, Closes, MakesRoom, is_short, held_as, held_upload, held_end, told_by_lane}
+use Rattle.replay_folder.specs.inside.{GreetsNamed, HasTakenFiles, HasTakenSoFar, IsTaking, Holds, LeavesUnread, AreReady, AreHeld, AreTriedAlone, KeepsLogs, Closes, MakesRoom, is_short, held_as, held_upload, held_end, told_by_lane}
 use Rattle.replay_folder.specs.declared.ends.UploadEnd.{UploadEnd}
 use Rattle.replay_folder.specs.declared.ends.UploadEnd.TheVariants as upload_end
 use Rattle.replay_folder.specs.declared.names.Named.{Named}
@@ -36,6 +36,16 @@ zip_append P [] more [] others all rest = rest
 zip_append P [] more (y ∷ ys) others all rest = absurd all
 zip_append P (x ∷ xs) more [] others all rest = absurd all
 zip_append P (x ∷ xs) more (y ∷ ys) others all rest = (all.0, zip_append P xs more ys others all.1 rest)
+
+-- what stands at a place of both stands in the one or in the other
+pub split_at : {X : Type 0} (xs ys : List X) (k : ℕ) (x : X) → slice_get (xs ++ ys) k ≡ Some x
+    → ((slice_get xs k ≡ Some x) × (take k (xs ++ ys) ≡ take k xs)) ⊎ ((j : ℕ) × (slice_get ys j ≡ Some x) × (take k (xs ++ ys) ≡ xs ++ take j ys))
+split_at [] ys k x at = inr (k, at, refl)
+split_at (y ∷ xs) ys zero x at = inl (at, refl)
+split_at (y ∷ xs) ys (suc k) x at = elim (split_at xs ys k x at) [
+  | inl (here, same) ↦ inl (here, ap (λ all. y ∷ all) same)
+  | inr (j, there, same) ↦ inr (j, there, ap (λ all. y ∷ all) same)
+]
 
 zip_length : {X Y : Type 0} (P : X → Y → Type 0) (xs : List X) (ys : List Y) → AllZip P xs ys → length xs ≡ length ys
 zip_length P [] [] all = refl
@@ -113,6 +123,41 @@ module _ {R : Type 0} (was_read : R → R → List Answer → Type 0) (opened : 
   unread_end (File name) = tt
   unread_end (Unlisted word) = tt
 
+  -- ---- names that can't be opened
+
+  abbrev IsShut : List (FileEnd R) → List (Result (UploadState R) UploadEnd) → Type 0
+  IsShut files said = (k : ℕ) → slice_get files k ≡ Some unopened → slice_get said k ≡ Some (Err upload_end.Unopened)
+
+  abbrev NoneTaken : List (FileEnd R) → Type 0
+  NoneTaken files = (k : ℕ) → slice_get files k ≡ Some unopened → flat_map taken_upload (take k files) ≡ []
+
+  some_same : {X : Type 0} (x y : X) → Some x ≡ Some y → x ≡ y
+  some_same x y same = cc
+
+  shut_behind : (file : FileEnd R) (files : List (FileEnd R)) (one : Result (UploadState R) UploadEnd) (said : List (Result (UploadState R) UploadEnd)) → (file ≡ unopened → one ≡ Err upload_end.Unopened) → IsShut files said
+      → IsShut (file ∷ files) (one ∷ said)
+  shut_behind file files one said first rest zero at = ap Some (first (some_same file unopened at))
+  shut_behind file files one said first rest (suc k) at = rest k at
+
+  -- behind an upload there is none
+  none_behind : (one : TakenUpload R) (files : List (FileEnd R)) (upload : UploadState R) (said : List (Result (UploadState R) UploadEnd)) → IsShut files said → AreTriedAlone (Ok upload ∷ said) → NoneTaken (taken_so one ∷ files)
+  none_behind one files upload said shut tried zero at = cc
+  none_behind one files upload said shut tried (suc k) at = let taken : upload ∷ flat_map held_upload (take k said) ≡ [] = tried (suc k) (shut k at) in cc
+
+  none_before : (file : FileEnd R) (files : List (FileEnd R)) → taken_upload file ≡ [] → NoneTaken files → NoneTaken (file ∷ files)
+  none_before file files none rest zero at = refl
+  none_before file files none rest (suc k) at = ap (λ own. own ++ flat_map taken_upload (take k files)) none ∙ rest k at
+
+  -- the last one
+  alone_last : (said : List (Result (UploadState R) UploadEnd)) (one : Result (UploadState R) UploadEnd) (k : ℕ) → slice_get (one ∷ []) k ≡ Some (Err upload_end.Unopened)
+      → (one ≡ Err upload_end.Unopened → flat_map held_upload said ≡ []) → flat_map held_upload (said ++ take k (one ∷ [])) ≡ []
+  alone_last said one zero at none = ap (flat_map held_upload) (append-nil said) ∙ none (some_same one (Err upload_end.Unopened) at)
+  alone_last said one (suc k) at none = cc
+
+  no_shut : NoneTaken (left_unread ∷ [])
+  no_shut zero at = cc
+  no_shut (suc k) at = cc
+
   -- ---- what became of the names of a round
 
   module _ (gathered : Gathered R) where
@@ -128,10 +173,12 @@ module _ {R : Type 0} (was_read : R → R → List Answer → Type 0) (opened : 
       uploads_are : uploads_of_round ones ≡ flat_map held_upload said
       by_lanes : AllByRecursion (IsToldBy gathered) ones
       read : list_any is_unread (ends_of said) ≡ false
+      shut : IsShut files said
+      alone : AreTriedAlone said → NoneTaken files
 
     all_told : (waiting : List Named) (said : List (Result (UploadState R) UploadEnd)) → AllZip (GreetsNamed was_read opened) waiting said
         → AllByRecursion (λ upload. IsSome (get bytes_eq gathered.clients upload.client)) (flat_map held_upload said) → AreTold waiting said
-    all_told [] [] greets known = record { files = []; ones = []; told = refl; each = tt; taken = refl; uploads_are = refl; by_lanes = tt; read = refl }
+    all_told [] [] greets known = record { files = []; ones = []; told = refl; each = tt; taken = refl; uploads_are = refl; by_lanes = tt; read = refl; shut = λ k at. cc; alone = λ tried k at. cc }
     all_told [] (one ∷ said) greets known = absurd greets
     all_told (named ∷ waiting) [] greets known = absurd greets
     all_told (named ∷ waiting) (Ok upload ∷ said) ((name, is, opens, greeted), greets) known =
@@ -149,6 +196,8 @@ module _ {R : Type 0} (was_read : R → R → List Answer → Type 0) (opened : 
           uploads_are = ap (λ all. upload ∷ all) rest.uploads_are;
           by_lanes = ((lane, there, refl, refl), rest.by_lanes);
           read = ap (λ e. is_unread e || list_any is_unread (ends_of said)) end ∙ rest.read;
+          shut = shut_behind (taken_so one) rest.files (Ok upload) said (λ is. cc) rest.shut;
+          alone = none_behind one rest.files upload said rest.shut;
         }
     all_told (named ∷ waiting) (Err end ∷ said) ((file, told, none, read, is_end), greets) known =
         let rest = all_told waiting said greets known in record {
@@ -160,6 +209,8 @@ module _ {R : Type 0} (was_read : R → R → List Answer → Type 0) (opened : 
           uploads_are = rest.uploads_are;
           by_lanes = rest.by_lanes;
           read = ap (λ b. b || list_any is_unread (ends_of said)) read ∙ rest.read;
+          shut = shut_behind file rest.files (Err end) said (λ is. ap Err (sym told ∙ ap told_end is)) rest.shut;
+          alone = λ tried. none_before file rest.files none (rest.alone (λ k at. tried (suc k) at));
         }
 
   module _ (quota : ℕ) where
@@ -173,7 +224,7 @@ module _ {R : Type 0} (was_read : R → R → List Answer → Type 0) (opened : 
     none_taken gathered none stop = record {
       rounds = [];
       takes = (none, stop);
-      files = record { files = []; told = refl; each = tt; taken = refl; whole = λ done. refl };
+      files = record { files = []; told = refl; each = tt; taken = refl; whole = λ done. refl; alone = λ k at. cc };
     }
 
     -- ---- more names, with what became of them
@@ -181,8 +232,9 @@ module _ {R : Type 0} (was_read : R → R → List Answer → Type 0) (opened : 
     files_more : (named others : List Named) (ends more : List UploadEnd) (earlier gathered : Gathered R) (had : HasTaken named ends earlier)
         (rounds : List (List (TakenUpload R))) (files : List (FileEnd R)) (ones : List (TakenUpload R))
         → map told_end files ≡ more → AllZip (IsEndOf opened was_read) others files → flat_map taken_upload files ≡ ones → in_order rounds ≡ in_order had.rounds ++ ones
-        → (status_of gathered ≡ Done → (status_of earlier ≡ Done) × (list_any is_unread more ≡ false)) → TakesRounds was_read quota rounds gathered → HasTaken (named ++ others) (ends ++ more) gathered
-    files_more named others ends more earlier gathered had rounds files ones told each taken order whole takes = record {
+        → (status_of gathered ≡ Done → (status_of earlier ≡ Done) × (list_any is_unread more ≡ false)) → TakesRounds was_read quota rounds gathered
+        → NoneTaken files → ((n : ℕ) → (m : ℕ) × (drop m rounds ≡ drop n had.rounds)) → HasTaken (named ++ others) (ends ++ more) gathered
+    files_more named others ends more earlier gathered had rounds files ones told each taken order whole takes none older = record {
       rounds = rounds;
       takes = takes;
       files = record {
@@ -191,6 +243,15 @@ module _ {R : Type 0} (was_read : R → R → List Answer → Type 0) (opened : 
         each = zip_append (IsEndOf opened was_read) named others had.files.files files had.files.each each;
         taken = order ∙ ap₂ (λ a b. a ++ b) had.files.taken (sym taken) ∙ sym (flat_map-append taken_upload had.files.files files);
         whole = λ done. list_any-append is_unread ends more ∙ ap₂ (λ a b. a || b) (had.files.whole (whole done).0) (whole done).1;
+        alone = λ k at. elim (split_at had.files.files files k unopened at) [
+          | inl (here, same) ↦ let (n, is) = had.files.alone k here in let (m, deeper) = older n in (m, ap in_order deeper ∙ is ∙ ap (flat_map taken_upload) (sym same))
+          | inr (j, there, same) ↦ let (m, deeper) = older 0 in (
+            m,
+            ap in_order deeper ∙ had.files.taken
+                ∙ sym (ap (flat_map taken_upload) same ∙ flat_map-append taken_upload had.files.files (take j files)
+                ∙ ap (λ all. flat_map taken_upload had.files.files ++ all) (none j there) ∙ append-nil (flat_map taken_upload had.files.files)),
+          )
+        ];
       };
     }
 
@@ -199,11 +260,11 @@ module _ {R : Type 0} (was_read : R → R → List Answer → Type 0) (opened : 
         → HasTaken (named ++ one ∷ []) (ends ++ upload_end.Unread ∷ []) gathered
     unread_more named one ends gathered short had =
         files_more named (one ∷ []) ends (upload_end.Unread ∷ []) gathered gathered had had.rounds (left_unread ∷ []) [] refl (unread_end one, tt) refl (sym (append-nil (in_order had.rounds)))
-        (λ done. absurd (short done)) had.takes
+        (λ done. absurd (short done)) had.takes no_shut (λ n. (n, refl))
 
     -- the names of a round, in which there is an upload, or none
     module _ (named waiting : List Named) (ends : List UploadEnd) (earlier gathered : Gathered R) (said : List (Result (UploadState R) UploadEnd))
-        (had : HasTaken named ends earlier) (greets : AllZip (GreetsNamed was_read opened) waiting said) where
+        (had : HasTaken named ends earlier) (greets : AllZip (GreetsNamed was_read opened) waiting said) (tried : AreTriedAlone said) where
       abbrev uploads : List (UploadState R)
       uploads = flat_map held_upload said
 
@@ -212,7 +273,7 @@ module _ {R : Type 0} (was_read : R → R → List Answer → Type 0) (opened : 
           let told = all_told gathered waiting said greets (subst (AllByRecursion (λ upload. IsSome (get bytes_eq gathered.clients upload.client))) (sym none) tt) in
           let no_ones : told.ones ≡ [] = none_mapped (λ one. one.upload) told.ones (told.uploads_are ∙ none) in
           files_more named waiting ends _ earlier gathered had had.rounds told.files [] told.told told.each (told.taken ∙ no_ones) (sym (append-nil (in_order had.rounds)))
-          (λ done. (ap status_of (sym same) ∙ done, told.read)) (subst (TakesRounds was_read quota had.rounds) (sym same) had.takes)
+          (λ done. (ap status_of (sym same) ∙ done, told.read)) (subst (TakesRounds was_read quota had.rounds) (sym same) had.takes) (told.alone tried) (λ n. (n, refl))
 
       round_more : AllByRecursion IsGreeted uploads → RoundIsRead was_read quota earlier uploads gathered → HasTaken (named ++ waiting) (ends ++ map (held_end gathered) (map held_as said)) gathered
       round_more greeted read =
@@ -223,7 +284,7 @@ module _ {R : Type 0} (was_read : R → R → List Answer → Type 0) (opened : 
             told = told.by_lanes;
           } in
           files_more named waiting ends _ earlier gathered had (told.ones ∷ had.rounds) told.files told.ones told.told told.each told.taken refl
-          (λ done. (read.0.whole, told.read)) (earlier, had.takes, round)
+          (λ done. (read.0.whole, told.read)) (earlier, had.takes, round) (told.alone tried) (λ n. (suc n, refl))
 
     -- ---- the round that is open
 
@@ -243,6 +304,7 @@ module _ {R : Type 0} (was_read : R → R → List Answer → Type 0) (opened : 
       behind = behind;
       are = none_held round held uploads;
       greets = tt;
+      alone = λ k at. cc;
       ready = none_ready round.uploads.items uploads;
       going = inr refl;
     }
@@ -273,31 +335,45 @@ module _ {R : Type 0} (was_read : R → R → List Answer → Type 0) (opened : 
       uploads = holds.uploads ∙ ap₂ (λ a b. a ++ b) are.uploads (sym (append-nil (held_upload said))) ∙ sym (flat_map-append held_upload are.said (said ∷ []));
     }
 
+    alone_more : (said : List (Result (UploadState R) UploadEnd)) (one : Result (UploadState R) UploadEnd) → (one ≡ Err upload_end.Unopened → flat_map held_upload said ≡ []) → AreTriedAlone said → AreTriedAlone (said ++ one ∷ [])
+    alone_more said one last alone k at = elim (split_at said (one ∷ []) k (Err upload_end.Unopened) at) [
+      | inl (here, same) ↦ ap (flat_map held_upload) same ∙ alone k here
+      | inr (j, there, same) ↦ ap (flat_map held_upload) same ∙ alone_last said one j there last
+    ]
+
     pub taking_held : (before : List Named) (named : Named) (old new : OpenRound R) (said : Result (UploadState R) UploadEnd) → GreetsNamed was_read opened named said → Holds old said new
-        → old.taken.status ≡ Done → (AreReady old.uploads.items → AreReady new.uploads.items) → Taking before old → Taking (before ++ named ∷ []) new
+        → old.taken.status ≡ Done → (said ≡ Err upload_end.Unopened → old.uploads.items ≡ []) → (AreReady old.uploads.items → AreReady new.uploads.items) → Taking before old → Taking (before ++ named ∷ []) new
     unfolding held_more
-    taking_held before named old new said greets holds whole ready had = record {
+    taking_held before named old new said greets holds whole none ready had = record {
       done = had.done;
       waiting = had.waiting ++ named ∷ [];
       named_are = ap (λ all. all ++ named ∷ []) had.named_are ∙ append_assoc had.done had.waiting (named ∷ []);
       behind = subst (Behind had.done) (sym holds.taken) had.behind;
       are = held_more old new said holds had.are;
       greets = zip_append (GreetsNamed was_read opened) had.waiting (named ∷ []) had.are.said (said ∷ []) had.greets (greets, tt);
+      alone = alone_more had.are.said said (λ shut. sym had.are.uploads ∙ none shut) had.alone;
       ready = ready had.ready;
       going = inl (ap (λ taken. taken.status) holds.taken ∙ whole);
     }
 
     pub end_held : (before : List Named) (named : Named) (old new : OpenRound R) (end : UploadEnd) → GreetsNamed was_read opened named (Err end) → Holds old (Err end) new
-        → old.taken.status ≡ Done → Taking before old → Taking (before ++ named ∷ []) new
-    end_held before named old new end greets holds whole =
-        taking_held before named old new (Err end) greets holds whole (λ ready. subst AreReady (sym (holds.uploads ∙ append-nil old.uploads.items)) ready)
+        → old.taken.status ≡ Done → (end ≡ upload_end.Unopened → old.uploads.items ≡ []) → Taking before old → Taking (before ++ named ∷ []) new
+    end_held before named old new end greets holds whole none =
+        taking_held before named old new (Err end) greets holds whole (λ shut. none (let same : end ≡ upload_end.Unopened = cc in same))
+        (λ ready. subst AreReady (sym (holds.uploads ∙ append-nil old.uploads.items)) ready)
 
     pub upload_held : (before : List Named) (named : Named) (old new : OpenRound R) (upload : UploadState R) → GreetsNamed was_read opened named (Ok upload) → Holds old (Ok upload) new
         → old.taken.status ≡ Done → length old.uploads.items < max_round_lanes → list_any (λ one. bytes_eq upload.client one.client) old.uploads.items ≡ false
         → Taking before old → Taking (before ++ named ∷ []) new
     upload_held before named old new upload greets holds whole few other =
         let (name, is, opens, greeted) = greets in
-        taking_held before named old new (Ok upload) greets holds whole (ready_more old.uploads.items new.uploads.items upload holds.uploads greeted few other)
+        taking_held before named old new (Ok upload) greets holds whole (λ shut. cc) (ready_more old.uploads.items new.uploads.items upload holds.uploads greeted few other)
+
+    pub upload_alone : (before : List Named) (named : Named) (old new : OpenRound R) (upload : UploadState R) → GreetsNamed was_read opened named (Ok upload) → Holds old (Ok upload) new
+        → old.taken.status ≡ Done → old.uploads.items ≡ [] → Taking before old → Taking (before ++ named ∷ []) new
+    upload_alone before named old new upload greets holds whole none =
+        upload_held before named old new upload greets holds whole (subst (λ uploads. length uploads < max_round_lanes) (sym none) (omega arith))
+        (ap (list_any (λ one. bytes_eq upload.client one.client)) none)
 
     -- where memory was refused, a name more is told
     none_waits : (round : OpenRound R) (waiting : List Named) → (round.taken.status ≡ Done → ⊥) → (round.taken.status ≡ Done) ⊎ (waiting ≡ []) → waiting ≡ []
@@ -330,8 +406,8 @@ module _ {R : Type 0} (was_read : R → R → List Answer → Type 0) (opened : 
         let said = had.are.said in
         let told : taken.ends.items ≡ round.taken.ends.items ++ map (held_end gathered) (map held_as said) = closed.told ∙ ap (λ held. round.taken.ends.items ++ map (held_end gathered) held) had.are.held in
         let has : HasTaken (had.done ++ had.waiting) (round.taken.ends.items ++ map (held_end gathered) (map held_as said)) gathered = elim closed.takes [
-          | inl nothing ↦ nothing_more had.done had.waiting round.taken.ends.items earlier gathered said had.behind.has had.greets (sym had.are.uploads ∙ nothing.0) nothing.1
-          | inr read ↦ round_more had.done had.waiting round.taken.ends.items earlier gathered said had.behind.has had.greets
+          | inl nothing ↦ nothing_more had.done had.waiting round.taken.ends.items earlier gathered said had.behind.has had.greets had.alone (sym had.are.uploads ∙ nothing.0) nothing.1
+          | inr read ↦ round_more had.done had.waiting round.taken.ends.items earlier gathered said had.behind.has had.greets had.alone
               (subst (AllByRecursion IsGreeted) had.are.uploads had.ready.greeted) (subst (λ all. RoundIsRead was_read quota earlier all gathered) had.are.uploads read)
         ] in record {
           gathered = gathered;

@@ -1,5 +1,5 @@
 -- What is taken of uploads, round by round, and what is promised of it: this project's own rule.
-use Rattle.std.specs.Prelude.{◌≡◌, ℕ, List, [], ◌∷◌, ◌++◌, map, flat_map, bytes_eq, false, Option, Some, IsSome, Result}
+use Rattle.std.specs.Prelude.{◌≡◌, ℕ, List, [], ◌∷◌, ◌++◌, map, flat_map, take, drop, slice_get, bytes_eq, false, Option, Some, IsSome, Result}
 use Rattle.std.specs.List.{AllByRecursion, AllZip, list_any}
 use Rattle.std.specs.declared.io.Error.{Error}
 use Rattle.indexmap.specs.IndexMap.{get}
@@ -18,7 +18,7 @@ use Rattle.warp_run.specs.declared.status.Status.TheVariants.{Done}
 use Rattle.warp_server.specs.Headline.{docket_of}
 use Rattle.warp_server.specs.Rounds.{HasLog}
 use Rattle.warp_server.specs.program.Callers.{IsGreeted, RoundIsRead}
-use Rattle.replay_folder.specs.Ends.{TakenUpload, FileEnd, IsEndOf, told_end, taken_upload, is_unread}
+use Rattle.replay_folder.specs.Ends.{TakenUpload, FileEnd, unopened, IsEndOf, told_end, taken_upload, is_unread}
 use Rattle.replay_folder.specs.declared.ends.UploadEnd.{UploadEnd}
 use Rattle.replay_folder.specs.declared.names.Named.{Named}
 
@@ -73,3 +73,6 @@ pub record TakesFiles {R : Type 0} (opened : List ℕ → Result R Error → Typ
   pub each : AllZip (IsEndOf opened was_read) named files
   pub taken : in_order rounds ≡ flat_map taken_upload files
   pub whole : status_of gathered ≡ Done → list_any is_unread ends ≡ false
+  -- No upload was open when one was tried that can't be opened: so many rounds had taken all uploads before it.
+  pub alone : (k : ℕ) → slice_get files k ≡ Some unopened
+      → (later : ℕ) × (in_order (drop later rounds) ≡ flat_map taken_upload (take k files))

@@ -1,5 +1,5 @@
 -- What is done with a name, with a round, and what is known behind so many names.
-use Rattle.std.specs.Prelude.{◌≡◌, ℕ, ◌≤◌, List, [], ◌∷◌, ◌++◌, length, map, flat_map, Bool, true, false, bytes_eq, unwrap_or, Option, Some, None, Result, Ok, Err, ◌⊎◌}
+use Rattle.std.specs.Prelude.{◌≡◌, ℕ, ◌≤◌, List, [], ◌∷◌, ◌++◌, length, map, take, slice_get, flat_map, Bool, true, false, bytes_eq, unwrap_or, Option, Some, None, Result, Ok, Err, ◌⊎◌}
 use Rattle.std.specs.List.{AllByRecursion, AllZip, list_any}
 use Rattle.std.specs.Map.{keys_of}
 use Rattle.std.specs.Option.{option_map_or}
@@ -22,8 +22,11 @@ use Rattle.warp_run.specs.declared.status.Status.TheVariants.{Done, BadSite, Out
 use Rattle.site_file.specs.declared.file.NoSiteFile.{NoSiteFile}
 use Rattle.site_file.specs.declared.file.NoSiteFile.TheVariants as none
 use Rattle.replay_folder.specs.declared.replaying.ReplayEnd.{ReplayEnd}
-use Rattle.warp_server.specs.program.Callers.{IsGreeted, RoundIsRead}
-use Rattle.lanes_in_turn.specs.Round.{max_round_lanes, has_twice, clients_of, log_before, without_lanes}
+use Rattle.warp_server.specs.Rounds.{server_room, without_reader}
+use Rattle.warp_server.specs.program.Callers.{IsGreeted, IsReadSo, RoundIsRead, uploads_in}
+use Rattle.upload_lanes.specs.Threads.{AreTaken, read_ahead}
+use Rattle.lanes_in_turn.specs.Round.{max_round_lanes, IsRound, has_twice, clients_of, without_lanes}
+use Rattle.lanes_in_turn.specs.Taking.{begun_lane, never}
 use Rattle.replay_folder.specs.Ends.{TakenUpload, FileEnd, IsEndOf, RefusesHello, told_end, taken_upload, is_unread}
 use Rattle.replay_folder.specs.Taking.{TakesRounds, TakesFiles}
 use Rattle.replay_folder.specs.Replays.{HasReplayed}
@@ -78,6 +81,11 @@ module _ {R : Type 0} where
     pub held : new.held.items ≡ old.held.items
     pub uploads : new.uploads.items ≡ old.uploads.items
 
+  -- one that can't be opened was tried before the first upload of its round was open
+  abbrev pub AreTriedAlone : List (Result (UploadState R) UploadEnd) → Type 0
+  AreTriedAlone said = (k : ℕ) → slice_get said k ≡ Some (Err upload_end.Unopened)
+      → flat_map held_upload (take k said) ≡ []
+
   -- its names are those of its uploads, and those of which it is known what became of them
   pub record AreHeld (round : OpenRound R) : Type 0 where
     pub said : List (Result (UploadState R) UploadEnd)
@@ -101,11 +109,6 @@ module _ {R : Type 0} where
   abbrev pub lane_of_log : OfClient → LaneResult R
   lane_of_log log = record { log = log; taken = 0; end = None; upload = None }
 
-  -- the lane of an upload's client before the round, where this is known of clients
-  abbrev pub lane_before : (List ℕ → Option (LaneResult R)) → ℕ → UploadState R → List ℕ × LaneResult R
-  lane_before known quota upload =
-      (upload.client, lane_of_log (log_before quota upload (known upload.client)))
-
   abbrev pub HasClient : List (List ℕ × LaneResult R) → List ℕ → Type 0
   HasClient entries client = list_any (bytes_eq client) (keys_of entries) ≡ true
 
@@ -115,12 +118,15 @@ module _ {R : Type 0} where
       → AllByRecursion (HasClient entries) clients → insert_all bytes_eq new entries ≡ insert_all bytes_eq old entries
 
   module _ (was_read : R → R → List Answer → Type 0) (quota : ℕ) where
-    -- a round of these uploads, behind what is known of their own clients alone
+    -- a round of these uploads, behind what is known of their own clients alone, and then they were let go
     pub record IsOwnRound (known : List ℕ → Option (LaneResult R)) (uploads : List (UploadState R))
         (own : Gathered R) : Type 0 where
-      pub before : Gathered R
-      pub lanes : before.clients.entries ≡ map (lane_before known quota) uploads
-      pub read : RoundIsRead was_read quota before uploads own
+      pub is_round : IsRound uploads
+      pub lanes : List (List ℕ × LaneResult R)
+      pub taken : AreTaken never (read_ahead server_room (length uploads)) (map (begun_lane known quota) uploads) lanes
+          own.stop
+      pub read : AllByRecursion (IsReadSo was_read) (uploads_in lanes)
+      pub clients_are : own.clients.entries ≡ map (λ entry. (entry.0, without_reader entry.1)) lanes
 
     -- a round of them, or of none nothing
     abbrev pub TakesUploads : Gathered R → List (UploadState R) → Gathered R → Type 0
@@ -183,6 +189,7 @@ module _ {R : Type 0} (was_read : R → R → List Answer → Type 0) where
         pub behind : HasTakenSoFar done round.taken
         pub are : AreHeld round
         pub greets : AllZip GreetsNamed waiting are.said
+        pub alone : AreTriedAlone are.said
         pub ready : AreReady round.uploads.items
         pub going : (round.taken.status ≡ Done) ⊎ (waiting ≡ [])
 

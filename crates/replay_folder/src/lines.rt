@@ -1,72 +1,100 @@
-//! The report's line for each upload.
-ghost use Rattle.std.specs.Prelude.{◌≡◌, ◌++◌, codes, length, IfOk, OnOk, string_bytes};
-ghost use Rattle.warp_run.specs.Report.{json_string};
+//! The report, with a line for each upload.
+ghost use Rattle.std.specs.Prelude.{◌≡◌, ◌++◌, codes, length};
+ghost use Rattle.byte_streams.specs.Writing.{writes_of};
+ghost use Rattle.warp_run.specs.Buffer.{AddsText};
+ghost use Rattle.warp_run.specs.Report.{WritesReport, json_string, report_with};
 ghost use Rattle.replay_folder.specs.Names.{named_name};
 ghost use Rattle.replay_folder.specs.FolderReport.{hello_word, upload_line, upload_lines};
 
 use crate::ends::UploadEnd;
 use crate::names::Named;
-use page_tree::NoMemory;
+use byte_streams::Sink;
 use std::alloc::Global;
 use upload_reader::HelloFault;
-use warp_run::{add_end, add_quoted};
+use warp_run::{
+    Repaired, ReportBuffer, ReportFault, add_end, add_lane_fault, add_quoted, add_repaired,
+    add_stop,
+};
 
-/// Those of all, in their order.
-pub(crate) fn compose_lines(
+/// Writes the report of a run, with the lines of the uploads behind the first.
+pub(crate) fn report_folder<W: Sink>(
     alloc: Global,
     named: &[Named],
     ends: &[UploadEnd],
-) -> Result<String, NoMemory>
+    repaired: &Repaired,
+    writer: &mut W,
+) -> Result<(), ReportFault>
     requires { length named.now ≡ length ends.now }
-    ensures { IfOk result (λ text. string_bytes text ≡ upload_lines named.now ends.now) }
+    ensures { WritesReport (writes_of W.puts W.contents writer.old writer.new)
+        (report_with (upload_lines named.now ends.now) repaired.now) result }
 {
-    let mut text = String::new(alloc);
-    for k in 0..named.len() {
-        add_upload(&mut text, &named[k], &ends[k])?;
-    }
-    Ok(text)
+    let mut buffer = ReportBuffer::new(alloc)?;
+    add_stop(&mut buffer, writer, repaired.stop);
+    add_uploads(&mut buffer, writer, named, ends);
+    add_repaired(&mut buffer, writer, repaired);
+    buffer.finish(writer)
 }
 
-fn add_upload(text: &mut String, named: &Named, end: &UploadEnd) -> Result<(), NoMemory>
-    ensures { OnOk result (string_bytes text.new ≡ string_bytes text.old ++ upload_line (named.now, end.now)) }
+// Those of all, in their order.
+fn add_uploads<W: Sink>(
+    buffer: &mut ReportBuffer,
+    writer: &mut W,
+    named: &[Named],
+    ends: &[UploadEnd],
+)
+    requires { length named.now ≡ length ends.now }
+    ensures { AddsText W.puts W.contents writer.old buffer.old writer.new buffer.new (upload_lines named.now ends.now) }
 {
-    add_name(text, named)?;
+    for k in 0..named.len() {
+        add_upload(buffer, writer, &named[k], &ends[k]);
+    }
+}
+
+fn add_upload<W: Sink>(buffer: &mut ReportBuffer, writer: &mut W, named: &Named, end: &UploadEnd)
+    ensures { AddsText W.puts W.contents writer.old buffer.old writer.new buffer.new (upload_line (named.now, end.now)) }
+{
+    add_name(buffer, writer, named);
     match end {
-        UploadEnd::Unopened => text.push_str(" U5\n"),
+        UploadEnd::Unopened => buffer.add(writer, " U5\n"),
         UploadEnd::NoHello(fault) => {
-            text.push(' ')?;
-            add_hello_word(text, *fault)?;
-            text.push('\n')
+            buffer.add(writer, " ");
+            add_hello_word(buffer, writer, *fault);
+            buffer.add(writer, "\n");
         }
         UploadEnd::Taken { client, taken, end } => {
-            let client = client.text();
-            write!(text, " client {client} taken {taken} end ")?;
-            add_end(text, *end)?;
-            text.push('\n')
+            buffer.add(writer, " client ");
+            buffer.add(writer, client.text());
+            buffer.add_with_number(writer, " taken ", *taken);
+            buffer.add(writer, " end ");
+            add_end(buffer, writer, *end);
+            buffer.add(writer, "\n");
         }
-        UploadEnd::Unread => text.push_str(" none\n"),
+        UploadEnd::Unread => buffer.add(writer, " none\n"),
     }
 }
 
-fn add_name(text: &mut String, named: &Named) -> Result<(), NoMemory>
-    ensures { OnOk result (string_bytes text.new
-        ≡ string_bytes text.old ++ (codes "upload " ++ json_string (named_name named.now))) }
+fn add_name<W: Sink>(buffer: &mut ReportBuffer, writer: &mut W, named: &Named)
+    ensures { AddsText W.puts W.contents writer.old buffer.old writer.new buffer.new
+        (codes "upload " ++ json_string (named_name named.now)) }
 {
-    text.push_str("upload ")?;
+    buffer.add(writer, "upload ");
     match named {
-        Named::File(name) => add_quoted(text, name.as_str()),
-        Named::Unlisted(word) => add_quoted(text, word.as_str()),
+        Named::File(name) => add_quoted(buffer, writer, name.as_str()),
+        Named::Unlisted(word) => add_quoted(buffer, writer, word.as_str()),
     }
 }
 
 // Why an upload doesn't begin.
-fn add_hello_word(text: &mut String, fault: HelloFault) -> Result<(), NoMemory>
-    ensures { OnOk result (string_bytes text.new ≡ string_bytes text.old ++ hello_word fault) }
+fn add_hello_word<W: Sink>(buffer: &mut ReportBuffer, writer: &mut W, fault: HelloFault)
+    ensures { AddsText W.puts W.contents writer.old buffer.old writer.new buffer.new (hello_word fault) }
 {
     match fault {
-        HelloFault::Line { line, fault } => write!(text, "U3.{fault}@{line}"),
-        HelloFault::BadClient => text.push_str("U1"),
-        HelloFault::NoHello => text.push_str("U2"),
-        HelloFault::NoMemory => text.push_str("U4"),
+        HelloFault::Line { line, fault } => {
+            buffer.add(writer, "U3.");
+            add_lane_fault(buffer, writer, fault, line);
+        }
+        HelloFault::BadClient => buffer.add(writer, "U1"),
+        HelloFault::NoHello => buffer.add(writer, "U2"),
+        HelloFault::NoMemory => buffer.add(writer, "U4"),
     }
 }

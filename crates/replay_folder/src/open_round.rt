@@ -1,8 +1,9 @@
 //! The round that is open: uploads that wait until it is taken, and what became of the names among them.
-ghost use Rattle.std.specs.Prelude.{◌≡◌, [], Ok, Err, bytes_eq, IfOk};
+ghost use Rattle.std.specs.Prelude.{◌≡◌, [], Ok, Err, false, bytes_eq, IfOk};
 ghost use Rattle.std.specs.List.{list_any};
 ghost use Rattle.lanes_in_turn.specs.declared.gathered.Stop.TheVariants.{None};
 ghost use Rattle.warp_run.specs.declared.status.Status.TheVariants.{Done};
+ghost use Rattle.replay_folder.specs.declared.ends.UploadEnd.TheVariants.{Unopened};
 ghost use Rattle.replay_folder.specs.inside.{Holds, LeavesUnread, is_short};
 
 use crate::ends::UploadEnd;
@@ -77,6 +78,18 @@ pub(crate) fn is_short(status: Status) -> bool
     match status {
         Status::Done => false,
         _ => true,
+    }
+}
+
+/// Whether a file of which that became may yet be opened: once the uploads of the round are let go, where there are any.
+pub(crate) fn may_open_alone<R: Source>(uploads: &[Upload<R>], end: &UploadEnd) -> bool
+    ensures { result ≡ false → end.now ≡ Unopened → uploads.now ≡ [] }
+{
+    match end {
+        UploadEnd::Unopened => !uploads.is_empty(),
+        UploadEnd::NoHello(_) => false,
+        UploadEnd::Taken { .. } => false,
+        UploadEnd::Unread => false,
     }
 }
 

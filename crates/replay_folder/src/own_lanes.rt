@@ -1,58 +1,90 @@
 //! The lanes of a round's own clients: their logs are moved out of those of all clients, and put back behind the round. So a round costs what its own uploads cost.
-ghost use Rattle.std.specs.Prelude.{◌≡◌, ℕ, List, [], ◌∷◌, false, map, bytes_eq, IfOk, OnOk};
+ghost use Rattle.std.specs.Prelude.{◌≡◌, ◌≢◌, ℕ, List, [], ◌∷◌, false, length, map, bytes_eq, IfOk, IfSome, OnOk};
+ghost use Rattle.std.specs.List.{AllByRecursion};
 ghost use Rattle.std.specs.Option.{option_map_or};
+ghost use Rattle.byte_streams.specs.Reading.{WasRead};
 ghost use Rattle.indexmap.specs.IndexMap.{get, insert_all};
-ghost use Rattle.lanes_in_turn.specs.Round.{clients_of, has_twice, new_log, without_lanes};
-ghost use Rattle.lanes_in_turn.specs.declared.gathered.Stop.TheVariants.{None};
-ghost use Rattle.replay_folder.specs.inside.{IsSameBehind, lane_before, lane_of_log};
+ghost use Rattle.upload_reader.specs.Upload.{IsUntouched};
+ghost use Rattle.lanes_in_turn.specs.Round.{AreRoundLanes, behind_log, clients_of, has_twice, new_log, without_lanes};
+ghost use Rattle.lanes_in_turn.specs.Taking.{IsFreshLane, begun_lane, never, new_lane};
+ghost use Rattle.upload_lanes.specs.Threads.{AreTaken, read_ahead};
+ghost use Rattle.warp_server.specs.Rounds.{server_room, without_reader};
+ghost use Rattle.warp_server.specs.program.Callers.{IsReadSo, uploads_in};
+ghost use Rattle.replay_folder.specs.inside.{AreReady, IsOwnRound, IsSameBehind, lane_of_log};
 
 use byte_streams::Source;
 use client_log::{ClientLog, Quota};
 use indexmap::IndexMap;
+use lane_queue::Room;
+use lanes_in_turn::Asks;
 use page_tree::NoMemory;
 use std::alloc::Global;
-use upload_lanes::{Gathered, LaneResult};
+use std::sync::Wait;
+use std::thread::Threads;
+use upload_lanes::{Gathered, LaneResult, Stop, take_lanes};
 use upload_reader::{Client, Upload};
 
-/// The lanes of these uploads' clients before the round, in the order of the uploads.
-pub(crate) fn move_out<F: Source + Drop>(
-    alloc: Global,
+/// How many messages wait in each queue of a round, at the most: as many as the server has.
+const ROOM: usize = 1_024;
+
+/// A round of these, some uploads, each behind the log of its client, which is moved out of those of all clients. Their sources are let go.
+pub(crate) fn take_own<F: Source + Drop + Send, T: AllocGlobal + Threads + Wait + Sync>(
+    rt: &T,
     clients: &mut IndexMap<Client, LaneResult<F>>,
-    uploads: &[Upload<F>],
+    uploads: Vec<Upload<F>>,
     quota: Quota,
 ) -> Result<Gathered<F>, NoMemory>
-    requires apart { has_twice (clients_of uploads.now) ≡ false }
-    ensures lanes { IfOk result (λ before.
-        before.clients.entries ≡ map (lane_before (get bytes_eq clients.old) quota) uploads.now) }
-    ensures stop { IfOk result (λ before. before.stop ≡ None) }
-    ensures others { OnOk result (IsSameBehind (clients_of uploads.now) clients.old.entries clients.new.entries) }
+    requires ready { AreReady uploads.items }
+    requires some { uploads.items ≢ [] }
+    ensures own { IfOk result
+        (IsOwnRound (WasRead F.answers F.remaining) quota (get bytes_eq clients.old) uploads.items) }
+    ensures others { OnOk result (IsSameBehind (clients_of uploads.items) clients.old.entries clients.new.entries) }
 {
-    let lanes = move_all(alloc, clients, uploads, quota)?;
-    let mut before = Gathered::new(alloc);
-    put_all(&mut before.clients, lanes)?;
-    Ok(before)
+    let fresh = move_out(rt.alloc(), clients, uploads, quota)?;
+    let (lanes, stop) = take_to_ends(rt, fresh)?;
+    Ok(Gathered {
+        clients: close_all(rt.alloc(), lanes)?,
+        stop,
+    })
 }
 
-fn move_all<F: Source + Drop>(
+// ---- the round begins
+
+// The lanes of these uploads, of which nothing was taken.
+fn move_out<F: Source + Drop>(
     alloc: Global,
     clients: &mut IndexMap<Client, LaneResult<F>>,
-    uploads: &[Upload<F>],
+    uploads: Vec<Upload<F>>,
     quota: Quota,
 ) -> Result<Vec<(Client, LaneResult<F>)>, NoMemory>
-    requires apart { has_twice (clients_of uploads.now) ≡ false }
+    requires untouched { AllByRecursion IsUntouched uploads.items }
+    requires apart { has_twice (clients_of uploads.items) ≡ false }
     ensures lanes { IfOk result (λ lanes.
-        lanes.items ≡ map (lane_before (get bytes_eq clients.old) quota) uploads.now) }
-    ensures others { OnOk result (IsSameBehind (clients_of uploads.now) clients.old.entries clients.new.entries) }
+        lanes.items ≡ map (begun_lane (get bytes_eq clients.old) quota) uploads.items) }
+    ensures others { OnOk result (IsSameBehind (clients_of uploads.items) clients.old.entries clients.new.entries) }
 {
-    let mut lanes = Vec::new(alloc);
-    let mut rest = uploads;
-    while let Some((upload, others)) = rest.split_first() {
-        let client = upload.client();
-        let log = move_log(alloc, clients, client, quota)?;
-        lanes.push((client.copy()?, lane_of_log(log)))?;
-        rest = others;
+    let mut lanes = Vec::with_capacity(alloc, uploads.len())?;
+    for upload in uploads {
+        lanes.push(move_lane(alloc, clients, upload, quota)?)?;
     }
     Ok(lanes)
+}
+
+fn move_lane<F: Source + Drop>(
+    alloc: Global,
+    clients: &mut IndexMap<Client, LaneResult<F>>,
+    upload: Upload<F>,
+    quota: Quota,
+) -> Result<(Client, LaneResult<F>), NoMemory>
+    requires untouched { IsUntouched upload }
+    ensures lane { IfOk result (λ lane. lane ≡ begun_lane (get bytes_eq clients.old) quota upload) }
+    ensures others { OnOk result ((other : List ℕ) → bytes_eq upload.client other ≡ false
+        → get bytes_eq clients.new other ≡ get bytes_eq clients.old other) }
+    ensures same { OnOk result (IsSameBehind (upload.client ∷ []) clients.old.entries clients.new.entries) }
+{
+    let client = upload.client().copy()?;
+    let log = move_log(alloc, clients, &client, quota)?;
+    Ok((client, begin_behind(log, upload)?))
 }
 
 // The client's log: a new one, where there is none, else a new one stays in its place.
@@ -78,28 +110,96 @@ fn move_log<F: Source + Drop>(
     }
 }
 
-// Of which nothing was taken in the last round.
-fn lane_of_log<F: Source>(log: ClientLog) -> LaneResult<F>
-    ensures { result ≡ lane_of_log log }
+// Behind that log. Of the log itself nothing is copied, but of its session the numbers of the visits.
+fn begin_behind<F: Source + Drop>(
+    log: ClientLog,
+    upload: Upload<F>,
+) -> Result<LaneResult<F>, NoMemory>
+    requires untouched { IsUntouched upload }
+    ensures { IfOk result (λ lane. lane ≡ new_lane log (behind_log log upload)) }
 {
-    LaneResult {
+    let session = log.session().copy()?;
+    Ok(LaneResult {
         log,
         taken: 0,
         end: None,
+        upload: Some(upload.resume(session)),
+    })
+}
+
+// ---- it is taken
+
+// To the ends of its lanes: the question whether to stop is never answered by true.
+fn take_to_ends<F: Source + Drop + Send, T: AllocGlobal + Threads + Wait + Sync>(
+    rt: &T,
+    lanes: Vec<(Client, LaneResult<F>)>,
+) -> Result<(Vec<(Client, LaneResult<F>)>, Stop), NoMemory>
+    requires fresh { AllByRecursion IsFreshLane lanes.items }
+    requires lanes { AreRoundLanes (length lanes.items) }
+    ensures { IfOk result (λ taken.
+        AreTaken never (read_ahead server_room (length lanes.items)) lanes.items taken.0.items taken.1) }
+{
+    let halt = Asks {
+        halt: &|_items: u64| false,
+    };
+    take_lanes(rt, rt.alloc(), lanes, room(), &halt)
+}
+
+fn room() -> Room
+    ensures { result ≡ server_room }
+{
+    let Ok(room) = Room::new(ROOM) else {
+        unreachable!()
+    };
+    room
+}
+
+// ---- it is over
+
+// The sources of all lanes are let go.
+fn close_all<F: Source + Drop>(
+    alloc: Global,
+    lanes: Vec<(Client, LaneResult<F>)>,
+) -> Result<IndexMap<Client, LaneResult<F>>, NoMemory>
+    ensures clients { IfOk result (λ own. own.entries
+        ≡ insert_all bytes_eq [] (map (λ entry. (entry.0, without_reader entry.1)) lanes.items)) }
+    ensures read { IfOk result (λ _. AllByRecursion (IsReadSo (WasRead F.answers F.remaining)) (uploads_in lanes.items)) }
+{
+    let mut own = IndexMap::new(alloc);
+    for (client, lane) in lanes {
+        own.insert(client, without_reader(lane))?;
+    }
+    Ok(own)
+}
+
+fn without_reader<F: Source + Drop>(lane: LaneResult<F>) -> LaneResult<F>
+    ensures lane { result ≡ without_reader lane }
+    ensures read { IfSome lane.upload (IsReadSo (WasRead F.answers F.remaining)) }
+{
+    let LaneResult {
+        log,
+        taken,
+        end,
+        upload,
+    } = lane;
+    close(upload);
+    LaneResult {
+        log,
+        taken,
+        end,
         upload: None,
     }
 }
 
-fn put_all<F: Source + Drop>(
-    clients: &mut IndexMap<Client, LaneResult<F>>,
-    lanes: Vec<(Client, LaneResult<F>)>,
-) -> Result<(), NoMemory>
-    ensures { OnOk result (clients.new.entries ≡ insert_all bytes_eq clients.old.entries lanes.items) }
+fn close<F: Source + Drop>(upload: Option<Upload<F>>)
+    ensures { IfSome upload (IsReadSo (WasRead F.answers F.remaining)) }
 {
-    for (client, lane) in lanes {
-        clients.insert(client, lane)?;
+    match upload {
+        Some(upload) => {
+            let _source = upload.into_reader();
+        }
+        None => {}
     }
-    Ok(())
 }
 
 /// Puts the logs of these lanes among those of all clients.
@@ -113,4 +213,16 @@ pub(crate) fn put_back<F: Source + Drop>(
         clients.insert(client, lane_of_log(lane.log))?;
     }
     Ok(())
+}
+
+// Of which nothing was taken in the last round.
+fn lane_of_log<F: Source>(log: ClientLog) -> LaneResult<F>
+    ensures { result ≡ lane_of_log log }
+{
+    LaneResult {
+        log,
+        taken: 0,
+        end: None,
+        upload: None,
+    }
 }

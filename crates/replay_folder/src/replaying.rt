@@ -14,7 +14,7 @@ ghost use Rattle.replay_folder.specs.inside.{Reports, no_site_end};
 
 use crate::concluding::repair_folder;
 use crate::ends::folder_status;
-use crate::lines::compose_lines;
+use crate::lines::report_folder;
 use crate::machine::{Folders, ProgressLine};
 use crate::names::{Named, name_uploads};
 use crate::open_round::TakenFiles;
@@ -31,7 +31,7 @@ use std::rt::Files;
 use std::sync::Wait;
 use std::thread::Threads;
 use std::time::Clock;
-use warp_run::{ReportFault, Status, report_with, written_status};
+use warp_run::{ReportFault, Status, written_status};
 use warp_server::{Replaying, Words};
 
 /// How replaying ended.
@@ -152,8 +152,7 @@ fn report_taken<F: Source + Drop + Send, W: Sink, T: AllocGlobal + Threads + Syn
 {
     let ends = taken.ends.as_slice();
     let repaired = repair_folder(rt, site, ends, &taken.gathered)?;
-    let lines = compose_lines(rt.alloc(), named, ends)?;
-    let report = report_with(rt.alloc(), lines.as_str(), &repaired, writer);
+    let report = report_folder(rt.alloc(), named, ends, &repaired, writer);
     Ok((folder_status(taken.status, ends), report))
 }
 

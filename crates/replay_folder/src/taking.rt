@@ -1,11 +1,10 @@
 //! Uploads are taken to their ends, round by round.
-ghost use Rattle.std.specs.Prelude.{◌≡◌, ◌≢◌, ◌<◌, List, [], ◌∷◌, ◌++◌, ◌⊎◌, length, map, bytes_eq, false, IfOk, OnOk};
+ghost use Rattle.std.specs.Prelude.{◌≡◌, ◌<◌, ℕ, List, [], ◌∷◌, ◌++◌, ◌⊎◌, length, map, bytes_eq, false, IfOk};
 ghost use Rattle.std.specs.List.{list_any};
 ghost use Rattle.byte_streams.specs.Reading.{WasRead};
-ghost use Rattle.indexmap.specs.IndexMap.{get};
-ghost use Rattle.lanes_in_turn.specs.Round.{clients_of, max_round_lanes};
+ghost use Rattle.lanes_in_turn.specs.Round.{max_round_lanes};
 ghost use Rattle.warp_run.specs.declared.status.Status.TheVariants.{Done};
-ghost use Rattle.replay_folder.specs.inside.{AreReady, AreHeld, IsOwnRound, IsSameBehind, Closes, MakesRoom, IsTaking, HasTakenSoFar, held_end, told_by_lane};
+ghost use Rattle.replay_folder.specs.inside.{AreReady, AreHeld, Closes, MakesRoom, IsTaking, HasTakenSoFar, held_end, told_by_lane};
 ghost use Rattle.replay_folder.specs.declared.names.Named.{Named as PlainNamed};
 
 use crate::ends::UploadEnd;
@@ -13,22 +12,20 @@ use crate::greeting::greet_named;
 use crate::names::Named;
 use crate::open_round::{
     OpenRound, RoundName, TakenFiles, first_round, has_client, hold_end, hold_upload, is_short,
-    leave_unread, next_round,
+    leave_unread, may_open_alone, next_round,
 };
 use crate::opens::{OpensUploads, Watches};
-use crate::own_lanes::{move_out, put_back};
+use crate::own_lanes::{put_back, take_own};
 use byte_streams::Source;
 use client_log::Quota;
-use indexmap::IndexMap;
 use lanes_in_turn::MAX_ROUND_LANES;
 use page_tree::NoMemory;
-use std::alloc::AllocError;
+use std::alloc::Global;
 use std::sync::Wait;
 use std::thread::Threads;
-use upload_lanes::{GatherFault, Gathered, LaneResult};
-use upload_reader::{Client, Upload};
+use upload_lanes::Gathered;
+use upload_reader::Client;
 use warp_run::status_of;
-use warp_server::take_round;
 
 /// Takes the uploads of these names in their order, each behind what its client uploaded before, those that follow one another at once as far as a round holds
 /// them. Where memory is refused while messages are taken, the rest is left unread.
@@ -55,7 +52,7 @@ pub(crate) fn take_files<
     close_round(rt, quota, round)
 }
 
-// One more.
+// One more. Where it can't be opened beside the uploads of the round, these are taken first, and it is tried once more.
 fn take_named<
     F: Source + Drop + Send,
     O: OpensUploads<File = F>,
@@ -78,7 +75,12 @@ fn take_named<
         return leave_unread(round);
     }
     match greet_named(rt.alloc(), opener, named)? {
-        Err(end) => hold_end(round, end),
+        Err(end) => if may_open_alone(round.uploads.as_slice(), &end) {
+            let next = open_next(rt, quota, round)?;
+            take_alone(rt.alloc(), opener, named, next)
+        } else {
+            hold_end(round, end)
+        },
         Ok(upload) => {
             let round = make_room(rt, quota, round, upload.client())?;
             if is_short(round.taken.status) {
@@ -87,6 +89,27 @@ fn take_named<
                 hold_upload(round, upload)
             }
         }
+    }
+}
+
+// One more, where no upload is open.
+fn take_alone<F: Source + Drop, O: OpensUploads<File = F>>(
+    alloc: Global,
+    opener: &O,
+    named: &Named,
+    round: OpenRound<F>,
+) -> Result<OpenRound<F>, NoMemory>
+    requires none { round.uploads.items ≡ [] }
+    ensures { IfOk result (λ more. (quota : ℕ) (before : List PlainNamed)
+        → IsTaking (WasRead F.answers F.remaining) (O.opened opener.now) quota before round
+        → IsTaking (WasRead F.answers F.remaining) (O.opened opener.now) quota (before ++ named.now ∷ []) more) }
+{
+    if is_short(round.taken.status) {
+        return leave_unread(round);
+    }
+    match greet_named(alloc, opener, named)? {
+        Err(end) => hold_end(round, end),
+        Ok(upload) => hold_upload(round, upload),
     }
 }
 
@@ -185,30 +208,6 @@ fn close_round<F: Source + Drop + Send, T: AllocGlobal + Threads + Wait + Sync>(
         ends,
         status,
     })
-}
-
-// A round of these, some uploads, behind their own clients' logs alone: those are moved out of the others.
-fn take_own<F: Source + Drop + Send, T: AllocGlobal + Threads + Wait + Sync>(
-    rt: &T,
-    clients: &mut IndexMap<Client, LaneResult<F>>,
-    uploads: Vec<Upload<F>>,
-    quota: Quota,
-) -> Result<Gathered<F>, NoMemory>
-    requires ready { AreReady uploads.items }
-    requires some { uploads.items ≢ [] }
-    ensures own { IfOk result
-        (IsOwnRound (WasRead F.answers F.remaining) quota (get bytes_eq clients.old) uploads.items) }
-    ensures others { OnOk result (IsSameBehind (clients_of uploads.items) clients.old.entries clients.new.entries) }
-{
-    let before = move_out(rt.alloc(), clients, uploads.as_slice(), quota)?;
-    match take_round(rt, before, uploads, quota) {
-        Ok(own) => Ok(own),
-        Err(fault) => match fault {
-            GatherFault::BadLanes => unreachable!(),
-            GatherFault::DuplicateClient => unreachable!(),
-            GatherFault::NoMemory => Err(AllocError),
-        },
-    }
 }
 
 // What became of these, behind those.

@@ -1,10 +1,12 @@
-//! Replaying files and folders, by whoever opens them: with readers of seven bytes a read, one that fails, and a folder that can't be listed.
+//! Replaying files and folders, by whoever opens them: with readers of seven bytes a read, one that fails, a folder that can't be listed, and files that can't be
+//! opened at first.
 ghost use Rattle.std.specs.Prelude.{⊤};
 
 use byte_streams::Fed;
 use page_tree::Text;
 use replay_folder::{OpensUploads, Watches, replay_by};
 use std::alloc::{AllocError, Global};
+use std::cell::Cell;
 use std::io;
 use std::io::ErrorKind;
 use std::test::Fail;
@@ -12,10 +14,12 @@ use stream_fakes::lines::{BYE, CLICK, END, HELLO, LOAD, ONE_CLICK, SECOND_CLICK,
 use stream_fakes::{Drip, Runs, Sips};
 use warp_server::{Listed, Replaying, Status, Told, Words};
 
-/// Has these files and folders.
+/// Has these files and folders. From one call on and up to another it opens no file.
 #[derive(Drop)]
 struct Shelf {
     alloc: Global,
+    calls: Cell<u32>,
+    refused: (u32, u32),
 }
 
 /// What a file holds. Rows name it, since a table of whole texts is dear to prove.
@@ -66,6 +70,11 @@ impl OpensUploads for Shelf {
     fn open(&self, path: &str) -> io::Result<Fed<Drip>>
         ensures { ⊤ }
     {
+        let call = self.calls.get();
+        self.calls.set(call.saturating_add(1));
+        if self.refused.0 <= call && call < self.refused.1 {
+            return Err(io::Error::from(ErrorKind::Other));
+        }
         for &(name, what, gap) in FILES {
             if name == path {
                 return open_shelved(self.alloc, what, gap);
@@ -120,6 +129,7 @@ enum AsWritten {
     Nothing,
     OfFolder,
     BesideBadOnes,
+    WithoutOne,
 }
 
 const OF_FOLDER: &str =
@@ -128,11 +138,15 @@ const OF_FOLDER: &str =
 const BESIDE_BAD_ONES: &str =
     "stop none\nupload \"failing\" U3.E1@1\nupload \"hidden\" U5\nupload \"f/c.jsonl\" client c2 taken 3 end bye\nupload \"nowhere\" U5\nclient c2 taken 3 end bye cost 187 lost 0\nvisit 1 done\nload 0 \"/a\"\nget 1 \"/b\"\n";
 
+const WITHOUT_ONE: &str =
+    "stop none\nupload \"f/b.jsonl\" client c1 taken 1 end bye\nupload \"f/c.jsonl\" U5\nupload \"f/d.jsonl\" client c1 taken 2 end bye\nclient c1 taken 2 end bye cost 187 lost 0\nvisit 1 done\nload 0 \"/a\"\nget 1 \"/b\"\n";
+
 fn text_of(report: AsWritten) -> &'static str {
     match report {
         AsWritten::Nothing => "",
         AsWritten::OfFolder => OF_FOLDER,
         AsWritten::BesideBadOnes => BESIDE_BAD_ONES,
+        AsWritten::WithoutOne => WITHOUT_ONE,
     }
 }
 
@@ -156,6 +170,13 @@ const ROWS: &[Row] = &[
     ),
 ];
 
+// Which calls open no file, how it ends, and what is written. The first call is the site's.
+const REFUSED: &[(u32, u32, Status, AsWritten)] = &[
+    (2, 3, Status::Done, AsWritten::OfFolder),
+    (3, 4, Status::Done, AsWritten::OfFolder),
+    (2, 4, Status::BadHello, AsWritten::WithoutOne),
+];
+
 fn words(alloc: Global, words: &[&str]) -> Result<Words, Fail> {
     let mut all = Vec::new(alloc);
     for word in words {
@@ -168,8 +189,16 @@ fn words(alloc: Global, words: &[&str]) -> Result<Words, Fail> {
     }
 }
 
-fn replays(rt: &impl Runs, (site, uploads, status, report): Row) -> Result<(), Fail> {
-    let shelf = Shelf { alloc: rt.alloc() };
+fn replays(
+    rt: &impl Runs,
+    (site, uploads, status, report): Row,
+    refused: (u32, u32),
+) -> Result<(), Fail> {
+    let shelf = Shelf {
+        alloc: rt.alloc(),
+        calls: Cell::new(0),
+        refused,
+    };
     let asked = Replaying {
         site_file: Text::from_str(rt.alloc(), site)?,
         uploads: words(rt.alloc(), uploads)?,
@@ -188,7 +217,16 @@ fn replays(rt: &impl Runs, (site, uploads, status, report): Row) -> Result<(), F
 #[test]
 fn replays_what_its_words_name(rt: HostRuntime) -> Result<(), Fail> {
     for &row in ROWS {
-        replays(&rt, row)?;
+        replays(&rt, row, (0, 0))?;
+    }
+    Ok(())
+}
+
+// U5: only where no other is open.
+#[test]
+fn tries_a_file_again_once_no_other_is_open(rt: HostRuntime) -> Result<(), Fail> {
+    for &(from, to, status, report) in REFUSED {
+        replays(&rt, ("site", &["f"], status, report), (from, to))?;
     }
     Ok(())
 }

@@ -17,4 +17,4 @@ mod uploader;
 pub use lanes_in_turn::{
     GatherFault, Gathered, LaneResult, RefusedRound, Stop, gather_again_in_order, gather_in_order,
 };
-pub use threads::{gather, gather_again};
+pub use threads::{gather, gather_again, take_lanes};

@@ -80,8 +80,9 @@ pub fn gather_again<
     }
 }
 
-// Takes these lanes, side by side where there are more than one.
-fn take_lanes<H: Halt, R: Source + Drop + Send, T: Threads + Wait + Sync>(
+/// Takes the lanes of a round, of which nothing was taken, side by side where there are more than one. They are moved, with their logs: where memory, or the
+/// start of a thread, is refused before the first message was taken, they are gone.
+pub fn take_lanes<H: Halt, R: Source + Drop + Send, T: Threads + Wait + Sync>(
     rt: &T,
     alloc: Global,
     lanes: Vec<(Client, LaneResult<R>)>,

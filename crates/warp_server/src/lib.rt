@@ -9,7 +9,7 @@ mod program;
 
 pub use program::{
     AnswerFault, Answered, Call, CallFault, Callers, Listening, MAX_ROUNDS, Opens, Replaying,
-    Words, accept_call, answer, listen, listen_by, serve, serve_callers, take_round,
+    Words, accept_call, answer, listen, listen_by, serve, serve_callers,
 };
 pub use upload_lanes::{
     GatherFault, Gathered, LaneResult, RefusedRound, Stop, gather, gather_again,

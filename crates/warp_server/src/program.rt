@@ -15,6 +15,5 @@ pub use call::{Call, CallFault, Listening, MAX_ROUNDS, Replaying, accept_call};
 pub use callers::Callers;
 pub use listening::{listen, listen_by};
 pub use opens::Opens;
-pub use rounds::take_round;
 pub use serving::{serve, serve_callers};
 pub use words::Words;

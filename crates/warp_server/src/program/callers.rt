@@ -1,8 +1,5 @@
 //! Whoever brings uploads, one after another.
-ghost use Rattle.std.specs.Prelude.{⊤, IfSome, IfNone};
-
-use byte_streams::Source;
-use std::marker::PhantomData;
+ghost use Rattle.std.specs.Prelude.{IfSome, IfNone};
 
 /// Callers that come one after another, each with the source of an upload, and are given it back when its round is over. Contracts see what they say of
 /// themselves by three relations, each between what they were before a call and what they are behind it. So as much is known of who came as these say: of a
@@ -26,37 +23,4 @@ pub trait Callers {
     /// Takes back a source of which the round is over.
     fn take_back(&mut self, reader: Self::Reader)
         ensures { takes_back self.old reader self.new };
-}
-
-/// Callers of whom nobody comes, and who let go what they are given back.
-#[derive(Drop)]
-pub(crate) struct Closing<R> {
-    of: PhantomData<R>,
-}
-
-impl<R> Closing<R> {
-    pub(crate) fn new() -> Closing<R> {
-        Closing { of: PhantomData }
-    }
-}
-
-impl<R: Source + Drop> Callers for Closing<R> {
-    type Reader = R;
-
-    ghost brings = { λ _ _ _. ⊤ };
-
-    ghost brings_none = { λ _ _. ⊤ };
-
-    ghost takes_back = { λ _ _ _. ⊤ };
-
-    fn accept(&mut self) -> Option<R>
-        ensures brought { IfSome result (λ _. ⊤) }
-        ensures none { IfNone result ⊤ }
-    {
-        None
-    }
-
-    fn take_back(&mut self, _reader: R)
-        ensures { ⊤ }
-    {}
 }

@@ -1,23 +1,20 @@
 //! Rounds of uploads, one after another.
-ghost use Rattle.std.specs.Prelude.{ℕ, List, [], ◌∷◌, false, ◌≡◌, ◌≢◌, length, map, slice_get, true, Some, IfOk, IfErr};
-ghost use Rattle.std.specs.List.{AllByRecursion, FoldsTo};
+ghost use Rattle.std.specs.Prelude.{ℕ, List, [], ◌∷◌, false, ◌≡◌, ◌≢◌, map, slice_get, true, Some, IfOk, IfErr};
+ghost use Rattle.std.specs.List.{FoldsTo};
 ghost use Rattle.indexmap.specs.IndexMap.{set_value_at};
-ghost use Rattle.lanes_in_turn.specs.Round.{AreRoundLanes, IsNoRound};
-ghost use Rattle.upload_reader.specs.Upload.{UploadState, IsUntouched};
+ghost use Rattle.lanes_in_turn.specs.Round.{AreRoundLanes};
+ghost use Rattle.upload_reader.specs.Upload.{UploadState};
 ghost use Rattle.byte_streams.specs.Reading.{WasRead};
 ghost use Rattle.site_line.specs.Reading.{site_quota};
-ghost use Rattle.upload_lanes.specs.Threads.{Gathers};
-ghost use Rattle.lanes_in_turn.specs.Taking.{never};
 ghost use Rattle.warp_server.specs.Rounds.{without_reader};
-ghost use Rattle.warp_server.specs.program.Callers.{sayings, uploads_in, GivesBack, RoundFails, MakesRound, NoFurtherRound, MakesAll, RoundIsRead};
+ghost use Rattle.warp_server.specs.program.Callers.{sayings, uploads_in, GivesBack, RoundFails, MakesRound, NoFurtherRound, MakesAll};
 ghost use Rattle.warp_run.specs.Shortage.{status_of};
 ghost use Rattle.warp_run.specs.declared.status.Status.TheVariants.{Done, OutOfMemory};
 
 use crate::program::answering::take_to_ends;
-use crate::program::callers::{Callers, Closing};
+use crate::program::callers::Callers;
 use crate::program::greeting::accept_uploads;
 use byte_streams::Source;
-use client_log::Quota;
 use indexmap::IndexMap;
 use site_line::Site;
 use std::sync::Wait;
@@ -48,24 +45,6 @@ pub(crate) fn gather_rounds<
         gathered = gather_round(rt, callers, lanes, site, gathered)?;
     }
     Ok(gathered)
-}
-
-/// Takes a round of uploads to their ends, behind what was gathered before, and lets them go. G1 to G3 where there is none.
-pub fn take_round<R: Source + Drop + Send, T: AllocGlobal + Threads + Wait + Sync>(
-    rt: &T,
-    earlier: Gathered<R>,
-    uploads: Vec<Upload<R>>,
-    quota: Quota,
-) -> Result<Gathered<R>, GatherFault>
-    requires untouched { AllByRecursion IsUntouched uploads.items }
-    requires whole { status_of earlier ≡ Done }
-    ensures ok { IfOk result (RoundIsRead (WasRead R.answers R.remaining) quota earlier uploads.items) }
-    ensures refused { IfErr result (IsNoRound uploads.items) }
-{
-    match take_to_ends(rt, earlier, uploads, quota) {
-        Ok(round) => Ok(give_back_all(&mut Closing::new(), round)),
-        Err(refused) => Err(refused.fault),
-    }
 }
 
 // Whether memory was refused.

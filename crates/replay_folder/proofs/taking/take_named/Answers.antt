@@ -1,4 +1,4 @@
-use Rattle.std.proofs.Common.{bytes_eq, sym, ap, subst, ◌∙◌}
+use Rattle.std.proofs.Common.{bytes_eq, inl, sym, ap, subst, ◌∙◌}
 use Rattle.std.specs.List.{list_any}
 use Rattle.std.proofs.lemmas.Result.{IfOk-weaker}
 use Rattle.byte_streams.specs.Reading.{WasRead}
@@ -16,13 +16,23 @@ returns-then-is_short g c =
     (is_no_whole c.args.round.taken.status (sym c.is_short.ensures ∙ c.if-is_short.true)) leaves had)
     c.leave_unread.ensures
 
-pub returns-in-Err : goal.returns-in-Err
-returns-in-Err g c =
+pub open_next-requires-clause-whole : goal.open_next-requires-clause-whole
+open_next-requires-clause-whole g c κs within = inl (is_whole c.args.round.taken.status (sym c.is_short.ensures ∙ c.if-is_short.false))
+
+pub returns-in_ok-next-in-Err : goal.returns-in_ok-next-in-Err
+returns-in_ok-next-in-Err g c =
+    let was_read = WasRead g.F.Source.answers g.F.Read.remaining in let opened = g.O.OpensUploads.opened c.args.opener.now in
+    IfOk-weaker c.take_alone.result _ _
+    (λ more goes before had. goes c.args.quota before (taking_room was_read opened c.args.quota before c.args.round c.in_ok-next-in-Err.next c.in_ok-next-in-Err.ensures.made had))
+    c.take_alone.ensures
+
+pub returns-else-may_open_alone : goal.returns-else-may_open_alone
+returns-else-may_open_alone g c =
     let was_read = WasRead g.F.Source.answers g.F.Read.remaining in let opened = g.O.OpensUploads.opened c.args.opener.now in
     let greets = subst (GreetsNamed was_read opened c.args.named.now) c.in-Err.is c.in_ok-end.ensures in
     IfOk-weaker c.hold_end.result _ _
     (λ more holds before had. end_held was_read opened c.args.quota before c.args.named.now c.args.round more c.in-Err.end greets holds
-    (is_whole c.args.round.taken.status (sym c.is_short.ensures ∙ c.if-is_short.false)) had)
+    (is_whole c.args.round.taken.status (sym c.is_short.ensures ∙ c.if-is_short.false)) (λ shut. sym c.as_slice.ensures.value ∙ c.may_open_alone.ensures c.if-may_open_alone.false shut) had)
     c.hold_end.ensures
 
 pub returns-then-is_short-2 : goal.returns-then-is_short-2
