@@ -10,6 +10,7 @@ use Rattle.std.proofs.lemmas.List.Splits.{slice_split_at, slice_split_none}
 use Rattle.std.proofs.lemmas.Str.{utf8_lossy-IsUtf8}
 use Rattle.form_urlencoded.specs.Form.{byte_serialize, decode, extend_pairs, serialize_pair}
 use Rattle.form_urlencoded.proofs.FormLemmas.{IsSerializedByte, All-byte_serialize, decode-byte_serialize, split_once_before_at, split_once_after_at, split_once_before_none}
+use Rattle.page_looks.proofs.CounterpartLaws.{bytes_same}
 use Rattle.page_looks.specs.Outline.{is_one_of}
 use Rattle.page_looks.specs.Sending.{is_passed_over, kept_pairs, query_text, unmarked_without, without_fresh}
 use Rattle.client_log.specs.declared.visit.Visit.{Visit}
@@ -275,3 +276,20 @@ module _ (fresh : List (List ℕ)) (requests : List Request) (visit : Visit) (k 
       (ap (λ n. is_some (kept n)) (sym same) ∙ none)
       (λ here. y_is ∙ sym told_whole ∙ ap (λ n. kept_beside fresh (only_numbered requests n) whole) (same ∙ here))
       (updated ∙ ap (λ n. if n == number then Some y else kept number) same)
+
+  -- nothing is kept of one that is alike
+  pub nothing_comes : kept_beside fresh (only_numbered requests was.number) was ≡ None → (new : Option (Option Request))
+      → new ≡ (if not (is_some (kept was.number)) && was.number == number then Some None else kept number)
+      → new ≡ option_map (kept_beside fresh (only_numbered requests number)) (find (λ r. r.number == number) (filter_map (was_asked visit) (range_with_len 0 (k + 1))))
+  nothing_comes told new updated = go (is_some (kept was.number)) refl
+    where
+      go : (b : Bool) → is_some (kept was.number) ≡ b → new ≡ option_map (kept_beside fresh (only_numbered requests number)) (find (λ r. r.number == number) (filter_map (was_asked visit) (range_with_len 0 (k + 1))))
+      go true there = updated ∙ ap (λ b. if not b && was.number == number then Some None else kept number) there ∙ whole_stays there
+      go false none = whole_comes false told None refl new none (updated ∙ ap (λ b. if not b && was.number == number then Some None else kept number) none)
+
+alike_itself : (fresh : List (List ℕ)) (r : Request) → are_alike fresh r r ≡ true
+alike_itself fresh r = ap₂ (λ a b. a && b) (bytes_same (without_fresh fresh r.address) (without_fresh fresh r.address) refl)
+    (bytes_same (without_fresh fresh (codes "?" ++ r.pairs)) (without_fresh fresh (codes "?" ++ r.pairs)) refl)
+
+pub none_kept : (fresh : List (List ℕ)) (r : Request) (only : Option (Option Request)) → only ≡ Some (Some r) → kept_beside fresh only r ≡ None
+none_kept fresh r only is = ap (λ o. kept_beside fresh o r) is ∙ ap (λ (b : Bool). if b then None else Some r) (alike_itself fresh r)

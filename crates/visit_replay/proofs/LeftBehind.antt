@@ -1,8 +1,9 @@
 -- What is left of a text behind its front, and when a text is that of pairs.
-use Rattle.std.proofs.Common.{◌≡◌, ◌≢◌, ℕ, ◌+◌, ◌<◌, ◌≤◌, ◌==◌, List, [], ◌∷◌, ◌++◌, length, drop, get_or, Bool, true, false, ◌&&◌, if◌then◌else◌, Option, Some, None, option_map, MatchOption, Bor, inl, inr, refl, sym, ap, ap₂, ◌∙◌, append_assoc, append-nil, length-append, eq-eqb, lt-ltb, arith}
+use Rattle.std.proofs.Common.{◌≡◌, ◌≢◌, ℕ, suc, ◌+◌, ◌-◌, ◌<◌, ◌≤◌, ◌==◌, List, [], ◌∷◌, ◌++◌, length, drop, take, get_or, Bool, true, false, ◌&&◌, if◌then◌else◌, Option, Some, None, option_map, MatchOption, Bor, inl, inr, refl, sym, ap, ap₂, ◌∙◌, append_assoc, append-nil, drop-cons, drop_of_length-le, take_all, length-drop, length-append, eq-eqb, lt-ltb, arith}
 use Rattle.std.specs.List.{cons_option}
 use Rattle.std.specs.Option.{option_map_or}
 use Rattle.std.specs.Str.{bytes_eq}
+use Rattle.std.proofs.lemmas.Bool.{ne_eqb}
 use Rattle.std.proofs.lemmas.Bool.Decides.{eqb_tells}
 use Rattle.form_urlencoded.specs.Form.{append_pair, byte_serialize, extend_pairs, is_unchanged, separator, serialize_byte, serialize_pair}
 use Rattle.form_urlencoded.specs.Percent.{percent_encode_byte}
@@ -104,6 +105,44 @@ pub no_shorter : (word : List ℕ) → length word ≤ length (byte_serialize wo
 unfolding byte_serialize
 no_shorter [] = omega arith
 no_shorter (b ∷ word) = let long = byte_long b in let later = no_shorter word in omega (arith, length-append (serialize_byte b) (byte_serialize word))
+
+byte_first : (b : ℕ) (word : List ℕ) → byte_serialize (b ∷ word) ≡ serialize_byte b ++ byte_serialize word
+unfolding byte_serialize
+byte_first b word = refl
+
+nothing_first : byte_serialize [] ≡ []
+unfolding byte_serialize
+nothing_first = refl
+
+-- where both are gone through side by side, behind that many bytes
+module _ (word text : List ℕ) (at one : ℕ) (written : serialize_byte (get_or word at 0) ≡ one ∷ []) (in_word : at < length word) (in_text : at < length text) where
+  abbrev there : ℕ
+  there = get_or text at 0
+
+  abbrev later : Option (List ℕ)
+  later = left_behind (byte_serialize (drop (at + 1) word)) (drop (at + 1) text)
+
+  side_by_side : left_behind (byte_serialize (drop at word)) (drop at text) ≡ (if one == there then later else None)
+  side_by_side =
+      let next : suc at ≡ at + 1 = omega arith in
+      ap₂ (λ p q. left_behind (byte_serialize p) q)
+      (drop-cons word at 0 in_word ∙ ap (λ n. get_or word at 0 ∷ drop n word) next)
+      (drop-cons text at 0 in_text ∙ ap (λ n. get_or text at 0 ∷ drop n text) next)
+      ∙ ap (λ front. left_behind front (there ∷ drop (at + 1) text))
+      (byte_first (get_or word at 0) (drop (at + 1) word) ∙ ap (λ front. front ++ byte_serialize (drop (at + 1) word)) written)
+
+  pub byte_met : one ≡ there → later ≡ left_behind (byte_serialize (drop at word)) (drop at text)
+  byte_met same = sym (side_by_side ∙ ap (λ (x : Bool). if x then later else None) (eq-eqb one there same))
+
+  pub byte_differs : one ≢ there → None ≡ left_behind (byte_serialize (drop at word)) (drop at text)
+  byte_differs other = sym (side_by_side ∙ ap (λ (x : Bool). if x then later else None) (ne_eqb one there other))
+
+pub word_met : (word text : List ℕ) (at : ℕ) → at ≡ length word
+    → Some (take (length text - length word) (drop (length word) text)) ≡ left_behind (byte_serialize (drop at word)) (drop at text)
+word_met word text at all =
+    ap (λ n. Some (take (length text - n) (drop n text))) (sym all)
+    ∙ ap Some (take_all (length text - at) (drop at text) (omega (arith, length-drop at text)))
+    ∙ sym (ap (λ front. left_behind front (drop at text)) (ap byte_serialize (drop_of_length-le word (omega (arith, all))) ∙ nothing_first))
 
 -- ---- a pair as it is encoded, behind a mark: its name, what stands between, its value
 

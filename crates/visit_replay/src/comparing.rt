@@ -6,9 +6,9 @@ ghost use Rattle.form_urlencoded.specs.Form.{byte_serialize, extend_pairs, seria
 ghost use Rattle.visit_replay.specs.inside.FieldsNow.{left_behind, pair_of};
 ghost use Rattle.visit_replay.specs.inside.Senders.{IsSender, sent_all};
 
+use crate::encoded_words::word_behind;
 use crate::forms::{Filled, SentPair, sent_by};
 use crate::senders::Sender;
-use form_urlencoded::byte_serialize;
 
 /// Whether the address is that start, a `?` and the pairs of a form whose senders these are.
 pub(crate) fn is_sent_to(
@@ -26,16 +26,16 @@ pub(crate) fn is_sent_to(
     }
 }
 
-// What stands behind that start and a `?`.
-fn query_behind<'t>(start: &str, address: &'t str) -> Option<&'t [u8]>
+/// What stands behind that start and a `?`.
+pub(crate) fn query_behind<'t>(start: &str, address: &'t str) -> Option<&'t [u8]>
     ensures { option_map (λ query. query.now) result ≡ left_behind (start.now ++ codes "?") address.now }
 {
     let rest = behind(start, address.as_bytes())?;
     behind("?", rest)
 }
 
-// Whether the text is what these send.
-fn are_pairs<'a>(filled: &Filled<'a, '_>, senders: &'a [Sender<'_>], text: &[u8]) -> bool
+/// Whether the text is what these send.
+pub(crate) fn are_pairs<'a>(filled: &Filled<'a, '_>, senders: &'a [Sender<'_>], text: &[u8]) -> bool
     requires { All (IsSender filled.now.page.now) senders.now }
     ensures { result ≡ bytes_eq (extend_pairs [] (sent_all filled.now senders.now)) text.now }
 {
@@ -65,20 +65,6 @@ pub(crate) fn pair_behind<'t>(mark: &str, sent: &SentPair<'_>, text: &'t [u8]) -
     let equals = word_behind(sent.name, name)?;
     let value = behind("=", equals)?;
     word_behind(sent.value, value)
-}
-
-// Behind the word as it is encoded. Each byte of it is written by one at least, so a word that is longer than the text isn't looked at.
-fn word_behind<'t>(word: &str, text: &'t [u8]) -> Option<&'t [u8]>
-    ensures { option_map (λ rest. rest.now) result ≡ left_behind (byte_serialize word.now) text.now }
-{
-    if text.len() < word.len() {
-        return None;
-    }
-    let mut rest = text;
-    for piece in byte_serialize(word.as_bytes()) {
-        rest = behind(piece, rest)?;
-    }
-    Some(rest)
 }
 
 /// Behind that front.

@@ -1,6 +1,8 @@
 //! What a visit asked for on the page that it was made on, where that differs from what its replay asks for.
-ghost use Rattle.std.specs.Prelude.{ℕ, List, ◌≡◌, ◌+◌, ◌<◌, ◌≤◌, [], ◌∷◌, ◌++◌, length, map, take, slice_get, Some, IfOk, IfSome, OnOk, OnErr, option_and_then};
+ghost use Rattle.std.specs.Prelude.{ℕ, List, ◌≡◌, ◌+◌, ◌<◌, ◌≤◌, [], ◌∷◌, ◌++◌, ◌==◌, ◌&&◌, if◌then◌else◌, not, is_some, length, map, take, slice_get, Some, None, IfOk, IfSome, IsTrue, OnOk, OnErr, option_and_then};
+ghost use Rattle.std.specs.BTreeMap.{get};
 ghost use Rattle.std.specs.List.{Contains};
+ghost use Rattle.std.specs.Ordering.{nat_cmp};
 ghost use Rattle.upload_reader.specs.Session.{request_of};
 ghost use Rattle.upload_reader.specs.declared.message.Event.{Event as PlainEvent};
 ghost use Rattle.client_log.specs.declared.visit.Visit.{Visit as PlainVisit};
@@ -21,7 +23,7 @@ use crate::difference::{Contrast, Difference, Former};
 use crate::fields::Fields;
 use crate::finding::Finding;
 use crate::forms::Filled;
-use crate::kept_requests::{is_other, kept_of, only_by_number};
+use crate::kept_requests::{is_other, kept_of, only_by_number, only_numbered};
 use crate::known_forms::KnownForms;
 use crate::known_inputs::KnownInputs;
 use crate::lookups::Lookups;
@@ -30,7 +32,7 @@ use crate::outcome::{ConflictKind, Outcome};
 use crate::own_lookups::OwnLookups;
 use crate::passing::passing_over;
 use crate::repaired_page::RepairedPage;
-use crate::requests::{Request, request_at};
+use crate::requests::{Request, is_asked_at, request_at};
 use client_log::Visit;
 use page_looks::{FreshNames, Looks};
 use page_tree::{NoMemory, Page, Text};
@@ -147,8 +149,41 @@ fn kept_by_number(
     Ok(all)
 }
 
-// Takes in what one event more asked for, beside the requests that are made now. The whole of it is made only where it differs.
+// Takes in what one event more asked for, beside the requests that are made now.
 fn take_in<'v>(
+    alloc: Global,
+    fresh: &[Text],
+    visit: &'v Visit,
+    fields: &Fields<'_>,
+    k: usize,
+    target: Option<u32>,
+    now: &BTreeMap<u64, Option<&Request>>,
+    compared: &mut Comparisons,
+    own: &mut OwnLookups<'v>,
+    all: &mut BTreeMap<u64, Option<Request>>,
+) -> Result<(), NoMemory>
+    requires there { k < length visit.now.events }
+    requires fields { Keeps (by_path visit.now.page) fields.now visit.now.page (take k visit.now.events) }
+    requires target { IfSome (slice_get visit.now.events k) (λ event. IsTargetOf visit.now.page event target) }
+    requires known { AreCompared fresh.now compared.old.all.items }
+    requires own { KnowsOwn fresh.now visit.now.page own.old }
+    ensures known { OnOk result (AreCompared fresh.now compared.new.all.items) }
+    ensures own { OnOk result (KnowsOwn fresh.now visit.now.page own.new) }
+    ensures kept { OnOk result ((requests : List PlainRequest) → HasOnly requests now.now
+        → HasNumbered fresh.now requests visit.now k all.old → HasNumbered fresh.now requests visit.now (k + 1) all.new) }
+{
+    if let Some(is) = only_numbered(now, visit.events.as_slice()[k].request()) {
+        if has_asked_for(alloc, visit, fields, k, target, is, own)? {
+            return keep_none(all, is.number);
+        }
+    }
+    take_other(
+        alloc, fresh, visit, fields, k, target, now, compared, own, all,
+    )
+}
+
+// The same where it may differ. The whole of it is made only where it does.
+fn take_other<'v>(
     alloc: Global,
     fresh: &[Text],
     visit: &'v Visit,
@@ -185,6 +220,57 @@ fn take_in<'v>(
     }
     all.insert(number, None)?;
     Ok(())
+}
+
+// Nothing is to be kept of that number, unless there is something already.
+fn keep_none(all: &mut BTreeMap<u64, Option<Request>>, number: u64) -> Result<(), NoMemory>
+    ensures { OnOk result ((other : ℕ) → get nat_cmp all.new other
+        ≡ (if not (is_some (get nat_cmp all.old number)) && number == other then Some None else get nat_cmp all.old other)) }
+{
+    if all.contains_key(&number) {
+        return Ok(());
+    }
+    all.insert(number, None)?;
+    Ok(())
+}
+
+// Whether the event with k events before it is a submit that asked for just that at its target, by the fields as these left them.
+fn has_asked_for<'v>(
+    alloc: Global,
+    visit: &'v Visit,
+    fields: &Fields<'_>,
+    k: usize,
+    target: Option<u32>,
+    is: &Request,
+    own: &mut OwnLookups<'v>,
+) -> Result<bool, NoMemory>
+    requires there { k < length visit.now.events }
+    requires fields { Keeps (by_path visit.now.page) fields.now visit.now.page (take k visit.now.events) }
+    requires target { IfSome (slice_get visit.now.events k) (λ event. IsTargetOf visit.now.page event target) }
+    requires own { KnowsOwn own.old.forms.names.now visit.now.page own.old }
+    ensures asked { IfOk result (λ asked. IsTrue asked → was_asked visit.now k ≡ Some is.now) }
+    ensures own { OnOk result (KnowsOwn own.old.forms.names.now visit.now.page own.new) }
+{
+    let Some(target) = target else {
+        return Ok(false);
+    };
+    let page = &visit.page;
+    let event = &visit.events.as_slice()[k];
+    let button = own.paths.button_of(page, event)?;
+    let filled = Filled {
+        page,
+        fields,
+        button,
+    };
+    is_asked_at(
+        alloc,
+        visit.address.as_str(),
+        &filled,
+        event,
+        target,
+        is,
+        &mut own.forms,
+    )
 }
 
 // How many events there are up to the last one with a request.

@@ -1,8 +1,8 @@
-//! The paths that were looked up on a page a short while ago: most events act where one of the last few did.
+//! The paths that were looked up on a page a short while ago: most events act where one of the last few did, or where the one behind the last was looked up.
 ghost use Rattle.std.specs.Prelude.{◌≡◌, IfOk, OnOk, IfSome};
 ghost use Rattle.page_tree.specs.Tree.{Tree};
 ghost use Rattle.visit_replay.specs.Aim.{button_by_path, by_of};
-ghost use Rattle.visit_replay.specs.inside.Differing.{IsTargetOf, KnowsPaths, Selects};
+ghost use Rattle.visit_replay.specs.inside.Differing.{IsAt, IsTargetOf, KnowsPaths, Selects};
 ghost use Rattle.visit_replay.specs.inside.OneEvent.{IsWithin, places_numbered};
 
 use crate::aims::{only, path_of};
@@ -25,6 +25,8 @@ pub(crate) struct KnownPath<'v> {
 #[derive(Drop)]
 pub(crate) struct KnownPaths<'v> {
     paths: Vec<KnownPath<'v>>,
+    /// Where the last one that was asked for stands.
+    last: usize,
 }
 
 impl<'v> KnownPaths<'v> {
@@ -34,6 +36,7 @@ impl<'v> KnownPaths<'v> {
     {
         KnownPaths {
             paths: Vec::new(alloc),
+            last: 0,
         }
     }
 
@@ -56,8 +59,11 @@ impl<'v> KnownPaths<'v> {
         ensures known { OnOk result (KnowsPaths page.now self.new.paths.items) }
         ensures node { IfOk result (Selects page.now path.now) }
     {
-        match node_of(self.paths.as_slice(), path) {
-            Some(node) => Ok(node),
+        match place_of(self.paths.as_slice(), self.last, path) {
+            Some(place) => {
+                self.last = place;
+                Ok(self.paths[place].node)
+            }
             None => self.look_up(page, path),
         }
     }
@@ -67,8 +73,8 @@ impl<'v> KnownPaths<'v> {
         requires { KnowsPaths page.now self.now.paths.items }
         ensures { Selects page.now path.now result }
     {
-        match node_of(self.paths.as_slice(), path) {
-            Some(node) => node,
+        match place_of(self.paths.as_slice(), self.last, path) {
+            Some(place) => self.paths[place].node,
             None => only(path, page),
         }
     }
@@ -99,19 +105,24 @@ impl<'v> KnownPaths<'v> {
             self.paths.clear();
         }
         let node = only(path, page);
+        self.last = self.paths.len();
         self.paths.push(KnownPath { path, node })?;
         Ok(node)
     }
 }
 
-// What the path selects, where it is one of these. The last ones are looked at first.
-fn node_of(paths: &[KnownPath<'_>], path: &Path) -> Option<Option<u32>>
-    ensures { IfSome result (λ node. (page : Tree) → KnowsPaths page paths.now → Selects page path.now node) }
+// Where the path stands among these. It is looked for from that place on: in forms, one field follows another.
+fn place_of(paths: &[KnownPath<'_>], from: usize, path: &Path) -> Option<usize>
+    ensures { IfSome result (λ place. IsAt paths.now path.now place) }
 {
-    for i in 0..paths.len() {
-        let known = &paths[paths.len() - 1 - i];
-        if known.path.same(path) {
-            return Some(known.node);
+    for place in from..paths.len() {
+        if paths[place].path.same(path) {
+            return Some(place);
+        }
+    }
+    for place in 0..from.min(paths.len()) {
+        if paths[place].path.same(path) {
+            return Some(place);
         }
     }
     None

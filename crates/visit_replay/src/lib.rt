@@ -20,6 +20,7 @@ mod counted_query;
 mod counterparts;
 mod difference;
 mod differing;
+mod encoded_words;
 mod fields;
 mod finding;
 mod following;

@@ -1,19 +1,19 @@
 //! Requests, and how a replayed visit makes them.
-ghost use Rattle.std.specs.Prelude.{◌≡◌, ◌<◌, [], ◌∷◌, ◌++◌, not, All, ℕ, List, unwrap_or, IfOk, OnOk, OnErr, option_map, codes};
+ghost use Rattle.std.specs.Prelude.{◌≡◌, ◌<◌, [], ◌∷◌, ◌++◌, not, All, ℕ, List, unwrap_or, IfOk, OnOk, OnErr, IsTrue, option_map, codes};
 ghost use Rattle.std.specs.Str.{bytes_eq};
 ghost use Rattle.form_urlencoded.specs.Form.{extend_pairs};
 ghost use Rattle.page_tree.specs.Limits.{nodes};
 ghost use Rattle.page_tree.specs.Number.{place_numbered};
 ghost use Rattle.visit_replay.specs.Form.{bare, sent_to};
 ghost use Rattle.visit_replay.specs.Requests.{load_request, link_request};
-ghost use Rattle.visit_replay.specs.inside.FieldsNow.{IsRequestAt, LeadsElsewhere};
+ghost use Rattle.visit_replay.specs.inside.FieldsNow.{AsksFor, IsRequestAt, LeadsElsewhere};
 ghost use Rattle.visit_replay.specs.Moved.{what_counts};
 ghost use Rattle.visit_replay.specs.inside.Differing.{KnowsTexts};
 ghost use Rattle.visit_replay.specs.inside.OneEvent.{IsWithin};
 ghost use Rattle.visit_replay.specs.inside.Senders.{SaysFresh, IsSender, KnowsForms, names_left, sent_all};
 
 use crate::address::bare;
-use crate::comparing::is_sent_to;
+use crate::comparing::{are_pairs, is_sent_to, query_behind};
 use crate::comparisons::Comparisons;
 use crate::counted_query::is_what_counts;
 use crate::finding::Finding;
@@ -147,6 +147,36 @@ pub(crate) fn request_at(
     }
 }
 
+/// Whether such an event is a submit that asks for just that. What its form sends is compared as it comes, and no text of it is made.
+pub(crate) fn is_asked_at(
+    alloc: Global,
+    address: &str,
+    filled: &Filled<'_, '_>,
+    event: &Event,
+    target: u32,
+    is: &Request,
+    forms: &mut KnownForms<'_>,
+) -> Result<bool, NoMemory>
+    requires there { target < nodes filled.now.page.now }
+    requires button { IsWithin filled.now.button filled.now.page.now }
+    requires known { KnowsForms filled.now.page.now forms.old }
+    ensures asked { IfOk result (λ asked. IsTrue asked → AsksFor address.now filled.now event.now target is.now) }
+    ensures known { OnOk result (KnowsForms filled.now.page.now forms.new) }
+    ensures names { forms.new.names ≡ forms.old.names }
+{
+    let page = filled.page;
+    match event {
+        Event::Input { .. } | Event::Click { .. } | Event::Submit { req: 0, .. } => Ok(false),
+        Event::Submit { req, .. } => {
+            let action = forms::action_of(address, page, target);
+            forms.look_under(alloc, target)?;
+            let senders = forms.senders_under(target).as_slice();
+            let post = forms::is_post(page, target);
+            Ok(*req == is.number && is_sent_so(filled, senders, post, action, is))
+        }
+    }
+}
+
 /// Whether that of such an event goes to another address than that one. What is sent under post isn't looked at.
 pub(crate) fn leads_elsewhere(
     alloc: Global,
@@ -276,6 +306,43 @@ fn form_request(
         address: with_query(alloc, bare(action), pairs.as_str())?,
         pairs,
     })
+}
+
+// Whether a request is what a form whose senders these are sends to that action.
+fn is_sent_so(
+    filled: &Filled<'_, '_>,
+    senders: &[Sender<'_>],
+    post: bool,
+    action: &str,
+    is: &Request,
+) -> bool
+    requires { All (IsSender filled.now.page.now) senders.now }
+    ensures { IsTrue result
+        → is.now ≡ sent_to post is.now.number action.now (extend_pairs [] (sent_all filled.now senders.now)) }
+{
+    is_sent_there(post, action, is) && are_pairs(filled, senders, is.pairs.as_str().as_bytes())
+}
+
+// Whether a form that sends these pairs to that action sends them to where the request goes.
+fn is_sent_there(post: bool, action: &str, is: &Request) -> bool
+    ensures { IsTrue result → is.now ≡ sent_to post is.now.number action.now is.now.pairs }
+{
+    let address = is.address.as_str();
+    match is.method {
+        Method::Load => false,
+        Method::Post => post && address == action,
+        Method::Get => !post && is_query_of(bare(action), address, is.pairs.as_str()),
+    }
+}
+
+// Whether the address is that start with that query behind it.
+fn is_query_of(start: &str, address: &str, query: &str) -> bool
+    ensures { IsTrue result → address.now ≡ start.now ++ codes "?" ++ query.now }
+{
+    match query_behind(start, address) {
+        Some(rest) => rest == query.as_bytes(),
+        None => false,
+    }
 }
 
 /// The start with a query behind it.

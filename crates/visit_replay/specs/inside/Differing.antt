@@ -1,5 +1,5 @@
 -- A visit's own requests, and what was looked up on pages, as the code keeps them while it goes through the events.
-use Rattle.std.specs.Prelude.{ℕ, ◌≡◌, ◌==◌, List, [], ◌∷◌, All, not, if◌then◌else◌, Option, Some, None, IfSome, map, option_and_then, option_map, slice_get, take}
+use Rattle.std.specs.Prelude.{ℕ, ◌≡◌, ◌==◌, ◌<◌, length, List, [], ◌∷◌, All, not, if◌then◌else◌, Option, Some, None, IfSome, map, option_and_then, option_map, slice_get, take}
 use Rattle.std.specs.Borrow.{Bor}
 use Rattle.std.specs.BTreeMap.{BTreeMap, get}
 use Rattle.std.specs.List.{find, filter, filter_map, range_with_len}
@@ -68,6 +68,10 @@ Selects page path node = IsWithin node page × (places_numbered node page ≡ on
 
 abbrev pub KnowsPaths : Tree → List KnownPath → Type 0
 KnowsPaths page paths = All (λ known. Selects page known.path.now known.node) paths
+
+-- it is the one of these at that place
+abbrev pub IsAt : List KnownPath → List Step → ℕ → Type 0
+IsAt paths path place = (place < length paths) × IfSome (slice_get paths place) (λ known. known.path.now ≡ path)
 
 -- the numbers of the hidden inputs of that name
 abbrev pub numbers_named : NamedInputs → Option (List ℕ) → List ℕ

@@ -71,6 +71,12 @@ IsRequestAt names address filled event target it = let new = filled.page.now in
     (aim : Event → Aim) (before : List Event) → Keeps aim filled.fields.now new before → IsButFor names it
     (request_at aim address new before event (places_numbered filled.button new) (place_numbered target new))
 
+-- that is just this one
+abbrev pub AsksFor : List ℕ → Filled → Event → ℕ → Request → Type 0
+AsksFor address filled event target is = let new = filled.page.now in
+    (aim : Event → Aim) (before : List Event) → Keeps aim filled.fields.now new before →
+    request_at aim address new before event (places_numbered filled.button new) (place_numbered target new) ≡ Some is
+
 -- whether that goes to another address than this
 abbrev pub LeadsElsewhere : Option (List (List ℕ)) → List ℕ → Filled → Event → ℕ → List ℕ → Bool → Type 0
 LeadsElsewhere same address filled event target now answer = let new = filled.page.now in

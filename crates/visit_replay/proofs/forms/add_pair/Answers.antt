@@ -1,6 +1,6 @@
-use Rattle.std.proofs.Common.{◌≡◌, [], ◌&&◌, true, false, Some, None, option_map, if◌then◌else◌, refl, sym, ap, ◌∙◌, rules}
+use Rattle.std.proofs.Common.{[], if◌then◌else◌, sym, ap, ◌∙◌}
 use Rattle.std.specs.List.{cons_option}
-use Rattle.visit_replay.specs.inside.FieldsNow.{pair_now, pair_of, told, with_pairs}
+use Rattle.visit_replay.specs.inside.FieldsNow.{pair_now, with_pairs}
 use Rattle.visit_replay.proofs.OneSenderMore.{told_either}
 use Rattle.visit_replay.proofs.forms.add_pair.Goals as goal
 

@@ -1,4 +1,4 @@
-use Rattle.std.proofs.Common.{◌≡◌, ◌<◌, ◌∙◌, ◌+◌, drop, length, subst, sym, ap, arith}
+use Rattle.std.proofs.Common.{◌<◌, ◌∙◌, ◌+◌, drop, length, subst, sym, ap, arith}
 use Rattle.form_urlencoded.specs.Form.{extend_pairs}
 use Rattle.visit_replay.specs.inside.FieldsNow.{told}
 use Rattle.visit_replay.specs.inside.Senders.{SaysFresh, sent_all}

@@ -5,7 +5,7 @@ use Rattle.visit_replay.specs.Form.{action_of, is_post, pairs_of, sent_to}
 use Rattle.visit_replay.specs.Requests.{request_at}
 use Rattle.visit_replay.specs.inside.FieldsNow.{IsButFor, told}
 use Rattle.visit_replay.specs.inside.OneEvent.{places_numbered}
-use Rattle.visit_replay.specs.inside.Senders.{SendUnder, SaysFresh, names_left, sent_all}
+use Rattle.visit_replay.specs.inside.Senders.{SendUnder, sent_all}
 use Rattle.visit_replay.proofs.FreshValues.{form_is}
 use Rattle.visit_replay.proofs.requests.request_at.Goals as goal
 

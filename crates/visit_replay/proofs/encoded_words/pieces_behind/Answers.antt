@@ -1,13 +1,8 @@
-use Rattle.std.proofs.Common.{option_map, sym, ap, ◌∙◌, arith}
-use Rattle.form_urlencoded.specs.Form.{byte_serialize}
+use Rattle.std.proofs.Common.{option_map, sym, ap, ◌∙◌}
 use Rattle.form_urlencoded.specs.Serialize.{serialized_text}
 use Rattle.visit_replay.specs.inside.FieldsNow.{left_behind}
-use Rattle.visit_replay.proofs.LeftBehind.{past_front, stops, too_long, no_shorter}
-use Rattle.visit_replay.proofs.comparing.word_behind.Goals as goal
-
-pub returns-then-text-word : goal.returns-then-text-word
-returns-then-text-word c =
-    sym (too_long (byte_serialize c.args.word.now) c.args.text.now (omega (arith, c.if-text-word.true, no_shorter c.args.word.now)))
+use Rattle.visit_replay.proofs.LeftBehind.{past_front, stops}
+use Rattle.visit_replay.proofs.encoded_words.pieces_behind.Goals as goal
 
 pub returns-in_err-rest : goal.returns-in_err-rest
 returns-in_err-rest c =
