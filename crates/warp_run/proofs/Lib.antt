@@ -6,3 +6,4 @@ pub mod RepairLaws
 pub mod ReportLaws
 pub mod BufferLaws
 pub mod QuotingLaws
+pub mod FirstStopLaws

@@ -14,6 +14,7 @@ mod buffer;
 mod fault;
 mod fault_words;
 mod quoting;
+mod stops;
 
 use crate::repaired::{ClientSummary, PutDecision, Repaired};
 pub use buffer::ReportBuffer;

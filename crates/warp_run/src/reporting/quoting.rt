@@ -1,5 +1,5 @@
 //! Texts as JSON strings, added piece by piece.
-ghost use Rattle.std.specs.Prelude.{◌≡◌, ◌<◌, true, position};
+ghost use Rattle.std.specs.Prelude.{◌≡◌, ◌<◌, true};
 ghost use Rattle.std.specs.Char.{digit_char};
 ghost use Rattle.json.specs.Print.{escape, escape_byte, escape_letter};
 ghost use Rattle.json.specs.Run.{is_stop};
@@ -7,6 +7,7 @@ ghost use Rattle.warp_run.specs.Buffer.{AddsText};
 ghost use Rattle.warp_run.specs.Report.{json_string};
 
 use super::buffer::ReportBuffer;
+use super::stops::first_stop;
 use byte_streams::Sink;
 
 /// Adds the text as a JSON string.
@@ -30,14 +31,6 @@ fn add_escaped<W: Sink>(buffer: &mut ReportBuffer, writer: &mut W, bytes: &[u8])
         rest = &behind[1..];
     }
     buffer.add_bytes(writer, rest);
-}
-
-fn first_stop(bytes: &[u8]) -> Option<usize>
-    ensures { result ≡ position is_stop bytes.now }
-{
-    bytes
-        .iter()
-        .position(|byte| *byte == b'"' || *byte == b'\\' || *byte < 32)
 }
 
 fn add_escape<W: Sink>(buffer: &mut ReportBuffer, writer: &mut W, byte: u8)
