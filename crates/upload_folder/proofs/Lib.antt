@@ -5,3 +5,4 @@ pub mod ClientLaws
 pub mod TakeLaws
 pub mod FetchLaws
 pub mod SettleLaws
+pub mod RefusedLaws
