@@ -6,6 +6,7 @@ mod disk_file;
 mod disk_folder;
 mod peer;
 mod peers;
+mod recorder;
 mod serve_fault;
 mod serving;
 mod work;

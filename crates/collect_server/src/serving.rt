@@ -10,6 +10,7 @@ use crate::disk_file::{DiskFile, file_fault};
 use crate::disk_folder::DiskFolder;
 use crate::peer::Peer;
 use crate::peers::Peers;
+use crate::recorder::RECORDER;
 use crate::serve_fault::ServeFault;
 use collect_http::{Collector, Names};
 use http_server::{Config, Connection};
@@ -27,9 +28,6 @@ use std::rt::{Clock, Files};
 use std::time::{Duration, Instant};
 use upload_files::{FileFault, GrowingFile};
 use upload_folder::{Clients, Folder};
-
-// What `/recorder.js` gives, until the recorder is part of the server.
-const RECORDER: &[u8] = b"// The recorder isn't part of this server yet.\n";
 
 // The listener's token. Those of connections are their places.
 const LISTENER: Token = Token(1 << 32);

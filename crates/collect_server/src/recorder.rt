@@ -1,0 +1,424 @@
+//! What `/recorder.js` gives: `recorder/recorder.js` without indents and comments.
+//! `tools/browser/served.py` writes it.
+
+pub(crate) const RECORDER: &[u8] = b"\
+    (() => {\n\
+    \"use strict\";\n\
+    const get = (el, name) => Reflect.get(Element.prototype, name, el);\n\
+    const { getAttribute, getAttributeNames, matches, querySelectorAll } = Element.prototype;\n\
+    const attribute = (el, name) => el ? getAttribute.call(el, name) : null;\n\
+    const all = (el, selector) => [...querySelectorAll.call(el, selector)];\n\
+    const MOST_BYTES = 65200, MOST_NODES = 4096, MOST_LEVELS = 48;\n\
+    const ACTING = \"a[*|href],area[href],button,input,textarea,select\", TARGETS = \"form,\" + ACTING;\n\
+    const READ = \"href action method type name value checked disabled formaction formmethod\".split(\" \");\n\
+    const SEEN = [...READ, ...\"alt src title placeholder aria-label\".split(\" \")];\n\
+    const json = (value) => JSON.stringify(value).replace(/\\\\(\\\\|ud\\w{3})/g, (it) => it.length > 2 ? \"\\ufffd\" : it);\n\
+    const bytesOf = (text) => new TextEncoder().encode(text).length;\n\
+    const asSent = (text) => text.replace(/\\r\\n?|\\n/g, \"\\r\\n\");\n\
+    const nameOf = (el) => get(el, \"localName\").match(/^[a-z_][\\w.-]{0,63}$/i)?.[0] ?? \"_\";\n\
+    const kindOf = (el) => {\n\
+    const isField = /^(input|button|textarea|select)$/.test(nameOf(el)), { type } = el;\n\
+    return !isField || /^(image|file|reset|button)$/.test(type) ? \"\" : /^(check|rad|sub)/.test(type) ? type : \"text\";\n\
+    };\n\
+    const startOf = (el) => {\n\
+    const form = document.createElement(\"form\");\n\
+    form.append(el.cloneNode(true));\n\
+    HTMLFormElement.prototype.reset.call(form);\n\
+    return asSent(form[0]?.value ?? \"\");\n\
+    };\n\
+    const attributesOf = (el, n, step) => {\n\
+    const a = {};\n\
+    const names = step > 1 ? READ : step ? SEEN : getAttributeNames.call(el);\n\
+    for (const name of names) a[name] = attribute(el, name) ?? undefined;\n\
+    const isMended = n === \"input\" && kindOf(el) === \"text\" && el.value !== (a.value ?? \"\");\n\
+    if (n === \"select\" || isMended) a.value = startOf(el);\n\
+    else if (a.value) a.value = asSent(a.value);\n\
+    return a;\n\
+    };\n\
+    const leading = (root) => {\n\
+    const shown = new Set([root, ...all(root, `:is(${TARGETS}),:has(${TARGETS})`)]);\n\
+    for (const el of shown) {\n\
+    let it = el;\n\
+    do it = get(it, \"previousElementSibling\"); while (it && nameOf(it) !== nameOf(el));\n\
+    if (it) shown.add(it);\n\
+    }\n\
+    return shown;\n\
+    };\n\
+    const isKept = (text, n, step) => !step || n === \"textarea\" || step < 2 && !/^(script|style)$/.test(n) && text.trim();\n\
+    const treeOf = (copy, n, path, level, page) => {\n\
+    const { step, shown, places } = page, c = [], counts = { __proto__: null };\n\
+    places.set(copy, { copy, path });\n\
+    for (let it = get(copy, \"firstChild\"); it; it = get(it, \"nextSibling\")) {\n\
+    if (it instanceof Text) {\n\
+    if (isKept(it.data, n, step)) c.push(n === \"textarea\" ? asSent(it.data) : it.data);\n\
+    } else if (it instanceof Element && level < MOST_LEVELS && (!shown || shown.has(it))) {\n\
+    const name = nameOf(it), count = counts[name] = (counts[name] ?? 0) + 1;\n\
+    c.push(treeOf(it, name, `${path}/${name}[${count}]`, level + 1, page));\n\
+    }\n\
+    }\n\
+    page.nodes += c.length;\n\
+    return { n, a: attributesOf(copy, n, step), c };\n\
+    };\n\
+    const pageOf = (root, room, from) => {\n\
+    for (let step = from ?? (all(root, \"*\").length < MOST_NODES ? 0 : 3); ; step += 1) {\n\
+    const page = { step, shown: step > 3 ? new Set() : step > 2 ? leading(root) : null, places: new Map(), nodes: 1 };\n\
+    page.text = json(treeOf(root, nameOf(root), `/${nameOf(root)}[1]`, 1, page)).replace(/,\"(a\":{}|c\":\\[\\])/g, \"\");\n\
+    if (step > 3 || page.nodes <= MOST_NODES && bytesOf(page.text) <= room) return page;\n\
+    }\n\
+    };\n\
+    const safely = (act) => (...words) => {\n\
+    try {\n\
+    return act(...words);\n\
+    } catch {}\n\
+    };\n\
+    const bare = (address) => address.split(\"#\")[0];\n\
+    const unasked = (address) => address.split(/[?#]/)[0];\n\
+    const script = document.currentScript?.src, UPLOAD = new URL(\"upload\", script || location.origin);\n\
+    const MARK = Symbol.for(\"yugdemor\"), DAY = 864e5, { fetch, Date: { now } } = window;\n\
+    const LINE = \"yugdemor line \", OPEN = \"yugdemor open \", TO = \"yugdemor to \", KNOWN = \"yugdemor known\";\n\
+    const local = safely(() => localStorage)() ?? {}, session = safely(() => sessionStorage)() ?? {}, memory = {};\n\
+    const store = (where, key, text) => safely(() => where[key] = text)();\n\
+    const stored = (kind) => [local, memory].flatMap((where) => Object.keys(where).sort()\n\
+    .filter((key) => key.startsWith(kind) && where[key]).map((key) => [key, where[key]]));\n\
+    let room = 2e6, isSafe = local instanceof Storage, isKnown = local[KNOWN], pause = 0, isSending, timer;\n\
+    const keep = (line, tail = \"}\") => {\n\
+    const key = `${LINE}${line.v} ${1e5 + line.n}`, text = json(line).slice(0, -1) + tail;\n\
+    room -= text.length;\n\
+    isSafe &&= room > 0 && store(local, key, text);\n\
+    if (!isSafe) memory[key] = text;\n\
+    };\n\
+    const nextLines = (kind, left) => stored(kind).filter(([, text], at) => (left -= text.length) > 0 || !at);\n\
+    const bodyOf = (lines) => lines.map(([, text]) => text + \"\\n\").join(\"\");\n\
+    const acknowledge = (lines, { have = {}, refused = {} }) => {\n\
+    const first = {};\n\
+    let went;\n\
+    for (const [key, text] of lines) {\n\
+    const line = JSON.parse(text), { v, n, opener } = line;\n\
+    if (!(v in have)) continue;\n\
+    first[v] ??= n;\n\
+    const isLost = refused[v] || first[v] > have[v] + 1, isDone = isLost || n <= have[v];\n\
+    if (isLost && v === visit.v) visit.isOver = true;\n\
+    if (!isDone && (!opener || local[OPEN + opener])) continue;\n\
+    went = true;\n\
+    room += text.length;\n\
+    delete local[key];\n\
+    delete memory[key];\n\
+    if (!isDone) keep({ ...line, opener: undefined });\n\
+    }\n\
+    return went;\n\
+    };\n\
+    const ask = async (options) => {\n\
+    const answer = await fetch(UPLOAD, { credentials: \"include\", ...options });\n\
+    isKnown &&= answer.status !== 401;\n\
+    return answer.json();\n\
+    };\n\
+    const flush = async () => {\n\
+    clearTimeout(timer);\n\
+    timer = null;\n\
+    const lines = isSending ? [] : nextLines(LINE, 12e4);\n\
+    if (!lines.length) return;\n\
+    let went;\n\
+    isSending = true;\n\
+    try {\n\
+    isKnown ||= await (navigator.locks?.request(KNOWN, () => ask()) ?? ask());\n\
+    store(local, KNOWN, 1);\n\
+    went = acknowledge(lines, await ask({ method: \"POST\", body: bodyOf(lines) }));\n\
+    } catch {}\n\
+    isSending = false;\n\
+    pause = went ? 100 : Math.min(3e4, pause * 2 + 100);\n\
+    plan();\n\
+    };\n\
+    const plan = () => (timer ??= setTimeout(flush, pause));\n\
+    let visit;\n\
+    const begin = (isNew, handed) => {\n\
+    const at = now(), v = `${at.toString(36)}-${crypto.getRandomValues(new Uint32Array(4)).join(\"-\")}`;\n\
+    visit = { v, isNew, handed, path: location.pathname + location.search, at, n: 0, requests: 0, isOver: true };\n\
+    window[MARK] = v;\n\
+    store(local, OPEN + v, json({ at }));\n\
+    };\n\
+    const say = (t, rest, tail) => {\n\
+    if (visit.isOver) return;\n\
+    const { v } = visit, n = visit.n += 1, at = visit.at = now();\n\
+    keep({ v, n, t, at, kept: isSafe ? undefined : false, ...rest }, tail);\n\
+    store(local, OPEN + v, json({ v, n: n + 1, t: \"end\", at }));\n\
+    plan();\n\
+    };\n\
+    const sayEvent = (t, chain, rest) => {\n\
+    if (visit.n < 1e4) say(t, { target: targetOf(chain), ...rest });\n\
+    else if (visit.n === 1e4) say(\"click\", { target: targetOf([]) });\n\
+    };\n\
+    const take = () => {\n\
+    if (visit.els) return;\n\
+    visit.els = document.querySelectorAll(\"*\");\n\
+    visit.copy = document.implementation.createHTMLDocument(\"\").importNode(visit.els[0], true);\n\
+    window.requestIdleCallback?.(tell, { timeout: 500 }) ?? setTimeout(tell, 50);\n\
+    };\n\
+    const tell = safely(() => {\n\
+    if (visit.places) return;\n\
+    visit.places = new Map();\n\
+    const { els, copy, isNew, path } = visit, head = { ...openerOf(visit), path };\n\
+    const page = pageOf(copy, MOST_BYTES - bytesOf(json(head)));\n\
+    visit.places = page.places;\n\
+    [copy, ...all(copy, \"*\")].forEach((copy, at) => {\n\
+    const el = els[at], it = placeOf(copy);\n\
+    if (!it) return;\n\
+    it.el = el;\n\
+    it.filled = isNew ? null : valueOf(el);\n\
+    visit.places.set(el, it);\n\
+    });\n\
+    visit.isOver = false;\n\
+    say(\"load\", { ...head, step: page.step }, `,\"page\":${page.text}}`);\n\
+    });\n\
+    const placeOf = (el) => visit.places.get(el);\n\
+    const targetOf = (chain) => {\n\
+    const at = chain.findIndex(placeOf), { path } = placeOf(chain[at] ?? visit.copy);\n\
+    return at ? `${path.split(\"/\", MOST_LEVELS).join(\"/\")}/_new[1]` : path;\n\
+    };\n\
+    const isLink = (el) => el && /^(a|area)$/.test(nameOf(el));\n\
+    const conflict = (chain) =>\n\
+    sayEvent(\"click\", chain.filter((el) => !isLink(el)), { req: visit.requests += 1 });\n\
+    const handOn = (to, n) => {\n\
+    if (!to) return;\n\
+    const id = TO + [visit.v, n, bare(to)], opened = { opener: visit.v, from: n };\n\
+    store(session, TO, id);\n\
+    store(local, id, json({ id, opened, url: bare(document.URL), to: bare(to), at: now() }));\n\
+    };\n\
+    const openerOf = ({ isNew, handed }) => {\n\
+    const fit = ({ id, url, to }) => {\n\
+    const there = (to === bare(document.URL)) * 2 + (url === document.referrer);\n\
+    return (isNew || id === handed) && there && there + (id === handed) * 1.5;\n\
+    };\n\
+    const [best] = stored(TO).map(([, text]) => JSON.parse(text))\n\
+    .filter((it) => performance.timeOrigin - it.at < 6e4 ? fit(it) : !delete local[it.id])\n\
+    .sort((one, other) => fit(other) - fit(one));\n\
+    delete local[best?.id];\n\
+    return best?.opened ?? (isNew && window !== parent && { opener: parent[MARK] });\n\
+    };\n\
+    let typed, idle;\n\
+    const valueOf = (el) => el.type === \"checkbox\" ? el.checked : el.value;\n\
+    const isOn = (it) => it.held ?? attribute(it.copy, \"checked\") !== null;\n\
+    const heldBy = (it) => it.held ?? startOf(it.copy);\n\
+    const sayInput = (el, chain, text) => {\n\
+    const value = asSent(text), it = placeOf(el);\n\
+    if (el.type === \"password\" || it && (it.copy.type === \"password\" || heldBy(it) === value)) return;\n\
+    if (bytesOf(json(value)) > 6e4) return conflict(chain);\n\
+    if (it) it.held = value;\n\
+    sayEvent(\"input\", chain, { value });\n\
+    };\n\
+    const sayTyped = (next = null) => {\n\
+    if (typed && typed[0] !== next?.[0]) sayInput(...typed);\n\
+    typed = next;\n\
+    clearTimeout(idle);\n\
+    if (next) idle = setTimeout(safely(sayTyped), 1000);\n\
+    };\n\
+    const toggle = (it) => {\n\
+    it.held = !isOn(it);\n\
+    sayEvent(\"click\", [it.el]);\n\
+    };\n\
+    const under = (form) => placeOf(form) ? all(placeOf(form).copy, \"*\").map(placeOf).filter(Boolean) : [];\n\
+    const reconcile = (form) => {\n\
+    for (const it of under(form)) {\n\
+    const { el, filled } = it, kind = kindOf(it.copy);\n\
+    if (filled !== valueOf(el) && !el.matches(\":autofill\")) continue;\n\
+    if (kind === \"text\") sayInput(el, [el], el.value);\n\
+    if (kind === \"checkbox\" && isOn(it) !== el.checked) toggle(it);\n\
+    }\n\
+    };\n\
+    const pairsOf = (form, by) => under(form).flatMap((it) => {\n\
+    const { name, value, disabled } = attributesOf(it.copy, nameOf(it.copy), 1), kind = kindOf(it.copy);\n\
+    if (!name || disabled !== undefined) return [];\n\
+    if (kind === \"text\") return [[name, heldBy(it)]];\n\
+    if (/^[cr]/.test(kind)) return isOn(it) ? [[name, value ?? \"on\"]] : [];\n\
+    return it.el === by ? [[name, value ?? \"\"]] : [];\n\
+    });\n\
+    const stated = ({ form, submitter }, name) => attribute(submitter, `form${name}`) ?? attribute(form, name) ?? \"\";\n\
+    const submitTo = (submit) => URL.parse(stated(submit, \"action\") || document.URL, document.baseURI);\n\
+    const replayed = (address) => URL.parse(address, location.origin + visit.path)?.href ?? \"\";\n\
+    const isSubmitSaid = (submit, to) => {\n\
+    const { form, submitter, data } = submit, copy = placeOf(form)?.copy, post = /^post$/i;\n\
+    const isPost = post.test(stated(submit, \"method\")), part = isPost ? bare : unasked;\n\
+    const sent = [...data].map((pair) => pair.map((it) => it.replace ? asSent(it) : null));\n\
+    return isPost === post.test(attribute(copy, \"method\"))\n\
+    && !(isPost && /^(multi|text)/i.test(stated(submit, \"enctype\")))\n\
+    && /^\\s*utf-?8\\s*$/i.test(attribute(form, \"accept-charset\") ?? document.characterSet)\n\
+    && /^http/.test(to?.href) && part(to.href) === part(replayed(attribute(copy, \"action\") || visit.path))\n\
+    && json(sent) === json(pairsOf(form, submitter));\n\
+    };\n\
+    let asked;\n\
+    const request = (isSaid, t, chain, rest, to, here) => {\n\
+    if (isSaid) sayEvent(t, chain, { ...rest, req: visit.requests += 1 });\n\
+    else conflict(chain);\n\
+    asked = { to: unasked(to?.href ?? \"\"), isHere: here && window.navigation };\n\
+    handOn(to?.href, visit.requests);\n\
+    };\n\
+    let pending, cause;\n\
+    const acting = (chain) => chain.find((el) => matches.call(el, ACTING));\n\
+    const isHere = (target) => {\n\
+    const name = target ?? attribute(document.querySelector(\"base[target]\"), \"target\") ?? \"\";\n\
+    return /^(_self)?$/i.test(name) || name === window.name || window === parent && /^_(top|parent)$/i.test(name);\n\
+    };\n\
+    const staysHere = (link, { button, ctrlKey, metaKey, shiftKey, altKey }) =>\n\
+    !(button || ctrlKey || metaKey || shiftKey || altKey || matches.call(link, \"[download]\"))\n\
+    && isHere(attribute(link, \"target\"));\n\
+    const linkTo = (link, event) => {\n\
+    if (!isLink(link) || event.defaultPrevented) return null;\n\
+    const to = URL.parse(link.href?.baseVal ?? link.href, document.baseURI);\n\
+    const isInside = to?.href.includes(\"#\") && bare(to.href) === bare(document.URL);\n\
+    return /^http/.test(to?.href) && !(isInside && staysHere(link, event)) ? to : null;\n\
+    };\n\
+    const settleClick = (el, chain, event, made) => {\n\
+    const it = placeOf(el), kind = it && kindOf(it.copy), to = linkTo(el, event);\n\
+    const isOdd = event.altKey || [el, event.target].some((it) => matches.call(it, \"[ping],[ismap]\"));\n\
+    const isSaid = !isOdd && replayed(attribute(it?.copy, \"href\")) === to?.href;\n\
+    if (to) request(isSaid, \"click\", chain, {}, to, staysHere(el, event));\n\
+    else if (event.type !== \"click\" || kind === \"text\" || event.defaultPrevented && /^[cr]/.test(kind)) return;\n\
+    else if (kind === \"checkbox\") toggle(it);\n\
+    else if (!made) sayEvent(\"click\", chain);\n\
+    };\n\
+    const settleSubmit = (submit, made) => {\n\
+    const { form, submitter, data, event } = submit, by = submitter && { by: targetOf([submitter]) };\n\
+    const to = submitTo(submit);\n\
+    reconcile(form);\n\
+    if (data && !event.defaultPrevented)\n\
+    request(isSubmitSaid(submit, to), \"submit\", [form], by, to, isHere(stated(submit, \"target\") || undefined));\n\
+    else if (!made) sayEvent(\"submit\", [form], by);\n\
+    };\n\
+    const settle = () => {\n\
+    if (!pending) return;\n\
+    const { event, chain, isClick, field, submit, made, went } = pending, el = isClick && acting(chain);\n\
+    pending = null;\n\
+    checkLeft();\n\
+    if (field) sayTyped([...field, field[0].value]);\n\
+    if (isClick || submit || made) sayTyped();\n\
+    if (submit) settleSubmit(submit, made);\n\
+    else if (el) settleClick(el, chain.slice(chain.indexOf(el)), event, made);\n\
+    cause = { at: now(), chain };\n\
+    if (went) leave(went);\n\
+    made?.forEach(answer);\n\
+    };\n\
+    const answer = (to) => {\n\
+    if (!cause.n) conflict(cause.chain);\n\
+    cause.n ??= visit.requests;\n\
+    handOn(to, cause.n);\n\
+    };\n\
+    const fail = () => pending ? (pending.made ??= []).push(null) : answer();\n\
+    const leave = (to) => asked?.to === unasked(to) ? asked.isHere = false : fail();\n\
+    const checkLeft = () => {\n\
+    if (asked?.isHere) fail();\n\
+    asked = null;\n\
+    };\n\
+    const background = new Set();\n\
+    const noteRequest = (address, opens, target) => {\n\
+    const to = address === null ? \"\" : URL.parse(address, document.baseURI)?.href ?? \"\", led = opens && to;\n\
+    if (!/^(http|about)/.test(to) || target !== undefined && window.navigation && isHere(target)) return;\n\
+    if (pending) (pending.made ??= []).push(led);\n\
+    else if (now() - cause?.at < 500 && !background.has(unasked(to))) answer(led);\n\
+    else {\n\
+    background.add(unasked(to));\n\
+    handOn(led, 0);\n\
+    }\n\
+    };\n\
+    const startEvent = (event) => {\n\
+    const { type } = event, chain = event.composedPath().filter((it) => it instanceof Element), [el] = chain;\n\
+    if (!event.isTrusted) return type === \"click\" && noteRequest(linkTo(acting(chain), event), true);\n\
+    if (type === \"input\" && event.inputType && !pending) return;\n\
+    if (now() - visit.at > DAY) begin();\n\
+    take();\n\
+    tell();\n\
+    const isClick = type === \"click\" || type === \"auxclick\" && event.button === 1;\n\
+    if (isClick) settle();\n\
+    if (!pending) setTimeout(safely(settle));\n\
+    pending ??= { event, isClick, chain };\n\
+    if (event.key === \"Enter\") pending.enter = event;\n\
+    if (type === \"input\" && kindOf(el) === \"text\") pending.field = [el, chain];\n\
+    };\n\
+    const noteSubmit = (event) => {\n\
+    const { submitter, target: form, isTrusted } = event, { enter, isClick, chain } = pending ?? {};\n\
+    if (!isTrusted) return;\n\
+    const isPressed = isClick && acting(chain) === submitter && !pending.event.defaultPrevented;\n\
+    const isEntered = enter?.target.form === form && !enter.defaultPrevented;\n\
+    if (isPressed || isEntered) pending.submit = { form, submitter, event };\n\
+    else noteRequest(submitTo({ form, submitter })?.href, true);\n\
+    };\n\
+    const watchCalls = (note) => {\n\
+    const { prototype } = XMLHttpRequest;\n\
+    const watch = (owner, name, act) => {\n\
+    owner[name] = new Proxy(owner[name], { apply(call, self, words) {\n\
+    safely(act)(self, ...words);\n\
+    return Reflect.apply(call, self, words);\n\
+    } });\n\
+    };\n\
+    watch(window, \"fetch\", (_, it) => note(it?.url ?? it));\n\
+    watch(window, \"open\", (_, it) => note(it || \"about:blank\", true));\n\
+    watch(Navigator.prototype, \"sendBeacon\", (_, it) => note(it));\n\
+    watch(HTMLElement.prototype, \"click\", (it) => it.href && !it.isConnected && note(it.href, true));\n\
+    watch(HTMLFormElement.prototype, \"submit\", (it) => note(attribute(it, \"action\") ?? \"\", true, attribute(it, \"target\")));\n\
+    watch(prototype, \"open\", (self, _, it) => self[MARK] = it);\n\
+    watch(prototype, \"send\", (self) => note(self[MARK]));\n\
+    };\n\
+    const on = (owner, type, act) => owner?.addEventListener(type, safely(act), true);\n\
+    const start = () => {\n\
+    if (window[MARK]) return;\n\
+    const handed = session[TO];\n\
+    delete session[TO];\n\
+    begin(performance.getEntriesByType(\"navigation\")[0].type === \"navigate\", handed);\n\
+    for (const [, text] of stored(LINE)) room -= text.length;\n\
+    for (const [key, text] of stored(OPEN)) {\n\
+    const end = JSON.parse(text);\n\
+    if (end.at > now() - 2 * DAY) continue;\n\
+    delete local[key];\n\
+    if (end.n) keep(end);\n\
+    }\n\
+    plan();\n\
+    for (const type of \"pointerdown keydown keypress beforeinput input click auxclick change drop\".split(\" \"))\n\
+    on(window, type, startEvent);\n\
+    on(window, \"submit\", noteSubmit);\n\
+    on(window, \"formdata\", ({ isTrusted, target, formData }) => {\n\
+    if (isTrusted && pending?.submit?.form === target) pending.submit.data = formData;\n\
+    });\n\
+    on(window.navigation, \"navigate\", ({ destination: { url, sameDocument }, navigationType, userInitiated }) => {\n\
+    const { way } = visit, at = now();\n\
+    if (url === way?.url && at - way.at < 3000) fail();\n\
+    visit.way = !sameDocument && navigationType !== \"traverse\" && /^http/.test(url) && { url, at };\n\
+    if (!visit.way) return;\n\
+    if (!userInitiated) noteRequest(url, true);\n\
+    else if (pending) pending.went = url;\n\
+    else leave(url);\n\
+    });\n\
+    for (const it of [\"success\", \"error\"]) on(window.navigation, `navigate${it}`, () => {\n\
+    const { way } = visit;\n\
+    setTimeout(safely(() => way && way === visit.way && fail()));\n\
+    });\n\
+    on(document, \"securitypolicyviolation\", (it) => it.effectiveDirective === \"form-action\" && fail());\n\
+    on(window, \"pageshow\", ({ persisted }) => {\n\
+    if (persisted) begin();\n\
+    take();\n\
+    });\n\
+    on(window, \"pagehide\", () => {\n\
+    take();\n\
+    tell();\n\
+    settle();\n\
+    checkLeft();\n\
+    sayTyped();\n\
+    say(\"end\");\n\
+    visit.isOver = true;\n\
+    delete local[OPEN + visit.v];\n\
+    if (isKnown) navigator.sendBeacon(UPLOAD, bodyOf(nextLines(LINE + visit.v, 6e4)));\n\
+    });\n\
+    on(document, \"visibilitychange\", () => {\n\
+    settle();\n\
+    sayTyped();\n\
+    if (visit.els) tell();\n\
+    flush();\n\
+    });\n\
+    on(window, \"online\", flush);\n\
+    if (document.readyState === \"complete\") take();\n\
+    if (script) watchCalls(noteRequest);\n\
+    else on(window, \"yugdemor\", ({ detail }) => noteRequest(...JSON.parse(detail)));\n\
+    };\n\
+    if (/^http/.test(location) && safely(() => top.location.href)()) {\n\
+    if (document.prerendering) on(document, \"prerenderingchange\", start);\n\
+    else safely(start)();\n\
+    }\n\
+    })();\n\
+";

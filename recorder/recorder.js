@@ -1,0 +1,456 @@
+// Records what users do on a site's pages: README.md says how and why.
+(() => {
+"use strict";
+
+// ---- page (tools/pages takes it, too)
+
+// a field named `attributes` hides that of its form
+const get = (el, name) => Reflect.get(Element.prototype, name, el);
+const { getAttribute, getAttributeNames, matches, querySelectorAll } = Element.prototype;
+const attribute = (el, name) => el ? getAttribute.call(el, name) : null;
+const all = (el, selector) => [...querySelectorAll.call(el, selector)];
+
+const MOST_BYTES = 65200, MOST_NODES = 4096, MOST_LEVELS = 48;
+const ACTING = "a[*|href],area[href],button,input,textarea,select", TARGETS = "form," + ACTING;
+const READ = "href action method type name value checked disabled formaction formmethod".split(" ");
+const SEEN = [...READ, ..."alt src title placeholder aria-label".split(" ")];
+
+// no half of a pair
+const json = (value) => JSON.stringify(value).replace(/\\(\\|ud\w{3})/g, (it) => it.length > 2 ? "\ufffd" : it);
+const bytesOf = (text) => new TextEncoder().encode(text).length;
+const asSent = (text) => text.replace(/\r\n?|\n/g, "\r\n");
+const nameOf = (el) => get(el, "localName").match(/^[a-z_][\w.-]{0,63}$/i)?.[0] ?? "_";
+const kindOf = (el) => {
+	const isField = /^(input|button|textarea|select)$/.test(nameOf(el)), { type } = el;
+	return !isField || /^(image|file|reset|button)$/.test(type) ? "" : /^(check|rad|sub)/.test(type) ? type : "text";
+};
+const startOf = (el) => {
+	const form = document.createElement("form");
+	form.append(el.cloneNode(true));
+	HTMLFormElement.prototype.reset.call(form);
+	return asSent(form[0]?.value ?? "");
+};
+const attributesOf = (el, n, step) => {
+	const a = {};
+	const names = step > 1 ? READ : step ? SEEN : getAttributeNames.call(el);
+	for (const name of names) a[name] = attribute(el, name) ?? undefined;
+	const isMended = n === "input" && kindOf(el) === "text" && el.value !== (a.value ?? "");
+	if (n === "select" || isMended) a.value = startOf(el);
+	else if (a.value) a.value = asSent(a.value);
+	return a;
+};
+const leading = (root) => {
+	const shown = new Set([root, ...all(root, `:is(${TARGETS}),:has(${TARGETS})`)]);
+	for (const el of shown) {
+		let it = el;
+		do it = get(it, "previousElementSibling"); while (it && nameOf(it) !== nameOf(el));
+		if (it) shown.add(it);
+	}
+	return shown;
+};
+const isKept = (text, n, step) => !step || n === "textarea" || step < 2 && !/^(script|style)$/.test(n) && text.trim();
+const treeOf = (copy, n, path, level, page) => {
+	const { step, shown, places } = page, c = [], counts = { __proto__: null };
+	places.set(copy, { copy, path });
+	for (let it = get(copy, "firstChild"); it; it = get(it, "nextSibling")) {
+		if (it instanceof Text) {
+			if (isKept(it.data, n, step)) c.push(n === "textarea" ? asSent(it.data) : it.data);
+		} else if (it instanceof Element && level < MOST_LEVELS && (!shown || shown.has(it))) {
+			const name = nameOf(it), count = counts[name] = (counts[name] ?? 0) + 1;
+			c.push(treeOf(it, name, `${path}/${name}[${count}]`, level + 1, page));
+		}
+	}
+	page.nodes += c.length;
+	return { n, a: attributesOf(copy, n, step), c };
+};
+const pageOf = (root, room, from) => {
+	for (let step = from ?? (all(root, "*").length < MOST_NODES ? 0 : 3); ; step += 1) {
+		const page = { step, shown: step > 3 ? new Set() : step > 2 ? leading(root) : null, places: new Map(), nodes: 1 };
+		page.text = json(treeOf(root, nameOf(root), `/${nameOf(root)}[1]`, 1, page)).replace(/,"(a":{}|c":\[\])/g, "");
+		if (step > 3 || page.nodes <= MOST_NODES && bytesOf(page.text) <= room) return page;
+	}
+};
+// ---- end of page
+
+const safely = (act) => (...words) => {
+	try {
+		return act(...words);
+	} catch {}
+};
+const bare = (address) => address.split("#")[0];
+const unasked = (address) => address.split(/[?#]/)[0];
+
+// ---- lines, in memory where storage is closed or full
+
+const script = document.currentScript?.src, UPLOAD = new URL("upload", script || location.origin);
+const MARK = Symbol.for("yugdemor"), DAY = 864e5, { fetch, Date: { now } } = window;
+const LINE = "yugdemor line ", OPEN = "yugdemor open ", TO = "yugdemor to ", KNOWN = "yugdemor known";
+const local = safely(() => localStorage)() ?? {}, session = safely(() => sessionStorage)() ?? {}, memory = {};
+const store = (where, key, text) => safely(() => where[key] = text)();
+const stored = (kind) => [local, memory].flatMap((where) => Object.keys(where).sort()
+	.filter((key) => key.startsWith(kind) && where[key]).map((key) => [key, where[key]]));
+
+let room = 2e6, isSafe = local instanceof Storage, isKnown = local[KNOWN], pause = 0, isSending, timer;
+const keep = (line, tail = "}") => {
+	const key = `${LINE}${line.v} ${1e5 + line.n}`, text = json(line).slice(0, -1) + tail;
+	room -= text.length;
+	isSafe &&= room > 0 && store(local, key, text);
+	if (!isSafe) memory[key] = text;
+};
+const nextLines = (kind, left) => stored(kind).filter(([, text], at) => (left -= text.length) > 0 || !at);
+const bodyOf = (lines) => lines.map(([, text]) => text + "\n").join("");
+const acknowledge = (lines, { have = {}, refused = {} }) => {
+	const first = {};
+	let went;
+	for (const [key, text] of lines) {
+		const line = JSON.parse(text), { v, n, opener } = line;
+		if (!(v in have)) continue;
+		first[v] ??= n;
+		const isLost = refused[v] || first[v] > have[v] + 1, isDone = isLost || n <= have[v];
+		if (isLost && v === visit.v) visit.isOver = true;
+		// a load waits for its opener
+		if (!isDone && (!opener || local[OPEN + opener])) continue;
+		went = true;
+		room += text.length;
+		delete local[key];
+		delete memory[key];
+		if (!isDone) keep({ ...line, opener: undefined });
+	}
+	return went;
+};
+const ask = async (options) => {
+	const answer = await fetch(UPLOAD, { credentials: "include", ...options });
+	isKnown &&= answer.status !== 401;
+	return answer.json();
+};
+const flush = async () => {
+	clearTimeout(timer);
+	timer = null;
+	const lines = isSending ? [] : nextLines(LINE, 12e4);
+	if (!lines.length) return;
+	let went;
+	isSending = true;
+	try {
+		// the cookie first, to one tab
+		isKnown ||= await (navigator.locks?.request(KNOWN, () => ask()) ?? ask());
+		store(local, KNOWN, 1);
+		went = acknowledge(lines, await ask({ method: "POST", body: bodyOf(lines) }));
+	} catch {}
+	isSending = false;
+	pause = went ? 100 : Math.min(3e4, pause * 2 + 100);
+	plan();
+};
+const plan = () => (timer ??= setTimeout(flush, pause));
+
+let visit;
+const begin = (isNew, handed) => {
+	const at = now(), v = `${at.toString(36)}-${crypto.getRandomValues(new Uint32Array(4)).join("-")}`;
+	visit = { v, isNew, handed, path: location.pathname + location.search, at, n: 0, requests: 0, isOver: true };
+	window[MARK] = v;
+	store(local, OPEN + v, json({ at }));
+};
+const say = (t, rest, tail) => {
+	if (visit.isOver) return;
+	const { v } = visit, n = visit.n += 1, at = visit.at = now();
+	keep({ v, n, t, at, kept: isSafe ? undefined : false, ...rest }, tail);
+	store(local, OPEN + v, json({ v, n: n + 1, t: "end", at }));
+	plan();
+};
+const sayEvent = (t, chain, rest) => {
+	if (visit.n < 1e4) say(t, { target: targetOf(chain), ...rest });
+	else if (visit.n === 1e4) say("click", { target: targetOf([]) });
+};
+// into a document where it does nothing
+const take = () => {
+	if (visit.els) return;
+	visit.els = document.querySelectorAll("*");
+	visit.copy = document.implementation.createHTMLDocument("").importNode(visit.els[0], true);
+	window.requestIdleCallback?.(tell, { timeout: 500 }) ?? setTimeout(tell, 50);
+};
+const tell = safely(() => {
+	if (visit.places) return;
+	visit.places = new Map();
+	const { els, copy, isNew, path } = visit, head = { ...openerOf(visit), path };
+	const page = pageOf(copy, MOST_BYTES - bytesOf(json(head)));
+	visit.places = page.places;
+	[copy, ...all(copy, "*")].forEach((copy, at) => {
+		const el = els[at], it = placeOf(copy);
+		if (!it) return;
+		it.el = el;
+		it.filled = isNew ? null : valueOf(el);
+		visit.places.set(el, it);
+	});
+	visit.isOver = false;
+	say("load", { ...head, step: page.step }, `,"page":${page.text}}`);
+});
+const placeOf = (el) => visit.places.get(el);
+// of the first of a chain, or a path that no page has
+const targetOf = (chain) => {
+	const at = chain.findIndex(placeOf), { path } = placeOf(chain[at] ?? visit.copy);
+	return at ? `${path.split("/", MOST_LEVELS).join("/")}/_new[1]` : path;
+};
+const isLink = (el) => el && /^(a|area)$/.test(nameOf(el));
+// a click with a request, on what is no link
+const conflict = (chain) =>
+	sayEvent("click", chain.filter((el) => !isLink(el)), { req: visit.requests += 1 });
+
+const handOn = (to, n) => {
+	if (!to) return;
+	const id = TO + [visit.v, n, bare(to)], opened = { opener: visit.v, from: n };
+	store(session, TO, id);
+	store(local, id, json({ id, opened, url: bare(document.URL), to: bare(to), at: now() }));
+};
+const openerOf = ({ isNew, handed }) => {
+	// behind a redirect the referrer alone fits
+	const fit = ({ id, url, to }) => {
+		const there = (to === bare(document.URL)) * 2 + (url === document.referrer);
+		return (isNew || id === handed) && there && there + (id === handed) * 1.5;
+	};
+	const [best] = stored(TO).map(([, text]) => JSON.parse(text))
+		.filter((it) => performance.timeOrigin - it.at < 6e4 ? fit(it) : !delete local[it.id])
+		.sort((one, other) => fit(other) - fit(one));
+	delete local[best?.id];
+	return best?.opened ?? (isNew && window !== parent && { opener: parent[MARK] });
+};
+
+let typed, idle;
+const valueOf = (el) => el.type === "checkbox" ? el.checked : el.value;
+const isOn = (it) => it.held ?? attribute(it.copy, "checked") !== null;
+const heldBy = (it) => it.held ?? startOf(it.copy);
+const sayInput = (el, chain, text) => {
+	const value = asSent(text), it = placeOf(el);
+	// a password, shown or not
+	if (el.type === "password" || it && (it.copy.type === "password" || heldBy(it) === value)) return;
+	if (bytesOf(json(value)) > 6e4) return conflict(chain);
+	if (it) it.held = value;
+	sayEvent("input", chain, { value });
+};
+const sayTyped = (next = null) => {
+	if (typed && typed[0] !== next?.[0]) sayInput(...typed);
+	typed = next;
+	clearTimeout(idle);
+	if (next) idle = setTimeout(safely(sayTyped), 1000);
+};
+const toggle = (it) => {
+	it.held = !isOn(it);
+	sayEvent("click", [it.el]);
+};
+const under = (form) => placeOf(form) ? all(placeOf(form).copy, "*").map(placeOf).filter(Boolean) : [];
+const reconcile = (form) => {
+	for (const it of under(form)) {
+		const { el, filled } = it, kind = kindOf(it.copy);
+		if (filled !== valueOf(el) && !el.matches(":autofill")) continue;
+		if (kind === "text") sayInput(el, [el], el.value);
+		if (kind === "checkbox" && isOn(it) !== el.checked) toggle(it);
+	}
+};
+
+const pairsOf = (form, by) => under(form).flatMap((it) => {
+	const { name, value, disabled } = attributesOf(it.copy, nameOf(it.copy), 1), kind = kindOf(it.copy);
+	if (!name || disabled !== undefined) return [];
+	if (kind === "text") return [[name, heldBy(it)]];
+	if (/^[cr]/.test(kind)) return isOn(it) ? [[name, value ?? "on"]] : [];
+	return it.el === by ? [[name, value ?? ""]] : [];
+});
+const stated = ({ form, submitter }, name) => attribute(submitter, `form${name}`) ?? attribute(form, name) ?? "";
+const submitTo = (submit) => URL.parse(stated(submit, "action") || document.URL, document.baseURI);
+const replayed = (address) => URL.parse(address, location.origin + visit.path)?.href ?? "";
+const isSubmitSaid = (submit, to) => {
+	const { form, submitter, data } = submit, copy = placeOf(form)?.copy, post = /^post$/i;
+	const isPost = post.test(stated(submit, "method")), part = isPost ? bare : unasked;
+	const sent = [...data].map((pair) => pair.map((it) => it.replace ? asSent(it) : null));
+	return isPost === post.test(attribute(copy, "method"))
+		&& !(isPost && /^(multi|text)/i.test(stated(submit, "enctype")))
+		&& /^\s*utf-?8\s*$/i.test(attribute(form, "accept-charset") ?? document.characterSet)
+		&& /^http/.test(to?.href) && part(to.href) === part(replayed(attribute(copy, "action") || visit.path))
+		&& json(sent) === json(pairsOf(form, submitter));
+};
+// what was asked for last, and if this window must go there
+let asked;
+const request = (isSaid, t, chain, rest, to, here) => {
+	if (isSaid) sayEvent(t, chain, { ...rest, req: visit.requests += 1 });
+	else conflict(chain);
+	asked = { to: unasked(to?.href ?? ""), isHere: here && window.navigation };
+	handOn(to?.href, visit.requests);
+};
+
+// the user's event whose handlers may run, and the last one
+let pending, cause;
+const acting = (chain) => chain.find((el) => matches.call(el, ACTING));
+const isHere = (target) => {
+	const name = target ?? attribute(document.querySelector("base[target]"), "target") ?? "";
+	return /^(_self)?$/i.test(name) || name === window.name || window === parent && /^_(top|parent)$/i.test(name);
+};
+const staysHere = (link, { button, ctrlKey, metaKey, shiftKey, altKey }) =>
+	!(button || ctrlKey || metaKey || shiftKey || altKey || matches.call(link, "[download]"))
+		&& isHere(attribute(link, "target"));
+const linkTo = (link, event) => {
+	if (!isLink(link) || event.defaultPrevented) return null;
+	const to = URL.parse(link.href?.baseVal ?? link.href, document.baseURI);
+	const isInside = to?.href.includes("#") && bare(to.href) === bare(document.URL);
+	return /^http/.test(to?.href) && !(isInside && staysHere(link, event)) ? to : null;
+};
+const settleClick = (el, chain, event, made) => {
+	const it = placeOf(el), kind = it && kindOf(it.copy), to = linkTo(el, event);
+	const isOdd = event.altKey || [el, event.target].some((it) => matches.call(it, "[ping],[ismap]"));
+	const isSaid = !isOdd && replayed(attribute(it?.copy, "href")) === to?.href;
+	if (to) request(isSaid, "click", chain, {}, to, staysHere(el, event));
+	else if (event.type !== "click" || kind === "text" || event.defaultPrevented && /^[cr]/.test(kind)) return;
+	else if (kind === "checkbox") toggle(it);
+	else if (!made) sayEvent("click", chain);
+};
+const settleSubmit = (submit, made) => {
+	const { form, submitter, data, event } = submit, by = submitter && { by: targetOf([submitter]) };
+	const to = submitTo(submit);
+	reconcile(form);
+	if (data && !event.defaultPrevented)
+		request(isSubmitSaid(submit, to), "submit", [form], by, to, isHere(stated(submit, "target") || undefined));
+	else if (!made) sayEvent("submit", [form], by);
+};
+const settle = () => {
+	if (!pending) return;
+	const { event, chain, isClick, field, submit, made, went } = pending, el = isClick && acting(chain);
+	pending = null;
+	checkLeft();
+	if (field) sayTyped([...field, field[0].value]);
+	if (isClick || submit || made) sayTyped();
+	if (submit) settleSubmit(submit, made);
+	else if (el) settleClick(el, chain.slice(chain.indexOf(el)), event, made);
+	cause = { at: now(), chain };
+	if (went) leave(went);
+	made?.forEach(answer);
+};
+const answer = (to) => {
+	if (!cause.n) conflict(cause.chain);
+	cause.n ??= visit.requests;
+	handOn(to, cause.n);
+};
+// the last event led elsewhere: a conflict
+const fail = () => pending ? (pending.made ??= []).push(null) : answer();
+const leave = (to) => asked?.to === unasked(to) ? asked.isHere = false : fail();
+const checkLeft = () => {
+	if (asked?.isHere) fail();
+	asked = null;
+};
+// shortly after an event, too
+const background = new Set();
+const noteRequest = (address, opens, target) => {
+	const to = address === null ? "" : URL.parse(address, document.baseURI)?.href ?? "", led = opens && to;
+	if (!/^(http|about)/.test(to) || target !== undefined && window.navigation && isHere(target)) return;
+	if (pending) (pending.made ??= []).push(led);
+	else if (now() - cause?.at < 500 && !background.has(unasked(to))) answer(led);
+	else {
+		background.add(unasked(to));
+		handOn(led, 0);
+	}
+};
+const startEvent = (event) => {
+	const { type } = event, chain = event.composedPath().filter((it) => it instanceof Element), [el] = chain;
+	if (!event.isTrusted) return type === "click" && noteRequest(linkTo(acting(chain), event), true);
+	if (type === "input" && event.inputType && !pending) return;
+	if (now() - visit.at > DAY) begin();
+	take();
+	tell();
+	const isClick = type === "click" || type === "auxclick" && event.button === 1;
+	if (isClick) settle();
+	if (!pending) setTimeout(safely(settle));
+	pending ??= { event, isClick, chain };
+	if (event.key === "Enter") pending.enter = event;
+	if (type === "input" && kindOf(el) === "text") pending.field = [el, chain];
+};
+// by a button, by Enter, or by a script
+const noteSubmit = (event) => {
+	const { submitter, target: form, isTrusted } = event, { enter, isClick, chain } = pending ?? {};
+	if (!isTrusted) return;
+	const isPressed = isClick && acting(chain) === submitter && !pending.event.defaultPrevented;
+	const isEntered = enter?.target.form === form && !enter.defaultPrevented;
+	if (isPressed || isEntered) pending.submit = { form, submitter, event };
+	else noteRequest(submitTo({ form, submitter })?.href, true);
+};
+
+const watchCalls = (note) => {
+	const { prototype } = XMLHttpRequest;
+	const watch = (owner, name, act) => {
+		owner[name] = new Proxy(owner[name], { apply(call, self, words) {
+			safely(act)(self, ...words);
+			return Reflect.apply(call, self, words);
+		} });
+	};
+	watch(window, "fetch", (_, it) => note(it?.url ?? it));
+	watch(window, "open", (_, it) => note(it || "about:blank", true));
+	watch(Navigator.prototype, "sendBeacon", (_, it) => note(it));
+	// that of a link outside of the page
+	watch(HTMLElement.prototype, "click", (it) => it.href && !it.isConnected && note(it.href, true));
+	watch(HTMLFormElement.prototype, "submit", (it) => note(attribute(it, "action") ?? "", true, attribute(it, "target")));
+	watch(prototype, "open", (self, _, it) => self[MARK] = it);
+	watch(prototype, "send", (self) => note(self[MARK]));
+};
+
+const on = (owner, type, act) => owner?.addEventListener(type, safely(act), true);
+const start = () => {
+	if (window[MARK]) return;
+	const handed = session[TO];
+	delete session[TO];
+	begin(performance.getEntriesByType("navigation")[0].type === "navigate", handed);
+	for (const [, text] of stored(LINE)) room -= text.length;
+	for (const [key, text] of stored(OPEN)) {
+		const end = JSON.parse(text);
+		if (end.at > now() - 2 * DAY) continue;
+		delete local[key];
+		if (end.n) keep(end);
+	}
+	plan();
+	for (const type of "pointerdown keydown keypress beforeinput input click auxclick change drop".split(" "))
+		on(window, type, startEvent);
+	on(window, "submit", noteSubmit);
+	on(window, "formdata", ({ isTrusted, target, formData }) => {
+		if (isTrusted && pending?.submit?.form === target) pending.submit.data = formData;
+	});
+	on(window.navigation, "navigate", ({ destination: { url, sameDocument }, navigationType, userInitiated }) => {
+		const { way } = visit, at = now();
+		// a second one may be left out
+		if (url === way?.url && at - way.at < 3000) fail();
+		visit.way = !sameDocument && navigationType !== "traverse" && /^http/.test(url) && { url, at };
+		if (!visit.way) return;
+		if (!userInitiated) noteRequest(url, true);
+		else if (pending) pending.went = url;
+		else leave(url);
+	});
+	// the page is kept, but for another way
+	for (const it of ["success", "error"]) on(window.navigation, `navigate${it}`, () => {
+		const { way } = visit;
+		setTimeout(safely(() => way && way === visit.way && fail()));
+	});
+	on(document, "securitypolicyviolation", (it) => it.effectiveDirective === "form-action" && fail());
+	on(window, "pageshow", ({ persisted }) => {
+		if (persisted) begin();
+		take();
+	});
+	on(window, "pagehide", () => {
+		take();
+		tell();
+		settle();
+		checkLeft();
+		sayTyped();
+		say("end");
+		visit.isOver = true;
+		delete local[OPEN + visit.v];
+		if (isKnown) navigator.sendBeacon(UPLOAD, bodyOf(nextLines(LINE + visit.v, 6e4)));
+	});
+	on(document, "visibilitychange", () => {
+		settle();
+		sayTyped();
+		if (visit.els) tell();
+		flush();
+	});
+	on(window, "online", flush);
+	if (document.readyState === "complete") take();
+	// calls.js tells an extension
+	if (script) watchCalls(noteRequest);
+	else on(window, "yugdemor", ({ detail }) => noteRequest(...JSON.parse(detail)));
+};
+if (/^http/.test(location) && safely(() => top.location.href)()) {
+	if (document.prerendering) on(document, "prerenderingchange", start);
+	else safely(start)();
+}
+})();
