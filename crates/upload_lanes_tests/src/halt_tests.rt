@@ -3,7 +3,7 @@ ghost use Rattle.std.specs.Prelude.{IfOk};
 ghost use Rattle.std.specs.List.{AllByRecursion};
 ghost use Rattle.upload_reader.specs.Upload.{IsUntouched};
 
-use crate::tests::{BYE, CLICK, END, LOAD, add_lines, begin, hello};
+use crate::made::{CLICK, begin, piece};
 use byte_streams::Fed;
 use client_log::Quota;
 use lane_queue::Room;
@@ -14,6 +14,7 @@ use std::process::Abort;
 use std::sync::atomic::{AtomicU64, Ordering};
 use std::test::Fail;
 use stream_fakes::Drip;
+use stream_fakes::lines::{BYE, END, HELLO, LOAD};
 use upload_lanes::{Stop, gather};
 use upload_reader::Upload;
 
@@ -39,12 +40,8 @@ impl<'c> Read for Counts<'c> {
 fn counted<'c>(alloc: Global, reads: &'c AtomicU64) -> Result<Vec<Upload<Fed<Counts<'c>>>>, Fail>
     ensures { IfOk result (λ uploads. AllByRecursion IsUntouched uploads.items) }
 {
-    let mut first = hello(alloc, "c1")?;
-    add_lines(&mut first, &[LOAD, CLICK])?;
-    let first = Drip::new(alloc, first.as_bytes(), 8_192)?;
-    let mut rest = String::new(alloc);
-    add_lines(&mut rest, &[CLICK, CLICK, END, BYE])?;
-    let rest = Drip::new(alloc, rest.as_bytes(), 8_192)?;
+    let first = piece(alloc, &[HELLO, LOAD, CLICK], "")?;
+    let rest = piece(alloc, &[CLICK, CLICK, END, BYE], "")?;
     let mut uploads = Vec::new(alloc);
     uploads.push(begin(alloc, Fed::new(Counts { first, rest, reads }))?)?;
     Ok(uploads)

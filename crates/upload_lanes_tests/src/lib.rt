@@ -1,13 +1,9 @@
-//! Tests of `lanes_in_turn` and `upload_lanes` by their public names, in a crate of their own: with them inside, each library would be proved once more.
+//! Tests of `upload_lanes` by its public names, in a crate of their own: with them inside, it would be proved once more.
 #![tactic(auto)]
 
 #[cfg(test)]
 mod halt_tests;
 #[cfg(test)]
+mod made;
+#[cfg(test)]
 mod silent_tests;
-#[cfg(test)]
-mod stress_tests;
-#[cfg(test)]
-mod tests;
-#[cfg(test)]
-mod thread_tests;

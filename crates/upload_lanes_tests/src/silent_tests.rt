@@ -3,8 +3,7 @@ ghost use Rattle.std.specs.Prelude.{IfOk};
 ghost use Rattle.std.specs.List.{AllByRecursion};
 ghost use Rattle.upload_reader.specs.Upload.{IsUntouched};
 
-use crate::tests::{BYE, CLICK, END, LOAD, add_lines, begin, hello};
-use crate::thread_tests::are_whole;
+use crate::made::{CLICK, are_whole, begin, piece};
 use byte_streams::Fed;
 use client_log::Quota;
 use lane_queue::Room;
@@ -15,6 +14,7 @@ use std::sync::atomic::{AtomicU64, Ordering};
 use std::test::Fail;
 use std::{io, thread};
 use stream_fakes::Drip;
+use stream_fakes::lines::{BYE, END, HELLO, LOAD, SECOND_HELLO};
 use upload_lanes::gather;
 use upload_reader::Upload;
 
@@ -47,18 +47,14 @@ impl<'c> Read for Silent<'c> {
 // Its first piece has two messages, and the front of the third.
 fn silent_upload<'c>(
     alloc: Global,
-    client: &str,
+    hello: &str,
     recorded: &'c AtomicU64,
 ) -> Result<Upload<Fed<Silent<'c>>>, Fail>
     ensures { IfOk result IsUntouched }
 {
-    let mut first = hello(alloc, client)?;
-    add_lines(&mut first, &[LOAD, CLICK])?;
-    first.push_str(r#"{"t":"click","visit":1,"#)?;
-    let first = Drip::new(alloc, first.as_bytes(), 8_192)?;
-    let mut rest = String::new(alloc);
-    add_lines(&mut rest, &[r#""at":2,"target":"/html/body/a"}"#, END, BYE])?;
-    let rest = Drip::new(alloc, rest.as_bytes(), 8_192)?;
+    let front = r#"{"t":"click","visit":1,"#;
+    let first = piece(alloc, &[hello, LOAD, CLICK], front)?;
+    let rest = piece(alloc, &[r#""at":2,"target":"/html/body/a"}"#, END, BYE], "")?;
     begin(
         alloc,
         Fed::new(Silent {
@@ -73,12 +69,13 @@ fn both<'c>(alloc: Global, recorded: &'c AtomicU64) -> Result<Vec<Upload<Fed<Sil
     ensures { IfOk result (λ uploads. AllByRecursion IsUntouched uploads.items) }
 {
     let mut uploads = Vec::new(alloc);
-    uploads.push(silent_upload(alloc, "c1", recorded)?)?;
-    uploads.push(silent_upload(alloc, "c2", recorded)?)?;
+    uploads.push(silent_upload(alloc, HELLO, recorded)?)?;
+    uploads.push(silent_upload(alloc, SECOND_HELLO, recorded)?)?;
     Ok(uploads)
 }
 
-// No message waits for another one, also where several are handed over at once.
+// No message waits for another one, also where several are handed over at once. Uploaders one after the other would have the first one's read fail, and so
+// would recorders.
 #[test]
 fn what_came_is_recorded_while_clients_are_silent(rt: HostRuntime) -> Result<(), Fail> {
     let recorded = AtomicU64::new(0);
@@ -91,6 +88,6 @@ fn what_came_is_recorded_while_clients_are_silent(rt: HostRuntime) -> Result<(),
     };
     let (quota, room) = (Quota::new(1_048_576)?, Room::new(1_024)?);
     let gathered = gather(&rt, uploads, quota, room, &halt)?;
-    assert!(rt; are_whole(&gathered, 2, 4));
+    assert!(rt; are_whole(&gathered, 4));
     Ok(())
 }
