@@ -10,7 +10,6 @@ use Rattle.std.proofs.lemmas.List.Splits.{slice_split_at, slice_split_none}
 use Rattle.std.proofs.lemmas.Str.{utf8_lossy-IsUtf8}
 use Rattle.form_urlencoded.specs.Form.{byte_serialize, decode, extend_pairs, serialize_pair}
 use Rattle.form_urlencoded.proofs.FormLemmas.{IsSerializedByte, All-byte_serialize, decode-byte_serialize, split_once_before_at, split_once_after_at, split_once_before_none}
-use Rattle.page_looks.proofs.CounterpartLaws.{bytes_same}
 use Rattle.page_looks.specs.Outline.{is_one_of}
 use Rattle.page_looks.specs.Sending.{is_passed_over, kept_pairs, query_text, unmarked_without, without_fresh}
 use Rattle.client_log.specs.declared.visit.Visit.{Visit}
@@ -204,6 +203,10 @@ same_request : (fresh : List (List ℕ)) (post : Bool) (number : ℕ) (action : 
 same_request fresh true number action pairs = ap (made number Post (without_fresh fresh action)) (same_sent_pairs fresh pairs)
 same_request fresh false number action pairs = ap₂ (made number Get) (same_address fresh action pairs) (same_sent_pairs fresh pairs)
 
+pub sent_number : (post : Bool) (number : ℕ) (action pairs : List ℕ) → (sent_to post number action pairs).number ≡ number
+sent_number true number action pairs = refl
+sent_number false number action pairs = refl
+
 pub is_but_for_none : (names : List (List ℕ)) (it request : Option Request) → it ≡ request → IsButFor names it request
 is_but_for_none names it request same = (λ none. same, ap (λ (o : Option Request). option_map (without_those names) o) same)
 
@@ -287,9 +290,6 @@ module _ (fresh : List (List ℕ)) (requests : List Request) (visit : Visit) (k 
       go true there = updated ∙ ap (λ b. if not b && was.number == number then Some None else kept number) there ∙ whole_stays there
       go false none = whole_comes false told None refl new none (updated ∙ ap (λ b. if not b && was.number == number then Some None else kept number) none)
 
-alike_itself : (fresh : List (List ℕ)) (r : Request) → are_alike fresh r r ≡ true
-alike_itself fresh r = ap₂ (λ a b. a && b) (bytes_same (without_fresh fresh r.address) (without_fresh fresh r.address) refl)
-    (bytes_same (without_fresh fresh (codes "?" ++ r.pairs)) (without_fresh fresh (codes "?" ++ r.pairs)) refl)
-
-pub none_kept : (fresh : List (List ℕ)) (r : Request) (only : Option (Option Request)) → only ≡ Some (Some r) → kept_beside fresh only r ≡ None
-none_kept fresh r only is = ap (λ o. kept_beside fresh o r) is ∙ ap (λ (b : Bool). if b then None else Some r) (alike_itself fresh r)
+pub none_kept : (fresh : List (List ℕ)) (was is : Request) (only : Option (Option Request)) → only ≡ Some (Some is) → are_alike fresh was is ≡ true
+    → kept_beside fresh only was ≡ None
+none_kept fresh was is only one alike = ap (λ o. kept_beside fresh o was) one ∙ ap (λ (b : Bool). if b then None else Some was) alike

@@ -11,7 +11,7 @@ ghost use Rattle.visit_replay.specs.Difference.{difference, was_asked, was_other
 ghost use Rattle.visit_replay.specs.declared.difference.Contrast.TheVariants.{Changed};
 ghost use Rattle.visit_replay.specs.declared.requests.Request.{Request as PlainRequest};
 ghost use Rattle.visit_replay.specs.inside.Differing.{AreCompared, AreLookedUp, HasOnly, KnowsInputs, KnowsOwn, HasNumbered, IsTargetOf, asked_there};
-ghost use Rattle.visit_replay.specs.inside.FieldsNow.{IsButFor};
+ghost use Rattle.visit_replay.specs.inside.FieldsNow.{IsAlike, IsButFor};
 ghost use Rattle.visit_replay.specs.inside.KeptFields.{Keeps, TakesIn};
 ghost use Rattle.visit_replay.specs.inside.OneEvent.{AimsAt, IsBetween, aimed};
 ghost use Rattle.visit_replay.specs.inside.Senders.{KnowsForms, names_left};
@@ -234,7 +234,7 @@ fn keep_none(all: &mut BTreeMap<u64, Option<Request>>, number: u64) -> Result<()
     Ok(())
 }
 
-// Whether the event with k events before it is a submit that asked for just that at its target, by the fields as these left them.
+// Whether the event with k events before it is a submit that asked for that at its target, by the fields as these left them, but for the values of fresh names.
 fn has_asked_for<'v>(
     alloc: Global,
     visit: &'v Visit,
@@ -248,7 +248,7 @@ fn has_asked_for<'v>(
     requires fields { Keeps (by_path visit.now.page) fields.now visit.now.page (take k visit.now.events) }
     requires target { IfSome (slice_get visit.now.events k) (λ event. IsTargetOf visit.now.page event target) }
     requires own { KnowsOwn own.old.forms.names.now visit.now.page own.old }
-    ensures asked { IfOk result (λ asked. IsTrue asked → was_asked visit.now k ≡ Some is.now) }
+    ensures asked { IfOk result (λ asked. IsTrue asked → IsAlike own.old.forms.names.now (was_asked visit.now k) is.now) }
     ensures own { OnOk result (KnowsOwn own.old.forms.names.now visit.now.page own.new) }
 {
     let Some(target) = target else {

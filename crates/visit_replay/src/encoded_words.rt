@@ -1,6 +1,6 @@
 //! What is left of a text behind a word as `application/x-www-form-urlencoded` has it; none where it begins otherwise.
-ghost use Rattle.std.specs.Prelude.{◌≡◌, [], ◌∷◌, IfSome, option_map};
-ghost use Rattle.form_urlencoded.specs.Form.{byte_serialize, is_unchanged, serialize_byte};
+ghost use Rattle.std.specs.Prelude.{◌≡◌, ◌≢◌, [], ◌∷◌, option_map};
+ghost use Rattle.form_urlencoded.specs.Form.{byte_serialize, serialize_byte};
 ghost use Rattle.visit_replay.specs.inside.FieldsNow.{left_behind};
 
 use crate::comparing::behind;
@@ -16,32 +16,33 @@ pub(crate) fn word_behind<'t>(word: &str, text: &'t [u8]) -> Option<&'t [u8]>
         return None;
     }
     for at in 0..word.len() {
-        match written_as(word[at]) {
-            Some(one) if one == text[at] => {}
-            Some(_) => return None,
-            None => return pieces_behind(&word[at..], &text[at..]),
+        let one = written_as(word[at]);
+        if one == 0 {
+            return pieces_behind(&word[at..], &text[at..]);
+        }
+        if one != text[at] {
+            return None;
         }
     }
     Some(&text[word.len()..])
 }
 
-// The one byte that this is written as, if it is one.
-fn written_as(byte: u8) -> Option<u8>
-    ensures { IfSome result (λ one. serialize_byte byte ≡ one ∷ []) }
-{
-    if stands_for_itself(byte) {
-        return Some(byte);
-    }
-    if byte == b' ' {
-        return Some(b'+');
-    }
-    None
-}
+// What each byte is written as, if that is one byte; else 0.
+#[rattlefmt::skip]
+static WRITTEN: [u8; 256] = *b"\
+    \0\0\0\0\0\0\0\0\0\0\0\0\0\0\0\0\0\0\0\0\0\0\0\0\0\0\0\0\0\0\0\0\
+    +\0\0\0\0\0\0\0\0\0*\0\0-.\00123456789\0\0\0\0\0\0\
+    \0ABCDEFGHIJKLMNOPQRSTUVWXYZ\0\0\0\0_\
+    \0abcdefghijklmnopqrstuvwxyz\0\0\0\0\0\
+    \0\0\0\0\0\0\0\0\0\0\0\0\0\0\0\0\0\0\0\0\0\0\0\0\0\0\0\0\0\0\0\0\
+    \0\0\0\0\0\0\0\0\0\0\0\0\0\0\0\0\0\0\0\0\0\0\0\0\0\0\0\0\0\0\0\0\
+    \0\0\0\0\0\0\0\0\0\0\0\0\0\0\0\0\0\0\0\0\0\0\0\0\0\0\0\0\0\0\0\0\
+    \0\0\0\0\0\0\0\0\0\0\0\0\0\0\0\0\0\0\0\0\0\0\0\0\0\0\0\0\0\0\0\0";
 
-fn stands_for_itself(byte: u8) -> bool
-    ensures { result ≡ is_unchanged byte }
+fn written_as(byte: u8) -> u8
+    ensures { result ≢ 0 → serialize_byte byte ≡ result ∷ [] }
 {
-    byte.is_ascii_alphanumeric() || byte == b'*' || byte == b'-' || byte == b'.' || byte == b'_'
+    WRITTEN[byte as usize]
 }
 
 // The same, piece by piece as they are written.

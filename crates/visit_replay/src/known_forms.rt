@@ -15,7 +15,7 @@ use std::collections::BTreeMap;
 #[derive(Drop)]
 pub(crate) struct KnownForms<'p> {
     page: &'p Page,
-    names: &'p [Text],
+    pub(crate) names: &'p [Text],
     forms: BTreeMap<u32, Senders<'p>>,
 }
 

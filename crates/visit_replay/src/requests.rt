@@ -1,12 +1,13 @@
 //! Requests, and how a replayed visit makes them.
-ghost use Rattle.std.specs.Prelude.{◌≡◌, ◌<◌, [], ◌∷◌, ◌++◌, not, All, ℕ, List, unwrap_or, IfOk, OnOk, OnErr, IsTrue, option_map, codes};
+ghost use Rattle.std.specs.Prelude.{◌≡◌, ◌<◌, [], ◌∷◌, ◌++◌, not, true, All, ℕ, List, unwrap_or, IfOk, OnOk, OnErr, IsTrue, option_map, codes};
 ghost use Rattle.std.specs.Str.{bytes_eq};
 ghost use Rattle.form_urlencoded.specs.Form.{extend_pairs};
 ghost use Rattle.page_tree.specs.Limits.{nodes};
 ghost use Rattle.page_tree.specs.Number.{place_numbered};
+ghost use Rattle.visit_replay.specs.Difference.{are_alike};
 ghost use Rattle.visit_replay.specs.Form.{bare, sent_to};
 ghost use Rattle.visit_replay.specs.Requests.{load_request, link_request};
-ghost use Rattle.visit_replay.specs.inside.FieldsNow.{AsksFor, IsRequestAt, LeadsElsewhere};
+ghost use Rattle.visit_replay.specs.inside.FieldsNow.{AsksAlikeAt, IsRequestAt, LeadsElsewhere};
 ghost use Rattle.visit_replay.specs.Moved.{what_counts};
 ghost use Rattle.visit_replay.specs.inside.Differing.{KnowsTexts};
 ghost use Rattle.visit_replay.specs.inside.OneEvent.{IsWithin};
@@ -147,7 +148,8 @@ pub(crate) fn request_at(
     }
 }
 
-/// Whether such an event is a submit that asks for just that. What its form sends is compared as it comes, and no text of it is made.
+/// Whether such an event is a submit that asks for that, but for the values of fresh names. What its form sends is compared as it comes, and no text of it is
+/// made. It needn't be told of all that do.
 pub(crate) fn is_asked_at(
     alloc: Global,
     address: &str,
@@ -160,7 +162,8 @@ pub(crate) fn is_asked_at(
     requires there { target < nodes filled.now.page.now }
     requires button { IsWithin filled.now.button filled.now.page.now }
     requires known { KnowsForms filled.now.page.now forms.old }
-    ensures asked { IfOk result (λ asked. IsTrue asked → AsksFor address.now filled.now event.now target is.now) }
+    ensures asked { IfOk result (λ asked. IsTrue asked
+        → AsksAlikeAt forms.old.names.now address.now filled.now event.now target is.now) }
     ensures known { OnOk result (KnowsForms filled.now.page.now forms.new) }
     ensures names { forms.new.names ≡ forms.old.names }
 {
@@ -172,7 +175,10 @@ pub(crate) fn is_asked_at(
             forms.look_under(alloc, target)?;
             let senders = forms.senders_under(target).as_slice();
             let post = forms::is_post(page, target);
-            Ok(*req == is.number && is_sent_so(filled, senders, post, action, is))
+            if *req != is.number {
+                return Ok(false);
+            }
+            is_sent_alike(alloc, forms.names, filled, senders, post, action, is)
         }
     }
 }
@@ -306,6 +312,49 @@ fn form_request(
         address: with_query(alloc, bare(action), pairs.as_str())?,
         pairs,
     })
+}
+
+// Whether a request asks for what a form whose senders these are asks for at that action, but for the values of fresh names.
+fn is_sent_alike(
+    alloc: Global,
+    fresh: &[Text],
+    filled: &Filled<'_, '_>,
+    senders: &[Sender<'_>],
+    post: bool,
+    action: &str,
+    is: &Request,
+) -> Result<bool, NoMemory>
+    requires senders { All (IsSender filled.now.page.now) senders.now }
+    requires marked { All (SaysFresh fresh.now) senders.now }
+    ensures { IfOk result (λ alike. IsTrue alike → are_alike fresh.now
+        (sent_to post is.now.number action.now (extend_pairs [] (sent_all filled.now senders.now))) is.now ≡ true) }
+{
+    if post && senders.iter().any(|sender| sender.is_fresh) {
+        return is_posted_alike(alloc, fresh, filled, senders, action, is);
+    }
+    Ok(is_sent_so(filled, senders, post, action, is))
+}
+
+// The same under post, where the form has some of these names.
+fn is_posted_alike(
+    alloc: Global,
+    fresh: &[Text],
+    filled: &Filled<'_, '_>,
+    senders: &[Sender<'_>],
+    action: &str,
+    is: &Request,
+) -> Result<bool, NoMemory>
+    requires senders { All (IsSender filled.now.page.now) senders.now }
+    requires marked { All (SaysFresh fresh.now) senders.now }
+    ensures { IfOk result (λ alike. IsTrue alike → are_alike fresh.now
+        (sent_to true is.now.number action.now (extend_pairs [] (sent_all filled.now senders.now))) is.now ≡ true) }
+{
+    if is.address.as_str() != action {
+        return Ok(false);
+    }
+    let query = with_query(alloc, "", is.pairs.as_str())?;
+    let counts = without_fresh(alloc, fresh, query.as_str())?;
+    Ok(is_what_counts(filled, senders, "", counts.as_str()))
 }
 
 // Whether a request is what a form whose senders these are sends to that action.

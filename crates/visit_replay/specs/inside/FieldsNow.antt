@@ -1,6 +1,6 @@
 -- What a form sends, by the fields as they are kept and without the events that changed them. Nodes go by their
 -- numbers.
-use Rattle.std.specs.Prelude.{◌≡◌, ℕ, ◌-◌, List, [], ◌∷◌, ◌++◌, Bool, false, ◌==◌, if◌then◌else◌, Option, Some, None, option_map, codes, filter, not}
+use Rattle.std.specs.Prelude.{◌≡◌, ℕ, ◌-◌, List, [], ◌∷◌, ◌++◌, Bool, true, false, ◌==◌, if◌then◌else◌, Option, Some, None, option_map, codes, filter, not}
 use Rattle.std.specs.List.{filter_map, range_with_len}
 use Rattle.std.specs.Option.{option_map_or}
 use Rattle.page_tree.specs.Number.{place_numbered}
@@ -10,6 +10,7 @@ use Rattle.form_urlencoded.specs.Target.{Target}
 use Rattle.page_looks.specs.Outline.{is_one_of}
 use Rattle.page_looks.specs.Sending.{pair_name, without_fresh}
 use Rattle.visit_replay.specs.Aim.{Aim}
+use Rattle.visit_replay.specs.Difference.{are_alike}
 use Rattle.visit_replay.specs.Form.{Pair, sent_pair, pairs_of}
 use Rattle.visit_replay.specs.Moved.{are_apart}
 use Rattle.visit_replay.specs.Requests.{request_at}
@@ -71,11 +72,16 @@ IsRequestAt names address filled event target it = let new = filled.page.now in
     (aim : Event → Aim) (before : List Event) → Keeps aim filled.fields.now new before → IsButFor names it
     (request_at aim address new before event (places_numbered filled.button new) (place_numbered target new))
 
--- that is just this one
-abbrev pub AsksFor : List ℕ → Filled → Event → ℕ → Request → Type 0
-AsksFor address filled event target is = let new = filled.page.now in
-    (aim : Event → Aim) (before : List Event) → Keeps aim filled.fields.now new before →
-    request_at aim address new before event (places_numbered filled.button new) (place_numbered target new) ≡ Some is
+-- the request has that one's number, and asks for the same but for the values of these names
+abbrev pub IsAlike : List (List ℕ) → Option Request → Request → Type 0
+IsAlike names request is = (was : Request)
+    × (request ≡ Some was) × (was.number ≡ is.number) × (are_alike names was is ≡ true)
+
+-- so does that event's
+abbrev pub AsksAlikeAt : List (List ℕ) → List ℕ → Filled → Event → ℕ → Request → Type 0
+AsksAlikeAt names address filled event target is = let new = filled.page.now in
+    (aim : Event → Aim) (before : List Event) → Keeps aim filled.fields.now new before → IsAlike names
+    (request_at aim address new before event (places_numbered filled.button new) (place_numbered target new)) is
 
 -- whether that goes to another address than this
 abbrev pub LeadsElsewhere : Option (List (List ℕ)) → List ℕ → Filled → Event → ℕ → List ℕ → Bool → Type 0
