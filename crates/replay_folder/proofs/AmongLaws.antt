@@ -1,13 +1,10 @@
 -- Entries of clients, as others are put among them.
-use Rattle.std.proofs.Common.{◌≡◌, ℕ, List, [], ◌∷◌, ◌++◌, map, bytes_eq, Bool, true, false, cond, ◌||◌, if◌then◌else◌, is_some, Some, None, refl, sym, ap, subst, ◌∙◌, true≢false, append_assoc}
-use Rattle.std.specs.Cmp.Lexicographic.{nat_list_eq_equiv}
+use Rattle.std.proofs.Common.{◌≡◌, ℕ, List, [], ◌∷◌, map, bytes_eq, Bool, true, false, cond, ◌||◌, if◌then◌else◌, Some, None, refl, sym, ap, subst, ◌∙◌, true≢false}
 use Rattle.std.specs.List.{AllByRecursion, IsDistinct, list_any}
 use Rattle.std.specs.Map.{keys_of, values_of, lookup}
 use Rattle.std.proofs.lemmas.Bool.{cond-true, cond-false}
-use Rattle.std.proofs.lemmas.Map.Made.{is_some-lookup}
 use Rattle.std.proofs.lemmas.Slice.Eq.{bytes_eq-Decides}
 use Rattle.indexmap.specs.IndexMap.{insert_entry, insert_all}
-use Rattle.indexmap.proofs.MapLemmas.{absent_before}
 
 same_client : (client key : List ℕ) → bytes_eq client key ≡ true → client ≡ key
 same_client client key is = (bytes_eq-Decides client key).0 is

@@ -8,3 +8,5 @@ pub mod FolderLaws
 pub mod ReplayLaws
 pub mod LinesLaws
 pub mod RepairedLaws
+pub mod HandLaws
+pub mod HandsCross

@@ -1,5 +1,5 @@
 -- Logs that are moved out of those of all clients, one client after another.
-use Rattle.std.proofs.Common.{◌≡◌, ℕ, List, [], ◌∷◌, ◌++◌, length, map, bytes_eq, Bool, true, false, ◌||◌, is_some, Option, Some, None, refl, sym, ap, subst, ◌∙◌, true≢false, append-nil, append_assoc}
+use Rattle.std.proofs.Common.{◌≡◌, ℕ, List, [], ◌∷◌, ◌++◌, map, bytes_eq, Bool, true, false, ◌||◌, is_some, Option, Some, None, refl, sym, ap, subst, ◌∙◌, true≢false, append-nil, append_assoc}
 use Rattle.std.specs.List.{AllByRecursion, list_any}
 use Rattle.std.specs.Map.{lookup}
 use Rattle.indexmap.specs.IndexMap.{insert_all, insert_entry}

@@ -113,17 +113,6 @@ module _ {R : Type 0} where
 
 -- ---- the round
 
--- a question that allows no more
-pub taken_never : {R : Type 0} (allows : ℕ → Bool → Type 0) (more : ℕ) (fresh lanes : Lanes R) (stop : Stop) → ((n : ℕ) (answer : Bool) → allows n answer → answer ≡ false) → AreTaken allows more fresh lanes stop
-    → AreTaken never more fresh lanes stop
-taken_never allows more fresh lanes stop false_only taken = record {
-  lanes_are = taken.lanes_are;
-  stops = taken.stops;
-  count = taken.count;
-  each = λ recorder one at. let so = taken.each recorder one at in record { lesser = λ n few. refl; asked = λ is. false_only _ _ (so.asked is); ended = so.ended; refused = so.refused };
-  stop_is = taken.stop_is;
-}
-
 -- the lanes of such uploads, let go and put where there were none
 pub own_entries : {R : Type 0} (known : List ℕ → Option (LaneResult R)) (quota more : ℕ) (uploads : List (UploadState R)) (lanes : Lanes R) → has_twice (clients_of uploads) ≡ false
     → AllZip (TakesLane more) (map (begun_lane known quota) uploads) lanes → insert_all bytes_eq [] (let_go lanes) ≡ let_go lanes

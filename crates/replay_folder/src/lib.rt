@@ -7,6 +7,7 @@
 // The uploads that are named, and what becomes of each.
 mod ends;
 mod greeting;
+mod hands;
 mod names;
 mod open_round;
 mod opens;

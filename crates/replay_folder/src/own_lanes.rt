@@ -1,31 +1,26 @@
 //! The lanes of a round's own clients: their logs are moved out of those of all clients, and put back behind the round. So a round costs what its own uploads cost.
-ghost use Rattle.std.specs.Prelude.{◌≡◌, ◌≢◌, ℕ, List, [], ◌∷◌, false, length, map, bytes_eq, IfOk, IfSome, OnOk};
+ghost use Rattle.std.specs.Prelude.{◌≡◌, ◌≢◌, ℕ, List, [], ◌∷◌, false, map, bytes_eq, IfOk, IfSome, OnOk};
 ghost use Rattle.std.specs.List.{AllByRecursion};
 ghost use Rattle.std.specs.Option.{option_map_or};
 ghost use Rattle.byte_streams.specs.Reading.{WasRead};
 ghost use Rattle.indexmap.specs.IndexMap.{get, insert_all};
 ghost use Rattle.upload_reader.specs.Upload.{IsUntouched};
-ghost use Rattle.lanes_in_turn.specs.Round.{AreRoundLanes, behind_log, clients_of, has_twice, new_log, without_lanes};
-ghost use Rattle.lanes_in_turn.specs.Taking.{IsFreshLane, begun_lane, never, new_lane};
-ghost use Rattle.upload_lanes.specs.Threads.{AreTaken, read_ahead};
-ghost use Rattle.warp_server.specs.Rounds.{server_room, without_reader};
+ghost use Rattle.lanes_in_turn.specs.Round.{behind_log, clients_of, has_twice, new_log, without_lanes};
+ghost use Rattle.lanes_in_turn.specs.Taking.{begun_lane, new_lane};
+ghost use Rattle.warp_server.specs.Rounds.{without_reader};
 ghost use Rattle.warp_server.specs.program.Callers.{IsReadSo, uploads_in};
 ghost use Rattle.replay_folder.specs.inside.{AreReady, IsOwnRound, IsSameBehind, lane_of_log};
 
+use crate::hands::take_to_ends;
 use byte_streams::Source;
 use client_log::{ClientLog, Quota};
 use indexmap::IndexMap;
-use lane_queue::Room;
-use lanes_in_turn::Asks;
 use page_tree::NoMemory;
 use std::alloc::Global;
 use std::sync::Wait;
 use std::thread::Threads;
-use upload_lanes::{Gathered, LaneResult, Stop, take_lanes};
+use upload_lanes::{Gathered, LaneResult};
 use upload_reader::{Client, Upload};
-
-/// How many messages wait in each queue of a round, at the most: as many as the server has.
-const ROOM: usize = 1_024;
 
 /// A round of these, some uploads, each behind the log of its client, which is moved out of those of all clients. Their sources are let go.
 pub(crate) fn take_own<F: Source + Drop + Send, T: AllocGlobal + Threads + Wait + Sync>(
@@ -125,33 +120,6 @@ fn begin_behind<F: Source + Drop>(
         end: None,
         upload: Some(upload.resume(session)),
     })
-}
-
-// ---- it is taken
-
-// To the ends of its lanes: the question whether to stop is never answered by true.
-fn take_to_ends<F: Source + Drop + Send, T: AllocGlobal + Threads + Wait + Sync>(
-    rt: &T,
-    lanes: Vec<(Client, LaneResult<F>)>,
-) -> Result<(Vec<(Client, LaneResult<F>)>, Stop), NoMemory>
-    requires fresh { AllByRecursion IsFreshLane lanes.items }
-    requires lanes { AreRoundLanes (length lanes.items) }
-    ensures { IfOk result (λ taken.
-        AreTaken never (read_ahead server_room (length lanes.items)) lanes.items taken.0.items taken.1) }
-{
-    let halt = Asks {
-        halt: &|_items: u64| false,
-    };
-    take_lanes(rt, rt.alloc(), lanes, room(), &halt)
-}
-
-fn room() -> Room
-    ensures { result ≡ server_room }
-{
-    let Ok(room) = Room::new(ROOM) else {
-        unreachable!()
-    };
-    room
 }
 
 // ---- it is over

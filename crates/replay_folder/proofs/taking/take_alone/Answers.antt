@@ -1,9 +1,6 @@
-use Rattle.std.proofs.Common.{length, sym, ap, subst, ◌∙◌, arith}
-use Rattle.std.specs.List.{list_any}
+use Rattle.std.proofs.Common.{sym, subst, ◌∙◌}
 use Rattle.std.proofs.lemmas.Result.{IfOk-weaker}
-use Rattle.std.specs.Prelude.{bytes_eq}
 use Rattle.byte_streams.specs.Reading.{WasRead}
-use Rattle.lanes_in_turn.specs.Round.{max_round_lanes}
 use Rattle.replay_folder.specs.inside.{GreetsNamed}
 use Rattle.replay_folder.proofs.TakenFilesLaws.{is_whole, is_no_whole, end_held, upload_alone, unread_told}
 use Rattle.replay_folder.proofs.taking.take_alone.Goals as goal

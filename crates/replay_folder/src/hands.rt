@@ -1,0 +1,125 @@
+//! The lanes of a round are dealt to a few threads. Each takes its lanes one behind another, and records what it reads: what is read of a file is at hand, so
+//! nothing is gained by another thread that records it.
+ghost use Rattle.std.specs.Prelude.{◌≡◌, ◌≤◌, [], length, map, IfOk};
+ghost use Rattle.std.specs.List.{All, AllByRecursion};
+ghost use Rattle.std.specs.Vec.{vec_capacity};
+ghost use Rattle.lanes_in_turn.specs.Round.{AreRoundLanes};
+ghost use Rattle.lanes_in_turn.specs.Taking.{IsFreshLane, never};
+ghost use Rattle.upload_lanes.specs.Threads.{AreTaken, both_stops, read_ahead, recorders_of, stop_of};
+ghost use Rattle.upload_lanes.specs.inside.Party.{IsFreshHand, TakeEach, TakesByOne};
+ghost use Rattle.warp_server.specs.Rounds.{server_room};
+
+use byte_streams::Source;
+use lanes_in_turn::{Asks, LaneResult, Stop, take_alone};
+use page_tree::NoMemory;
+use round_robin::{collect, deal};
+use std::sync::Wait;
+use std::thread;
+use std::thread::Threads;
+use upload_reader::Client;
+
+/// The most threads of a round.
+const MAX_THREADS: usize = 4;
+
+/// What a thread took of its lanes, and why it stopped.
+#[derive(Drop)]
+struct TakenHand<F: Source> {
+    lanes: Vec<(Client, LaneResult<F>)>,
+    stop: Stop,
+}
+
+/// Takes lanes of which nothing was taken to their ends, each unless memory is refused.
+pub(crate) fn take_to_ends<F: Source + Drop + Send, T: AllocGlobal + Threads + Wait + Sync>(
+    rt: &T,
+    lanes: Vec<(Client, LaneResult<F>)>,
+) -> Result<(Vec<(Client, LaneResult<F>)>, Stop), NoMemory>
+    requires fresh { AllByRecursion IsFreshLane lanes.items }
+    requires lanes { AreRoundLanes (length lanes.items) }
+    ensures { IfOk result (λ taken.
+        AreTaken never (read_ahead server_room (length lanes.items)) lanes.items taken.0.items taken.1) }
+{
+    let count = lanes.len();
+    let back = Vec::with_capacity(rt.alloc(), count)?;
+    let hands = deal(rt.alloc(), lanes, threads_of(count))?;
+    let (taken, stop) = take_hands(rt, hands)?;
+    Ok((collect(taken, back, count), stop))
+}
+
+fn threads_of(lanes: usize) -> usize
+    ensures { result ≡ recorders_of lanes }
+{
+    if lanes < MAX_THREADS {
+        lanes
+    } else {
+        MAX_THREADS
+    }
+}
+
+// Each hand by a thread of its own.
+fn take_hands<F: Source + Drop + Send, T: AllocGlobal + Threads + Wait + Sync>(
+    rt: &T,
+    hands: Vec<Vec<(Client, LaneResult<F>)>>,
+) -> Result<(Vec<Vec<(Client, LaneResult<F>)>>, Stop), NoMemory>
+    requires fresh { All IsFreshHand hands.items }
+    ensures { IfOk result (λ all. TakeEach (λ hand. TakesByOne never 0 hand.items) hands.items all.0.items all.1) }
+{
+    let back = Vec::with_capacity(rt.alloc(), hands.len())?;
+    let taken = thread::map_vec(
+        rt,
+        hands,
+        &|hand| -> TakenHand<F>
+            requires { IsFreshHand hand }
+            ensures { TakesByOne never 0 hand.items result.lanes.items result.stop }
+        { take_hand(rt, hand) },
+    )?;
+    Ok(all_taken(taken, back))
+}
+
+// One lane behind another. Where memory is refused at one, the others go on.
+fn take_hand<F: Source + Drop, W: Wait>(rt: &W, hand: Vec<(Client, LaneResult<F>)>) -> TakenHand<F>
+    requires { IsFreshHand hand }
+    ensures { TakesByOne never 0 hand.items result.lanes.items result.stop }
+{
+    let halt = Asks {
+        halt: &|_items: u64| false,
+    };
+    let mut lanes = hand;
+    let mut stop = Stop::None;
+    for k in 0..lanes.len() {
+        stop = both_stops(stop, take_alone(rt, &mut lanes[k], &halt));
+    }
+    TakenHand { lanes, stop }
+}
+
+fn all_taken<F: Source + Drop>(
+    taken: Vec<TakenHand<F>>,
+    back: Vec<Vec<(Client, LaneResult<F>)>>,
+) -> (Vec<Vec<(Client, LaneResult<F>)>>, Stop)
+    requires none { back.items ≡ [] }
+    requires room { length taken.items ≤ vec_capacity back }
+    ensures hands { result.0.items ≡ map (λ one. one.lanes) taken.items }
+    ensures stop { result.1 ≡ stop_of (map (λ one. one.stop) taken.items) }
+{
+    let mut hands = back;
+    let mut all = Stop::None;
+    for one in taken {
+        let TakenHand { lanes, stop } = one;
+        hands.push_reserved(lanes);
+        all = both_stops(all, stop);
+    }
+    (hands, all)
+}
+
+// Why the taking stopped by these two.
+fn both_stops(a: Stop, b: Stop) -> Stop
+    ensures { result ≡ both_stops a b }
+{
+    match a {
+        Stop::Memory => Stop::Memory,
+        Stop::None => b,
+        Stop::Asked => match b {
+            Stop::Memory => Stop::Memory,
+            Stop::None | Stop::Asked => Stop::Asked,
+        },
+    }
+}
