@@ -65,7 +65,7 @@ fn take_all<R: Wait>(
 }
 
 // Starts a thread for each putter.
-fn start_all<'s, E, R: Wait + Sync>(
+pub(crate) fn start_all<'s, E, R: Wait + Sync>(
     scope: &Scope<'s, E>,
     rt: &'s R,
     lanes: &'s LaneQueue<u64>,

@@ -1,10 +1,12 @@
 //! A wait burns no processor time, and is over once it can be.
-ghost use Rattle.std.specs.Prelude.{◌≤◌, length};
+ghost use Rattle.std.specs.Prelude.{◌≤◌, All, length};
 ghost use Rattle.crossbeam_queue.specs.Passes.{view};
+ghost use Rattle.lane_queue.specs.Opened.{IsNewPutterOf};
 ghost use Rattle.lane_queue.specs.Queue.{IsPassOf};
 
-use crate::tests::{Answer, is, of_put, of_take, one_lane, two_lanes};
-use lane_queue::{LaneQueue, Put, Putter, Take, Taker};
+use crate::tests::one_lane;
+use crate::thread_tests::start_all;
+use lane_queue::{LaneQueue, Put, Putter, Room, Take, Taker};
 use std::alloc::AllocError;
 use std::process::Abort;
 use std::sync::Wait;
@@ -20,7 +22,10 @@ const MILLIS: u64 = 20;
 type Timed<A> = (A, Option<Duration>);
 
 fn worked<R: CpuClock>(rt: &R) -> Option<Duration> {
-    rt.thread_cpu_time().ok()
+    match rt.thread_cpu_time() {
+        Ok(time) => Some(time),
+        Err(_) => None,
+    }
 }
 
 fn busy(start: Option<Duration>, end: Option<Duration>) -> Option<Duration> {
@@ -117,94 +122,72 @@ fn put_after<R: Threads + Wait + Clock + CpuClock + Sync>(
     )
 }
 
-fn put_one<R: Wait>(rt: &R, lanes: &LaneQueue<u64>, putter: Putter<u64>) -> Put<u64>
-    requires { IsPassOf lanes.now putter × (length (view putter).put ≤ 1) }
-{
-    let mut putter = putter;
-    putter.put(rt, lanes, 8)
-}
-
-// Two putters wait for room. After that time two items are taken, one right after the other, and no more.
-fn put_both_after<R: Threads + Wait + Clock + Sync>(
+// Each putter puts its last item, and waits where there is no room. After that time two items are taken, one right after the other, and no more. It is over
+// once all have put theirs.
+fn put_all_after<R: Threads + Wait + Clock + Sync>(
     rt: &R,
     lanes: &LaneQueue<u64>,
-    taker: Taker<u64>,
-    one: Putter<u64>,
-    other: Putter<u64>,
+    taker: &mut Taker<u64>,
+    putters: Vec<Putter<u64>>,
     time: Duration,
-) -> Result<(Put<u64>, Put<u64>), AllocError>
-    requires taker { IsPassOf lanes.now taker }
-    requires one { IsPassOf lanes.now one × (length (view one).put ≤ 1) }
-    requires other { IsPassOf lanes.now other × (length (view other).put ≤ 1) }
+) -> Result<(), AllocError>
+    requires taker { IsPassOf lanes.now taker.old }
+    requires putters { All (IsNewPutterOf lanes.now) putters.items }
 {
     thread::scope(
         thread::scope_env(),
         rt,
-        move |scope| -> Result<(Put<u64>, Put<u64>), AllocError>
-            requires { IsPassOf lanes.now taker
-                × (IsPassOf lanes.now one × (length (view one).put ≤ 1))
-                × (IsPassOf lanes.now other × (length (view other).put ≤ 1)) }
+        move |scope| -> Result<(), AllocError>
+            requires { All (IsNewPutterOf lanes.now) putters.items × IsPassOf lanes.now taker.now }
         {
-            let put_first = move || -> Put<u64>
-                requires { IsPassOf lanes.now one × (length (view one).put ≤ 1) }
-            { put_one(rt, lanes, one) };
-            let put_second = move || -> Put<u64>
-                requires { IsPassOf lanes.now other × (length (view other).put ≤ 1) }
-            { put_one(rt, lanes, other) };
-            let first = scope.spawn(put_first)?;
-            let second = scope.spawn(put_second)?;
+            start_all(scope, rt, lanes, putters, 0)?;
             thread::sleep(rt, time);
-            let mut taker = taker;
             let _ = taker.take(rt, lanes);
             let _ = taker.take(rt, lanes);
-            Ok((first.join(rt), second.join(rt)))
+            Ok(())
         },
     )
 }
 
-fn has_slept(rt: &impl Abort, busy: Option<Duration>) -> Result<(), Fail> {
-    let busy = busy.ok_or("a clock")?;
-    assert!(rt; busy < Duration::from_millis(MILLIS), "{busy:?} of work");
-    Ok(())
+fn has_slept(busy: Option<Duration>) -> bool {
+    match busy {
+        Some(busy) => busy < Duration::from_millis(MILLIS),
+        None => false,
+    }
 }
 
 #[test]
 fn a_taker_sleeps_at_an_empty_queue(rt: HostRuntime) -> Result<(), Fail> {
     let (lanes, taker, putter) = one_lane(rt.alloc(), 1)?;
     let (take, busy) = take_after(&rt, &lanes, taker, putter, Duration::from_secs(2))?;
-    is(&rt, of_take(take), Answer::Item(0, 0, false, 7));
-    has_slept(&rt, busy)
+    assert!(rt; matches!(take, Take::Item(item) if item.body == 7) && has_slept(busy));
+    Ok(())
 }
 
-// Its wait ends with that answer.
-fn putter_sleeps<R: AllocGlobal + Threads + Wait + Clock + CpuClock + Abort + Sync>(
+// How its wait ends.
+fn sleeps<R: AllocGlobal + Threads + Wait + Clock + CpuClock + Sync>(
     rt: &R,
     closes: bool,
     seconds: u64,
-    want: Answer,
-) -> Result<(), Fail> {
+) -> Result<Timed<Put<u64>>, Fail> {
     let (lanes, taker, mut putter) = one_lane(rt.alloc(), 1)?;
     let _ = putter.put(rt, &lanes, 7);
     let time = Duration::from_secs(seconds);
-    let (put, busy) = put_after(rt, &lanes, taker, putter, time, closes)?;
-    is(rt, of_put(put), want);
-    has_slept(rt, busy)
+    Ok(put_after(rt, &lanes, taker, putter, time, closes)?)
 }
 
 #[test]
 fn a_putter_sleeps_at_a_full_queue(rt: HostRuntime) -> Result<(), Fail> {
-    putter_sleeps(&rt, false, 2, Answer::Done)?;
-    putter_sleeps(&rt, true, 1, Answer::Closed(8))
+    let (made, closed) = (sleeps(&rt, false, 2)?, sleeps(&rt, true, 1)?);
+    assert!(rt; matches!(made.0, Put::Done) && matches!(closed.0, Put::Closed(8)));
+    assert!(rt; has_slept(made.1) && has_slept(closed.1));
+    Ok(())
 }
 
+// Two of four putters have room.
 #[test]
 fn two_putters_go_on_where_there_is_room_for_both(rt: HostRuntime) -> Result<(), Fail> {
-    let (lanes, taker, mut one, mut other) = two_lanes(rt.alloc(), 2)?;
-    let _ = one.put(&rt, &lanes, 7);
-    let _ = other.put(&rt, &lanes, 7);
-    let time = Duration::from_millis(200);
-    let (first, second) = put_both_after(&rt, &lanes, taker, one, other, time)?;
-    is(&rt, of_put(first), Answer::Done);
-    is(&rt, of_put(second), Answer::Done);
+    let (lanes, mut taker, putters) = LaneQueue::open(rt.alloc(), 4, Room::new(2)?)?;
+    put_all_after(&rt, &lanes, &mut taker, putters, Duration::from_millis(200))?;
     Ok(())
 }

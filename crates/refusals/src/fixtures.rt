@@ -1,11 +1,11 @@
-//! Uploads, logs and pages for the cases.
+//! Uploads, what is taken of them, and a page.
 ghost use Rattle.std.specs.Prelude.{IfSome};
 ghost use Rattle.std.specs.List.{AllByRecursion};
 ghost use Rattle.upload_reader.specs.Upload.{IsUntouched};
 
 use byte_streams::{Fed, Lines};
 use client_log::{ClientLog, Quota};
-use page_tree::{Page, Text};
+use page_tree::Page;
 use std::alloc::{AllocError, Global};
 use stream_fakes::Drip;
 use upload_lanes::{Gathered, gather_in_order};
@@ -37,28 +37,20 @@ pub(crate) fn page(alloc: Global) -> Option<Page> {
     }
 }
 
-pub(crate) fn text(alloc: Global, text: &str) -> Option<Text> {
-    Text::from_str(alloc, text).ok()
-}
-
 pub(crate) fn quota() -> Option<Quota> {
     Quota::new(1_048_576).ok()
-}
-
-pub(crate) fn lines(alloc: Global, client: &str) -> Option<Lines<Reader>> {
-    let text = text_of(alloc, client).ok()?;
-    let drip = Drip::new(alloc, text.as_bytes(), 4096).ok()?;
-    Lines::over(alloc, Fed::new(drip)).ok()
 }
 
 fn text_of(alloc: Global, client: &str) -> Result<String, AllocError> {
     format!(in alloc; "{{\"t\":\"hello\",\"client\":\"{client}\"}}\n{LINES}")
 }
 
-pub(crate) fn upload(alloc: Global, client: &str) -> Option<Upload<Reader>>
+fn upload(alloc: Global, client: &str) -> Option<Upload<Reader>>
     ensures { IfSome result IsUntouched }
 {
-    let lines = lines(alloc, client)?;
+    let text = text_of(alloc, client).ok()?;
+    let drip = Drip::new(alloc, text.as_bytes(), 4096).ok()?;
+    let lines = Lines::over(alloc, Fed::new(drip)).ok()?;
     match Upload::hello(alloc, lines) {
         Ok(upload) => Some(upload),
         Err(_) => None,
@@ -80,26 +72,6 @@ pub(crate) fn uploads(alloc: Global, clients: &[&str]) -> Option<Vec<Upload<Read
 pub(crate) fn gathered(alloc: Global) -> Option<Gathered<Reader>> {
     let uploads = uploads(alloc, &["c1", "c2"])?;
     gather_in_order(alloc, uploads, quota()?, TURNS).ok()
-}
-
-/// What is kept of an upload.
-pub(crate) fn log(alloc: Global) -> Option<ClientLog> {
-    let mut gathered = gathered(alloc)?;
-    let (_, lane) = gathered.clients.pop()?;
-    Some(lane.log)
-}
-
-/// The messages of an upload.
-pub(crate) fn messages(alloc: Global) -> Option<Vec<Message>> {
-    let mut upload = upload(alloc, "c1")?;
-    let mut messages = Vec::new(alloc);
-    for _ in 0..MESSAGES {
-        match upload.next() {
-            Next::Got(message, _) => messages.push(message).ok()?,
-            _ => return None,
-        }
-    }
-    Some(messages)
 }
 
 /// How many visits a log has, how many events their first, whether that has ended, and what all cost.

@@ -4,13 +4,9 @@
 
 mod desks;
 mod fixtures;
-mod logs;
 mod marks;
-mod pages;
 mod quiet;
-mod quiet_lanes;
 mod rounds;
-mod uploads;
 
 use std::process::ExitCode;
 use std::rt::{Env, Files};
@@ -18,8 +14,7 @@ use std::sync::Wait;
 use std::thread::Threads;
 use std::{env, fs};
 
-const CASES: &str = "tree ask moved hello next accept record table machine in-turn again settle
-quiet-pages quiet-sites quiet-bytes quiet-uploads quiet-logs quiet-desks quiet-lanes quiet-claims";
+const CASES: &str = "in-turn again quiet-pages quiet-desks quiet-lanes";
 
 fn main(rt: HostRuntime) -> ExitCode {
     let right = match word(&rt) {
@@ -64,30 +59,9 @@ fn call<T: AllocGlobal + Threads + Wait + Files + Eprint + Sync>(
     match name {
         "in-turn" => rounds::in_turn(rt),
         "again" => rounds::again(rt),
-        "quiet-lanes" => quiet_lanes::lanes(rt),
-        "quiet-claims" => quiet_lanes::claims(rt),
-        _ => call_values(rt, name),
-    }
-}
-
-fn call_values<T: AllocGlobal + Files + Eprint>(rt: &T, name: &str) -> Option<&'static str> {
-    match name {
-        "tree" => pages::tree(rt),
-        "ask" => pages::ask(rt),
-        "moved" => pages::leads_elsewhere(rt),
-        "hello" => uploads::hello(rt),
-        "next" => uploads::next(rt),
-        "accept" => uploads::accept(rt),
-        "record" => logs::record(rt),
-        "table" => logs::table(rt),
-        "machine" => logs::machine(rt),
-        "settle" => desks::settle_again(rt),
         "quiet-pages" => quiet::pages(rt),
-        "quiet-sites" => quiet::sites(rt),
-        "quiet-bytes" => quiet::bytes(rt),
-        "quiet-uploads" => quiet::quiet_uploads(rt),
-        "quiet-logs" => quiet::logs(rt),
-        "quiet-desks" => desks::quiet_desk(rt),
+        "quiet-desks" => desks::desks(rt),
+        "quiet-lanes" => quiet::lanes(rt),
         file => hold(rt, file),
     }
 }

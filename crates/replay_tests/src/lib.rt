@@ -3,16 +3,10 @@
 #![tactic(auto)]
 
 #[cfg(test)]
-mod claim_tests;
+mod call_tests;
 #[cfg(test)]
 mod made;
 #[cfg(test)]
-mod path_tests;
-#[cfg(test)]
 mod pool_tests;
-#[cfg(test)]
-mod same_tests;
-#[cfg(test)]
-mod site_tests;
 #[cfg(test)]
 mod visit_tests;

@@ -1,17 +1,16 @@
+//! What a site is asked, and when.
 ghost use Rattle.std.specs.Prelude.{true};
 
-use crate::made::{
-    Clicked, FIRST, MISSING, NEW, PARAGRAPH, SECOND, page, patch, site, told, visit,
-};
+use crate::made::{NEW, page, patch, visit};
 use client_log::Visit;
 use page_tree::{NoMemory, Page};
 use site_hooks::{SiteHooks, SiteLaw};
 use std::alloc::{AllocError, Global};
 use std::process::Abort;
 use std::test::Fail;
-use visit_replay::{Finding, moved, replay};
-
-// ---- what a site is asked, and when
+use upload_reader::Event;
+use visit_replay::{ConflictKind, Finding, Outcome, replay};
+use xpath_child::Path;
 
 // A site that wants memory whenever it is asked whether it signals a conflict, and, where it makes nothing, for a page too.
 #[derive(Drop)]
@@ -42,86 +41,90 @@ impl SiteHooks for Wanting {
     }
 }
 
-const GOOD: Clicked = (PARAGRAPH, 0);
+// What was clicked.
+const GOOD: &str = "/html/p";
 
-const BAD: Clicked = (MISSING, 0);
+const BAD: &str = "/html/b";
 
-// What a visit to `/p` gives where that address is patched.
-fn answered(alloc: Global, hooks: &Wanting, patched: &str, visit: &Visit) -> Result<String, Fail> {
+// A visit to `/p` in which that was clicked, and whether the log kept only a part of it.
+fn clicked(alloc: Global, target: &str, cut: bool) -> Result<Visit, Fail> {
+    let mut visit = visit(alloc, 1, "/p")?;
+    let (target, at, req) = (Path::read(alloc, target)?, 7, 0);
+    visit.events.push(Event::Click { at, target, req })?;
+    visit.cut = cut;
+    Ok(visit)
+}
+
+// What a visit gives.
+#[derive(Clone, Copy, PartialEq, Eq)]
+enum Given {
+    Untouched,
+    Conflict(ConflictKind),
+    // The site was asked what it wants memory for.
+    Asked,
+    Done,
+}
+
+// Where that address is patched.
+fn answered(alloc: Global, hooks: &Wanting, patched: &str, visit: &Visit) -> Result<Given, Fail> {
     let patch = patch(alloc, &[patched])?;
-    match replay(alloc, hooks, &patch, &Finding::by_path(), visit) {
-        Ok(outcome) => told(alloc, &outcome),
-        Err(_) => Ok(String::from_str(alloc, "refused")?),
-    }
+    Ok(
+        match replay(alloc, hooks, &patch, &Finding::by_path(), visit) {
+            Ok(Outcome::Untouched) => Given::Untouched,
+            Ok(Outcome::Conflict { kind, .. }) => Given::Conflict(kind),
+            Ok(Outcome::Done { .. }) => Given::Done,
+            Err(_) => Given::Asked,
+        },
+    )
 }
 
 // It gives that, and is untouched where only `/q` is patched.
-fn answers(
+fn gives(
     rt: &impl Abort,
     alloc: Global,
     hooks: &Wanting,
+    target: &str,
     cut: bool,
-    clicks: &'static [Clicked],
-    want: &str,
+    want: Given,
 ) -> Result<(), Fail> {
-    let visit = visit(alloc, ((3, 2, 1), "/p", cut, clicks))?;
-    assert!(rt;
-        answered(alloc, hooks, "/p", &visit)?.as_str() == want,
-        "not {want}"
-    );
-    assert!(rt; answered(alloc, hooks, "/q", &visit)?.as_str() == "untouched");
+    let visit = clicked(alloc, target, cut)?;
+    assert!(rt; answered(alloc, hooks, "/p", &visit)? == want);
+    assert!(rt; answered(alloc, hooks, "/q", &visit)? == Given::Untouched);
     Ok(())
 }
 
 // K9 comes behind K2 and K8.
 #[test]
 fn signals_are_asked_for_where_all_else_is_good(rt: HostRuntime) -> Result<(), Fail> {
-    let alloc = rt.alloc();
-    let hooks = Wanting {
-        page: Some(page(alloc, NEW)?),
-        makes: true,
-    };
-    answers(&rt, alloc, &hooks, false, &[GOOD, BAD], "K2 at 2, 0 /p")?;
-    answers(&rt, alloc, &hooks, true, &[GOOD], "K8 at 2, 0 /p")?;
-    answers(&rt, alloc, &hooks, false, &[GOOD], "refused")
+    let (alloc, makes) = (rt.alloc(), true);
+    let page = Some(page(alloc, NEW)?);
+    let hooks = Wanting { page, makes };
+    let (no_target, cut) = (ConflictKind::NoTarget, ConflictKind::LogCut);
+    gives(&rt, alloc, &hooks, BAD, false, Given::Conflict(no_target))?;
+    gives(&rt, alloc, &hooks, GOOD, true, Given::Conflict(cut))?;
+    gives(&rt, alloc, &hooks, GOOD, false, Given::Asked)
 }
 
 // K1.
 #[test]
 fn a_site_is_asked_for_the_pages_of_affected_visits(rt: HostRuntime) -> Result<(), Fail> {
-    let (page, makes) = (None, true);
-    answers(
+    let (alloc, page, makes) = (rt.alloc(), None, true);
+    let hooks = Wanting { page, makes };
+    gives(
         &rt,
-        rt.alloc(),
-        &Wanting { page, makes },
+        alloc,
+        &hooks,
+        BAD,
         true,
-        &[BAD],
-        "K1 at 0",
+        Given::Conflict(ConflictKind::NoPage),
     )?;
     let (page, makes) = (None, false);
-    answers(
+    gives(
         &rt,
-        rt.alloc(),
+        alloc,
         &Wanting { page, makes },
+        BAD,
         false,
-        &[BAD],
-        "refused",
+        Given::Asked,
     )
-}
-
-// ---- behind its parent
-
-// Whether the request of a click goes elsewhere.
-fn has_moved(alloc: Global, clicks: &'static [Clicked]) -> Result<bool, Fail> {
-    let visit = visit(alloc, ((1, 0, 0), "/f", false, clicks))?;
-    let (site, patch) = (site(alloc, &["/f"], NEW)?, patch(alloc, &["/f"])?);
-    let outcome = replay(alloc, &site, &patch, &Finding::by_path(), &visit)?;
-    Ok(moved(alloc, &Finding::by_path(), &visit, &outcome, 1)?)
-}
-
-#[test]
-fn a_request_goes_where_its_link_leads(rt: HostRuntime) -> Result<(), Fail> {
-    assert!(rt; has_moved(rt.alloc(), &[(FIRST, 1)])?);
-    assert!(rt; !has_moved(rt.alloc(), &[(SECOND, 1)])?);
-    Ok(())
 }

@@ -1,18 +1,8 @@
-//! Tests of `warp_server` by its public names: several clients, rounds, calls, connections, readers and writers that fail, which one input of the program can't
-//! show.
+//! A test of `warp_server` by its public names: the call for several uploads, which the program doesn't make. What the program shows stands in `cases`,
+//! `tools/listens` and `tools/sweeps` at the top of the repository.
 #![tactic(auto)]
 
 #[cfg(test)]
 mod answer_tests;
 #[cfg(test)]
-mod call_tests;
-#[cfg(test)]
 mod fixtures;
-#[cfg(test)]
-mod folder_tests;
-#[cfg(test)]
-mod listen_tests;
-#[cfg(test)]
-mod serve_tests;
-#[cfg(test)]
-mod socket_tests;

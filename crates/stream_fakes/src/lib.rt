@@ -1,11 +1,9 @@
-//! Readers and writers for tests and benchmarks: they cut what they move into pieces, and fail where they are told to. And lines for them. No code of the server
+//! Readers and writers for tests: they cut what they move into pieces, and fail where they are told to. And lines for them. No code of the server
 //! uses them.
 #![tactic(auto)]
 
-mod given;
 pub mod lines;
 
-pub use given::{Asserts, Runs};
 use std::alloc::{AllocError, Global};
 use std::io;
 use std::io::{ErrorKind, Read, Write};
@@ -85,24 +83,6 @@ impl Read for Rooms {
         match buf.first_mut() {
             Some(first) => {
                 *first = b'\n';
-                Ok(1)
-            }
-            None => Ok(0),
-        }
-    }
-}
-
-/// Gives one byte a read, the same one without end.
-#[derive(Drop)]
-pub struct Endless {
-    pub byte: u8,
-}
-
-impl Read for Endless {
-    fn read(&mut self, buf: &mut [u8]) -> io::Result<usize> {
-        match buf.first_mut() {
-            Some(place) => {
-                *place = self.byte;
                 Ok(1)
             }
             None => Ok(0),

@@ -28,20 +28,3 @@ pub const SECOND_HELLO: &str = r#"{"t":"hello","client":"c2"}"#;
 pub const ONE_CLICK: &[&str] = &[HELLO, LOAD, CLICK, END, BYE];
 
 pub const SECOND_CLICK: &[&str] = &[SECOND_HELLO, LOAD, CLICK, END, BYE];
-
-/// The link is there, so the click can be replayed, and what is said of that.
-pub const SITE: &str =
-    r#"{"patched":["/a"],"pages":{"/a":{"n":"html","c":[{"n":"body","c":[{"n":"a","a":{"href":"/b"},"c":["go"]}]}]}}}"#;
-
-pub const REPORT: &str =
-    "stop none\nclient c1 taken 3 end bye cost 187 lost 0\nvisit 1 done\nload 0 \"/a\"\nget 1 \"/b\"\n";
-
-/// The page `/a` has a second link now.
-pub const OTHER_SITE: &str =
-    r#"{"patched":["/a"],"pages":{"/a":{"n":"html","c":[{"n":"body","c":[{"n":"a","a":{"href":"/b"},"c":["go"]},{"n":"a","a":{"href":"/c"},"c":["no"]}]}]}}}"#;
-
-/// The site with these members more.
-pub fn with_members(alloc: Global, site: &str, members: &str) -> Result<String, AllocError> {
-    let front = site.strip_suffix("}").unwrap_or(site);
-    format!(in alloc; "{front},{members}}}")
-}
