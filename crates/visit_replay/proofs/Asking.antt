@@ -102,12 +102,16 @@ beside_looks old looks = record { old = old; new = looks.0; fresh = looks.1 }
 
 -- ---- by its number
 
+pub asked_more : (visit : Visit) (k : ℕ)
+    → filter_map (was_asked visit) (range_with_len 0 (k + 1)) ≡ filter_map (was_asked visit) (range_with_len 0 k) ++ cons_option (was_asked visit k) []
+asked_more visit k =
+    let next : k + 1 ≡ suc k = omega arith in
+    rw next (ap (filter_map (was_asked visit)) (range_more 0 k k (omega arith)) ∙ filter_map-append (was_asked visit) (range_with_len 0 k) (k ∷ []))
+
 numbered_more : (visit : Visit) (k number : ℕ)
     → find (λ r. r.number == number) (filter_map (was_asked visit) (range_with_len 0 (k + 1)))
     ≡ find (λ r. r.number == number) (filter_map (was_asked visit) (range_with_len 0 k) ++ cons_option (was_asked visit k) [])
-numbered_more visit k number =
-    let next : k + 1 ≡ suc k = omega arith in
-    ap (find (λ r. r.number == number)) (rw next (ap (filter_map (was_asked visit)) (range_more 0 k k (omega arith)) ∙ filter_map-append (was_asked visit) (range_with_len 0 k) (k ∷ [])))
+numbered_more visit k number = ap (find (λ r. r.number == number)) (asked_more visit k)
 
 pub numbered_none : (visit : Visit) (k number : ℕ) → was_asked visit k ≡ None
     → find (λ r. r.number == number) (filter_map (was_asked visit) (range_with_len 0 (k + 1)))
@@ -116,7 +120,7 @@ numbered_none visit k number none =
     numbered_more visit k number ∙ ap (λ o. find (λ r. r.number == number) (filter_map (was_asked visit) (range_with_len 0 k) ++ cons_option o [])) none
     ∙ ap (find (λ r. r.number == number)) (append-nil (filter_map (was_asked visit) (range_with_len 0 k)))
 
-numbered_next : (visit : Visit) (k number : ℕ) (request : Request) → was_asked visit k ≡ Some request
+pub numbered_next : (visit : Visit) (k number : ℕ) (request : Request) → was_asked visit k ≡ Some request
     → find (λ r. r.number == number) (filter_map (was_asked visit) (range_with_len 0 (k + 1)))
     ≡ option_or (find (λ r. r.number == number) (filter_map (was_asked visit) (range_with_len 0 k))) (next_if (request.number == number) request)
 numbered_next visit k number request is =

@@ -50,7 +50,7 @@ module _ (P : ℕ → Type 0) (are : (b : ℕ) → IsSerializedByte b → P b) (
       All-append P (mark ++ serialize_pair pair) (joined (38 ∷ []) pairs) (All-append P mark (serialize_pair pair) is (pair_is pair))
       (pairs_are amp (38 ∷ []) (All-cons P 38 [] amp (All-nil P)) pairs)
 
-no_hash : (pairs : List Pair) → All (λ b. b ≢ 35) (extend_pairs [] pairs)
+pub no_hash : (pairs : List Pair) → All (λ b. b ≢ 35) (extend_pairs [] pairs)
 no_hash pairs =
     subst (All (λ b. b ≢ 35)) (joined_first pairs)
     (pairs_are (λ b. b ≢ 35) not_hash (λ e. omega arith) (λ e. omega arith) [] (All-nil (λ b. b ≢ 35)) pairs)
@@ -170,10 +170,10 @@ front_is P p are (x ∷ xs) = subst (All P) (sym (before_first-cons p x xs)) (he
     here true is later = All-nil P
     here false is later = All-cons P x (before_first p xs) (are x is) later
 
-bare_unmarked : (action : List ℕ) → All (λ b. b ≢ 63) (bare action)
+pub bare_unmarked : (action : List ℕ) → All (λ b. b ≢ 63) (bare action)
 bare_unmarked action = front_is (λ b. b ≢ 63) (λ c. c == 63 || c == 35) (λ b is. λ e. grind (arith, nat_tests)) action
 
-bare_whole : (action : List ℕ) → All (λ b. b ≢ 35) (bare action)
+pub bare_whole : (action : List ℕ) → All (λ b. b ≢ 35) (bare action)
 bare_whole action = front_is (λ b. b ≢ 35) (λ c. c == 63 || c == 35) (λ b is. λ e. grind (arith, nat_tests)) action
 
 -- ---- a request

@@ -1,7 +1,8 @@
 pub mod CountedSenders
 pub mod Cut
 pub mod FieldsStandForEvents
-pub mod Numbered
+pub mod MadeQueries
+mod Numbered
 pub mod OneSenderMore
 pub mod Overlay
 pub mod Sorting
@@ -14,7 +15,8 @@ pub mod HiddenTwins
 pub mod SentKinds
 pub mod AskedAlike
 pub mod Judged
-pub mod Asking
+pub mod AskedInOrder
+mod Asking
 pub mod LeftBehind
 pub mod Places
 pub mod Straying

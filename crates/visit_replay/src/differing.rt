@@ -11,12 +11,13 @@ ghost use Rattle.visit_replay.specs.Difference.{difference, was_asked, was_other
 ghost use Rattle.visit_replay.specs.declared.difference.Contrast.TheVariants.{Changed};
 ghost use Rattle.visit_replay.specs.declared.requests.Request.{Request as PlainRequest};
 ghost use Rattle.visit_replay.specs.inside.Differing.{AreCompared, AreLookedUp, HasOnly, KnowsInputs, KnowsOwn, HasNumbered, IsTargetOf, asked_there};
-ghost use Rattle.visit_replay.specs.inside.FieldsNow.{IsAlike, IsButFor};
+ghost use Rattle.visit_replay.specs.inside.FieldsNow.{IsButFor};
 ghost use Rattle.visit_replay.specs.inside.KeptFields.{Keeps, TakesIn};
 ghost use Rattle.visit_replay.specs.inside.OneEvent.{AimsAt, IsBetween, aimed};
 ghost use Rattle.visit_replay.specs.inside.Senders.{KnowsForms, names_left};
 
 use crate::aims::{Aiming, aim_at};
+use crate::asked_alike::{asking_end, has_asked_alike, has_asked_for};
 use crate::comparisons::Comparisons;
 use crate::conflicts::Located;
 use crate::difference::{Contrast, Difference, Former};
@@ -32,7 +33,7 @@ use crate::outcome::{ConflictKind, Outcome};
 use crate::own_lookups::OwnLookups;
 use crate::passing::passing_over;
 use crate::repaired_page::RepairedPage;
-use crate::requests::{Request, is_asked_at, request_at};
+use crate::requests::{Request, request_at};
 use client_log::Visit;
 use page_looks::{FreshNames, Looks};
 use page_tree::{NoMemory, Page, Text};
@@ -111,12 +112,26 @@ fn all_former(
 ) -> Result<Former, NoMemory>
     ensures { IfOk result (λ all. all ≡ map (was_other fresh.now visit.now) requests.now) }
 {
+    if has_asked_alike(alloc, fresh, visit, requests)? {
+        return nothing_told(alloc, requests);
+    }
     let mut all = Former::new(alloc);
     let mut compared = Comparisons::new(alloc);
     let before = kept_by_number(alloc, fresh, visit, requests, &mut compared)?;
     for request in requests {
         let was = other_than(alloc, fresh, &before, request, &mut compared)?;
         all.push(was)?;
+    }
+    Ok(all)
+}
+
+// Nothing, of each of these.
+fn nothing_told(alloc: Global, requests: &[Request]) -> Result<Former, NoMemory>
+    ensures { IfOk result (λ all. all ≡ map (λ _. None) requests.now) }
+{
+    let mut all = Former::new(alloc);
+    for _request in requests {
+        all.push(None)?;
     }
     Ok(all)
 }
@@ -173,7 +188,7 @@ fn take_in<'v>(
         → HasNumbered fresh.now requests visit.now k all.old → HasNumbered fresh.now requests visit.now (k + 1) all.new) }
 {
     if let Some(is) = only_numbered(now, visit.events.as_slice()[k].request()) {
-        if has_asked_for(alloc, visit, fields, k, target, is, own)? {
+        if has_asked_for(alloc, visit, fields, k, target, is, compared, own)? {
             return keep_none(all, is.number);
         }
     }
@@ -232,57 +247,6 @@ fn keep_none(all: &mut BTreeMap<u64, Option<Request>>, number: u64) -> Result<()
     }
     all.insert(number, None)?;
     Ok(())
-}
-
-// Whether the event with k events before it is a submit that asked for that at its target, by the fields as these left them, but for the values of fresh names.
-fn has_asked_for<'v>(
-    alloc: Global,
-    visit: &'v Visit,
-    fields: &Fields<'_>,
-    k: usize,
-    target: Option<u32>,
-    is: &Request,
-    own: &mut OwnLookups<'v>,
-) -> Result<bool, NoMemory>
-    requires there { k < length visit.now.events }
-    requires fields { Keeps (by_path visit.now.page) fields.now visit.now.page (take k visit.now.events) }
-    requires target { IfSome (slice_get visit.now.events k) (λ event. IsTargetOf visit.now.page event target) }
-    requires own { KnowsOwn own.old.forms.names.now visit.now.page own.old }
-    ensures asked { IfOk result (λ asked. IsTrue asked → IsAlike own.old.forms.names.now (was_asked visit.now k) is.now) }
-    ensures own { OnOk result (KnowsOwn own.old.forms.names.now visit.now.page own.new) }
-{
-    let Some(target) = target else {
-        return Ok(false);
-    };
-    let page = &visit.page;
-    let event = &visit.events.as_slice()[k];
-    let button = own.paths.button_of(page, event)?;
-    let filled = Filled {
-        page,
-        fields,
-        button,
-    };
-    is_asked_at(
-        alloc,
-        visit.address.as_str(),
-        &filled,
-        event,
-        target,
-        is,
-        &mut own.forms,
-    )
-}
-
-// How many events there are up to the last one with a request.
-fn asking_end(events: &[Event]) -> usize
-    ensures within { result ≤ length events.now }
-    ensures rest { (k : ℕ) → result ≤ k → IfSome (slice_get events.now k) (λ event. request_of event ≡ 0) }
-{
-    let mut end = events.len();
-    while end > 0 && events[end - 1].request() == 0 {
-        end -= 1;
-    }
-    end
 }
 
 // What the event with k events before it asked for at its target, by the fields as these left them: whole, or without what doesn't count.

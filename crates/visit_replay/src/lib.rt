@@ -12,6 +12,7 @@
 
 mod address;
 mod aims;
+mod asked_alike;
 mod changes;
 mod comparing;
 mod comparisons;

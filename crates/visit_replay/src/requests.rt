@@ -1,5 +1,5 @@
 //! Requests, and how a replayed visit makes them.
-ghost use Rattle.std.specs.Prelude.{◌≡◌, ◌<◌, [], ◌∷◌, ◌++◌, not, true, All, ℕ, List, unwrap_or, IfOk, OnOk, OnErr, IsTrue, option_map, codes};
+ghost use Rattle.std.specs.Prelude.{◌≡◌, ◌<◌, [], ◌∷◌, ◌++◌, not, true, All, ℕ, List, unwrap_or, IfOk, OnOk, OnErr, IsTrue, option_map, codes, false};
 ghost use Rattle.std.specs.Str.{bytes_eq};
 ghost use Rattle.form_urlencoded.specs.Form.{extend_pairs};
 ghost use Rattle.page_tree.specs.Limits.{nodes};
@@ -7,9 +7,9 @@ ghost use Rattle.page_tree.specs.Number.{place_numbered};
 ghost use Rattle.visit_replay.specs.Difference.{are_alike};
 ghost use Rattle.visit_replay.specs.Form.{bare, sent_to};
 ghost use Rattle.visit_replay.specs.Requests.{load_request, link_request};
-ghost use Rattle.visit_replay.specs.inside.FieldsNow.{AsksAlikeAt, IsRequestAt, LeadsElsewhere};
+ghost use Rattle.visit_replay.specs.inside.FieldsNow.{AsksAlikeAt, IsAlike, IsRequestAt, LeadsElsewhere};
 ghost use Rattle.visit_replay.specs.Moved.{what_counts};
-ghost use Rattle.visit_replay.specs.inside.Differing.{KnowsTexts};
+ghost use Rattle.visit_replay.specs.inside.Differing.{AreCompared, KnowsTexts};
 ghost use Rattle.visit_replay.specs.inside.OneEvent.{IsWithin};
 ghost use Rattle.visit_replay.specs.inside.Senders.{SaysFresh, IsSender, KnowsForms, names_left, sent_all};
 
@@ -19,6 +19,7 @@ use crate::comparisons::Comparisons;
 use crate::counted_query::is_what_counts;
 use crate::finding::Finding;
 use crate::forms::{self, Filled};
+use crate::fresh_queries::has_query;
 use crate::known_forms::KnownForms;
 use crate::senders::Sender;
 use page_looks::without_fresh;
@@ -148,8 +149,8 @@ pub(crate) fn request_at(
     }
 }
 
-/// Whether such an event is a submit that asks for that, but for the values of fresh names. What its form sends is compared as it comes, and no text of it is
-/// made. It needn't be told of all that do.
+/// Whether such an event asks for that, but for the values of fresh names. What its form sends is compared as it comes, and no text of it is made. It needn't be
+/// told of all that do.
 pub(crate) fn is_asked_at(
     alloc: Global,
     address: &str,
@@ -157,19 +158,29 @@ pub(crate) fn is_asked_at(
     event: &Event,
     target: u32,
     is: &Request,
+    compared: &mut Comparisons,
     forms: &mut KnownForms<'_>,
 ) -> Result<bool, NoMemory>
     requires there { target < nodes filled.now.page.now }
     requires button { IsWithin filled.now.button filled.now.page.now }
+    requires compared { AreCompared forms.old.names.now compared.old.all.items }
     requires known { KnowsForms filled.now.page.now forms.old }
     ensures asked { IfOk result (λ asked. IsTrue asked
         → AsksAlikeAt forms.old.names.now address.now filled.now event.now target is.now) }
+    ensures compared { OnOk result (AreCompared forms.old.names.now compared.new.all.items) }
     ensures known { OnOk result (KnowsForms filled.now.page.now forms.new) }
     ensures names { forms.new.names ≡ forms.old.names }
 {
     let page = filled.page;
     match event {
-        Event::Input { .. } | Event::Click { .. } | Event::Submit { req: 0, .. } => Ok(false),
+        Event::Input { .. } => Ok(false),
+        Event::Click { req: 0, .. } | Event::Submit { req: 0, .. } => Ok(false),
+        Event::Click { req, .. } => {
+            if *req != is.number {
+                return Ok(false);
+            }
+            is_followed_alike(alloc, forms.names, page, target, is, compared)
+        }
         Event::Submit { req, .. } => {
             let action = forms::action_of(address, page, target);
             forms.look_under(alloc, target)?;
@@ -287,6 +298,30 @@ fn link_request(
     }))
 }
 
+// Whether a request asks for what that link asks for, but for the values of fresh names.
+fn is_followed_alike(
+    alloc: Global,
+    fresh: &[Text],
+    page: &Page,
+    link: u32,
+    is: &Request,
+    compared: &mut Comparisons,
+) -> Result<bool, NoMemory>
+    requires { AreCompared fresh.now compared.old.all.items }
+    ensures known { OnOk result (AreCompared fresh.now compared.new.all.items) }
+    ensures alike { IfOk result (λ alike. IsTrue alike
+        → IsAlike fresh.now (link_request is.now.number (place_numbered link page.now) page.now) is.now) }
+{
+    let Some(address) = page.attribute_of(link, "href") else {
+        return Ok(false);
+    };
+    if is.pairs.as_str() != "" {
+        return Ok(false);
+    }
+    let apart = compared.differ(alloc, fresh, address, is.address.as_str())?;
+    Ok(!apart)
+}
+
 // ---- forms
 
 fn form_request(
@@ -329,10 +364,35 @@ fn is_sent_alike(
     ensures { IfOk result (λ alike. IsTrue alike → are_alike fresh.now
         (sent_to post is.now.number action.now (extend_pairs [] (sent_all filled.now senders.now))) is.now ≡ true) }
 {
-    if post && senders.iter().any(|sender| sender.is_fresh) {
-        return is_posted_alike(alloc, fresh, filled, senders, action, is);
+    if !senders.iter().any(|sender| sender.is_fresh) {
+        return Ok(is_sent_so(filled, senders, post, action, is));
     }
-    Ok(is_sent_so(filled, senders, post, action, is))
+    if post {
+        is_posted_alike(alloc, fresh, filled, senders, action, is)
+    } else {
+        is_queried_alike(alloc, fresh, filled, senders, action, is)
+    }
+}
+
+// The same under get, where the form has some of these names.
+fn is_queried_alike(
+    alloc: Global,
+    fresh: &[Text],
+    filled: &Filled<'_, '_>,
+    senders: &[Sender<'_>],
+    action: &str,
+    is: &Request,
+) -> Result<bool, NoMemory>
+    requires senders { All (IsSender filled.now.page.now) senders.now }
+    requires marked { All (SaysFresh fresh.now) senders.now }
+    ensures { IfOk result (λ alike. IsTrue alike → are_alike fresh.now
+        (sent_to false is.now.number action.now (extend_pairs [] (sent_all filled.now senders.now))) is.now ≡ true) }
+{
+    if !has_query(is.address.as_str(), is.pairs.as_str()) {
+        return Ok(false);
+    }
+    let counts = without_fresh(alloc, fresh, is.address.as_str())?;
+    Ok(is_what_counts(filled, senders, action, counts.as_str()))
 }
 
 // The same under post, where the form has some of these names.

@@ -7,7 +7,7 @@ use Rattle.visit_replay.specs.inside.FieldsNow.{IsAlike}
 use Rattle.visit_replay.specs.inside.OneEvent.{places_numbered}
 use Rattle.visit_replay.proofs.Asking.{aims_there, asked_acting, asked_here}
 use Rattle.visit_replay.proofs.Judged.{stands_at}
-use Rattle.visit_replay.proofs.differing.has_asked_for.Goals as goal
+use Rattle.visit_replay.proofs.asked_alike.has_asked_for.Goals as goal
 
 pub returns-clause-asked : goal.returns-clause-asked
 returns-clause-asked c = IfOk-weaker c.is_asked_at.result _ _ (λ asked told tells.

@@ -1,6 +1,6 @@
 use Rattle.std.proofs.Common.{ℕ, ◌≡◌, ◌≤◌, length, slice_get, IfSome}
 use Rattle.upload_reader.specs.Session.{request_of}
-use Rattle.visit_replay.proofs.differing.asking_end.Given as goal
+use Rattle.visit_replay.proofs.asked_alike.asking_end.Given as goal
 
 abbrev pub invariant-loop-end : goal.invariant-loop-end
 invariant-loop-end l = record {
