@@ -44,7 +44,7 @@ module _ (names : List (List ℕ)) where
     abbrev from_here : List Pair
     from_here = told true names (sent_all filled (drop i senders))
 
-    cut_here : from_here ≡ (if sender.is_fresh then [] else cons_option (pair_now filled sender.number) []) ++ behind
+    pub cut_here : from_here ≡ (if sender.is_fresh then [] else cons_option (pair_now filled sender.number) []) ++ behind
     cut_here =
         ap (told true names) (sent_from filled senders i sender below here)
         ∙ parted (pair_now filled sender.number) (sent_all filled (drop (i + 1) senders))

@@ -88,7 +88,7 @@ module _ (fresh : List (List ℕ)) where
   abbrev counting : List (List ℕ) → List (List ℕ)
   counting them = filter (λ pair. not (is_passed_over fresh pair)) them
 
-  over : (pair : Pair) → is_passed_over fresh (serialize_pair pair) ≡ is_of_one fresh pair
+  pub over : (pair : Pair) → is_passed_over fresh (serialize_pair pair) ≡ is_of_one fresh pair
   over pair = ap (λ b. b || is_of_one fresh pair) (not_empty (byte_serialize pair.0) (byte_serialize pair.1))
 
   cut : (x : List ℕ) (xs : List (List ℕ)) (b : Bool) → is_passed_over fresh x ≡ b → counting (x ∷ xs) ≡ (if b then counting xs else x ∷ counting xs)

@@ -23,4 +23,5 @@ pub mod Straying
 pub mod BesideRequests
 pub mod FreshValues
 pub mod QueriesBeside
+pub mod SentBesideFresh
 pub mod SentByKind

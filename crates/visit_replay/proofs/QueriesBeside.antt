@@ -146,7 +146,7 @@ query_cut address (Some x) whole (less, front, back) = record {
   whole = whole;
 }
 
-whole_parts : (start query : List ℕ) → list_all (λ c. not (c == 35)) (start ++ 63 ∷ query) ≡ true → All (λ b. b ≢ 35) start × All (λ b. b ≢ 35) query
+pub whole_parts : (start query : List ℕ) → list_all (λ c. not (c == 35)) (start ++ 63 ∷ query) ≡ true → All (λ b. b ≢ 35) start × All (λ b. b ≢ 35) query
 whole_parts [] query whole = (All-nil (λ b. b ≢ 35), all_of query whole)
   where
     all_of : (xs : List ℕ) → list_all (λ c. not (c == 35)) xs ≡ true → All (λ b. b ≢ 35) xs

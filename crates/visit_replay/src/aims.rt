@@ -2,13 +2,14 @@
 ghost use Rattle.std.specs.Prelude.{ℕ, List, [], ◌∷◌, ◌≡◌, ◌<◌, None, IfOk, OnOk, false, codes, option_map};
 ghost use Rattle.std.specs.Option.{option_map_or};
 ghost use Rattle.std.specs.Str.{bytes_eq};
+ghost use Rattle.page_tree.specs.Tree.{Tree};
 ghost use Rattle.page_tree.specs.Limits.{nodes};
 ghost use Rattle.page_tree.specs.Number.{place_numbered};
 ghost use Rattle.page_looks.specs.Outline.{is_one_of};
 ghost use Rattle.xpath_child.specs.Targets.{target_in, only_place};
 ghost use Rattle.visit_replay.specs.Aim.{Aim, lost, on_target, by_path, by_element, from_place, path_of, by_of, button_by_path, place_of_aim, goes_by, needs_none, is_active, is_link, asks_by_link, is_in_its_form};
 ghost use Rattle.visit_replay.specs.inside.Differing.{AreLookedUp, KnowsPaths};
-ghost use Rattle.visit_replay.specs.inside.OneEvent.{AimsAt, IsBetween, IsWithin, aimed, places_numbered};
+ghost use Rattle.visit_replay.specs.inside.OneEvent.{AimsAt, IsBetween, IsWithin, aimed, control_clicked, places_numbered};
 
 use crate::changes::{form_around, settled};
 use crate::conflicts::Located;
@@ -157,13 +158,14 @@ fn from_node<'v>(
     if !is_in_its_form(old, event, number, &mut lookups.paths)? {
         return Ok(Located::Bad(ConflictKind::NotAForm));
     }
-    if needs_none(old, event, number) {
+    let control = control_clicked(old, event, number);
+    if needs_none(old, event, number, control) {
         return Ok(Located::Idle);
     }
-    let asks = asks_by_link(old, event, number);
+    let asks = asks_by_link(event, control);
     match counterpart(alloc, beside, asks, number, lookups)? {
         Err(kind) => Ok(Located::Bad(kind)),
-        Ok(found) => Ok(settled(beside, event, number, found)),
+        Ok(found) => Ok(settled(beside, event, control, number, found)),
     }
 }
 
@@ -213,14 +215,24 @@ fn is_only<'v>(
     }
 }
 
+// What a click is on; Other for any other event, which isn't looked at.
+fn control_clicked(old: &Page, event: &Event, place: u32) -> Control
+    ensures { result ≡ control_clicked old.now event.now (place_numbered place old.now) }
+{
+    match event {
+        Event::Input { .. } => Control::Other,
+        Event::Click { .. } => old.control_of(place),
+        Event::Submit { .. } => Control::Other,
+    }
+}
+
 // Whether it is a click without a request on what does nothing by itself.
-fn needs_none(old: &Page, event: &Event, place: u32) -> bool
+fn needs_none(old: &Page, event: &Event, place: u32, control: Control) -> bool
+    requires { control ≡ control_clicked old.now event.now (place_numbered place old.now) }
     ensures { result ≡ needs_none old.now event.now (place_numbered place old.now) }
 {
     match event {
-        Event::Click { req, .. } => {
-            *req == 0 && !is_active(old.control_of(place), old.name_of(place))
-        }
+        Event::Click { req, .. } => *req == 0 && !is_active(control, old.name_of(place)),
         _ => false,
     }
 }
@@ -247,11 +259,12 @@ fn is_pushed(name: Option<&str>) -> bool
 }
 
 // Whether it is a click on a link that made a request.
-fn asks_by_link(old: &Page, event: &Event, place: u32) -> bool
-    ensures { result ≡ asks_by_link old.now event.now (place_numbered place old.now) }
+fn asks_by_link(event: &Event, control: Control) -> bool
+    ensures { (old : Tree) (place : List ℕ) → control ≡ control_clicked old event.now place
+        → result ≡ asks_by_link old event.now place }
 {
     match event {
-        Event::Click { req, .. } => *req != 0 && is_link(old.control_of(place)),
+        Event::Click { req, .. } => *req != 0 && is_link(control),
         _ => false,
     }
 }

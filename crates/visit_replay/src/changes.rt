@@ -1,10 +1,11 @@
 //! Whether an element that was found, or its form, sends something else now (K11).
 ghost use Rattle.std.specs.Prelude.{◌≡◌, ◌<◌};
 ghost use Rattle.page_tree.specs.Tree.{Tree};
+ghost use Rattle.page_tree.specs.Control.{control_at};
 ghost use Rattle.page_tree.specs.Limits.{nodes};
 ghost use Rattle.page_tree.specs.Number.{place_numbered};
 ghost use Rattle.visit_replay.specs.Aim.{acts, unless_changed, are_forms_alike, form_around, is_check, is_form, is_kept, is_clicked_alike, is_one_state, settled};
-ghost use Rattle.visit_replay.specs.inside.OneEvent.{AimsAt, IsWithin, places_numbered};
+ghost use Rattle.visit_replay.specs.inside.OneEvent.{AimsAt, IsWithin, control_clicked, places_numbered};
 
 use crate::conflicts::Located;
 use crate::outcome::ConflictKind;
@@ -13,14 +14,21 @@ use page_tree::{Control, Page};
 use upload_reader::Event;
 
 /// K11 where the two or the forms around them send different things, or a clicked checkbox starts otherwise; K7 where no form is around a pressed button.
-pub(crate) fn settled(beside: &Beside<'_>, event: &Event, was: u32, is: u32) -> Located
+pub(crate) fn settled(
+    beside: &Beside<'_>,
+    event: &Event,
+    control: Control,
+    was: u32,
+    is: u32,
+) -> Located
     requires there { (was < nodes beside.now.old) × (is < nodes beside.now.new) }
+    requires control { control ≡ control_clicked beside.now.old event.now (place_numbered was beside.now.old) }
     ensures { AimsAt beside.now.new (settled beside.now.fresh beside.now.old beside.now.new event.now
         (place_numbered was beside.now.old) (place_numbered is beside.now.new)) result }
 {
     match event {
         Event::Input { .. } => unless_changed(is_kept(beside, was, is), is, None),
-        Event::Click { .. } => unless_changed(is_clicked_alike(beside, was, is), is, None),
+        Event::Click { .. } => unless_changed(is_clicked_alike(beside, control, was, is), is, None),
         Event::Submit { by: None, .. } => unless_changed(beside.sends_alike(was, is), is, None),
         Event::Submit { by: Some(_), .. } => match form_around(beside.repaired_page(), is) {
             None => Located::Bad(ConflictKind::NotAForm),
@@ -64,12 +72,13 @@ fn are_forms_alike(beside: &Beside<'_>, was: Option<u32>, is: Option<u32>) -> bo
 }
 
 // Whether what is clicked sends what it sent, and a checkbox starts as it did, in a form that sends what it sent.
-fn is_clicked_alike(beside: &Beside<'_>, was: u32, is: u32) -> bool
+fn is_clicked_alike(beside: &Beside<'_>, control: Control, was: u32, is: u32) -> bool
     requires there { (was < nodes beside.now.old) × (is < nodes beside.now.new) }
+    requires control { control ≡ control_at (place_numbered was beside.now.old) beside.now.old }
     ensures { result ≡ is_clicked_alike beside.now.fresh beside.now.old beside.now.new
         (place_numbered was beside.now.old) (place_numbered is beside.now.new) }
 {
-    if !is_check(beside.recorded_page().control_of(was)) {
+    if !is_check(control) {
         return beside.sends_alike(was, is);
     }
     let before = beside.recorded_page().start_checked_of(was);

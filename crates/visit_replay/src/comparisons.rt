@@ -29,6 +29,8 @@ pub(crate) struct Comparison {
 pub(crate) struct Comparisons {
     all: Vec<Comparison>,
     bytes: usize,
+    /// Where the next is looked for first: behind the one that was found last.
+    next: usize,
 }
 
 impl Comparisons {
@@ -40,6 +42,7 @@ impl Comparisons {
         Comparisons {
             all: Vec::new(alloc),
             bytes: 0,
+            next: 0,
         }
     }
 
@@ -82,8 +85,11 @@ impl Comparisons {
         if was == is {
             return Ok(false);
         }
-        match answer_of(self.all.as_slice(), was, is) {
-            Some(apart) => Ok(apart),
+        match answer_of(self.all.as_slice(), self.next, was, is) {
+            Some((at, apart)) => {
+                self.next = at.saturating_add(1);
+                Ok(apart)
+            }
             None => self.compare(alloc, fresh, was, is),
         }
     }
@@ -152,15 +158,33 @@ fn asks_by_address(request: &Request) -> bool
     has_query(request.address.as_str(), request.pairs.as_str())
 }
 
-// Whether these differ, where they were compared.
-fn answer_of(all: &[Comparison], was: &str, is: &str) -> Option<bool>
-    ensures { IfSome result (λ apart. (fresh : List (List ℕ)) → AreCompared fresh all.now → apart
+// Where these were compared, and whether they differ. What stands at `next` is looked at first.
+fn answer_of(all: &[Comparison], next: usize, was: &str, is: &str) -> Option<(usize, bool)>
+    ensures { IfSome result (λ found. (fresh : List (List ℕ)) → AreCompared fresh all.now → found.1
         ≡ not (bytes_eq (without_fresh fresh was.now) (without_fresh fresh is.now))) }
 {
-    for known in all {
-        if known.was.as_str() == was && known.is.as_str() == is {
-            return Some(known.apart);
+    match answer_at(all, next, was, is) {
+        Some(apart) => return Some((next, apart)),
+        None => {}
+    }
+    for at in 0..all.len() {
+        match answer_at(all, at, was, is) {
+            Some(apart) => return Some((at, apart)),
+            None => {}
         }
     }
     None
+}
+
+// Whether these differ, where they are the ones that were compared there.
+fn answer_at(all: &[Comparison], at: usize, was: &str, is: &str) -> Option<bool>
+    ensures { IfSome result (λ apart. (fresh : List (List ℕ)) → AreCompared fresh all.now → apart
+        ≡ not (bytes_eq (without_fresh fresh was.now) (without_fresh fresh is.now))) }
+{
+    let known = all.get(at)?;
+    if known.was.as_str() == was && known.is.as_str() == is {
+        Some(known.apart)
+    } else {
+        None
+    }
 }

@@ -77,8 +77,8 @@ fn query_of(address: &str) -> Option<(&str, &str)>
     }
 }
 
-// Whether an address has no fragment.
-fn is_whole(address: &str) -> bool
+/// Whether an address has no fragment.
+pub(crate) fn is_whole(address: &str) -> bool
     ensures { result ≡ list_all (λ c. not (c == 35)) address.now }
 {
     address.as_bytes().iter().all(|c| !(*c == b'#'))

@@ -46,6 +46,7 @@ mod repaired_page;
 mod replaying;
 mod requests;
 mod senders;
+mod sent_query;
 mod touched;
 
 pub use difference::{Contrast, Difference, Former};

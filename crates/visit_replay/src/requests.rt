@@ -19,9 +19,10 @@ use crate::comparisons::Comparisons;
 use crate::counted_query::is_what_counts;
 use crate::finding::Finding;
 use crate::forms::{self, Filled};
-use crate::fresh_queries::has_query;
+use crate::fresh_queries::{has_query, is_whole};
 use crate::known_forms::KnownForms;
 use crate::senders::Sender;
+use crate::sent_query::is_sent_but_for_fresh;
 use page_looks::without_fresh;
 use page_tree::{NoMemory, Page, Text};
 use std::alloc::Global;
@@ -409,12 +410,10 @@ fn is_posted_alike(
     ensures { IfOk result (λ alike. IsTrue alike → are_alike fresh.now
         (sent_to true is.now.number action.now (extend_pairs [] (sent_all filled.now senders.now))) is.now ≡ true) }
 {
-    if is.address.as_str() != action {
+    if is.address.as_str() != action || !is_whole(is.pairs.as_str()) {
         return Ok(false);
     }
-    let query = with_query(alloc, "", is.pairs.as_str())?;
-    let counts = without_fresh(alloc, fresh, query.as_str())?;
-    Ok(is_what_counts(filled, senders, "", counts.as_str()))
+    is_sent_but_for_fresh(alloc, fresh, filled, senders, is.pairs.as_str())
 }
 
 // Whether a request is what a form whose senders these are sends to that action.

@@ -86,7 +86,7 @@ impl Touched {
             → HasTouched aim old.now new.now self.old before
             → HasTouched aim old.now new.now self.new (before ++ event.now ∷ [])) }
     {
-        if !touches(old, event, was) || self.has(was, is) {
+        if self.has(was, is) || !touches(old, event, was) {
             return Ok(());
         }
         self.fields.push(TouchedField { was, is })?;

@@ -1,9 +1,13 @@
 -- One event of a visit that is replayed: the numbers of its nodes, or why it has none, and the walk up to it.
 use Rattle.std.specs.Prelude.{ℕ, ◌≡◌, ◌<◌, List, Option, Some, None, IfSome, option_map, take, Result, Ok, Err}
 use Rattle.page_tree.specs.Tree.{Tree}
+use Rattle.page_tree.specs.Control.{control_at}
 use Rattle.page_tree.specs.Limits.{nodes}
 use Rattle.page_tree.specs.Number.{place_numbered}
+use Rattle.page_tree.specs.declared.control.Control.{Control}
+use Rattle.page_tree.specs.declared.control.Control.TheVariants as control
 use Rattle.upload_reader.specs.declared.message.Event.{Event}
+use Rattle.upload_reader.specs.declared.message.Event.TheVariants.{Click}
 use Rattle.client_log.specs.declared.visit.Visit.{Visit}
 use Rattle.visit_replay.specs.Aim.{Aim, acts, nowhere, lost, place_of_aim, aim_of}
 use Rattle.visit_replay.specs.Conflict.{conflict}
@@ -69,3 +73,8 @@ pub record IsWalked (aim : Event → Aim) (visit : Visit) (new : Tree) (n : ℕ)
     : Type 0 where
   pub kept : Keeps aim fields new (take n visit.events)
   pub requests : made ≡ requests_before aim visit.address new visit.events n
+
+-- what a click is on, as far as it is looked at
+abbrev pub control_clicked : Tree → Event → List ℕ → Control
+control_clicked old (Click at target req) place = control_at place old
+control_clicked old other place = control.Other
