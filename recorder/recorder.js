@@ -1,13 +1,14 @@
-// Records what users do on a site's pages: README.md says how and why.
+// Records what users do on pages: README.md says how and why.
 (() => {
 "use strict";
 
 // ---- page (tools/pages takes it, too)
 
-// a field named `attributes` hides that of its form
-const get = (el, name) => Reflect.get(Element.prototype, name, el);
+// a field named `name` hides that of its form
+const getters = {};
+const get = (el, name) => (getters[name] ??= Element.prototype.__lookupGetter__(name)).call(el);
 const { getAttribute, getAttributeNames, matches, querySelectorAll } = Element.prototype;
-const attribute = (el, name) => el ? getAttribute.call(el, name) : null;
+const attr = (el, name) => el ? getAttribute.call(el, name) : null;
 const all = (el, selector) => [...querySelectorAll.call(el, selector)];
 
 const MOST_BYTES = 65200, MOST_NODES = 4096, MOST_LEVELS = 48;
@@ -32,8 +33,8 @@ const startOf = (el) => {
 };
 const attributesOf = (el, n, step) => {
 	const a = {};
-	const names = step > 1 ? READ : step ? SEEN : getAttributeNames.call(el);
-	for (const name of names) a[name] = attribute(el, name) ?? undefined;
+	for (const name of getAttributeNames.call(el))
+		if (!step || (step > 1 ? READ : SEEN).includes(name)) a[name] = attr(el, name);
 	const isMended = n === "input" && kindOf(el) === "text" && el.value !== (a.value ?? "");
 	if (n === "select" || isMended) a.value = startOf(el);
 	else if (a.value) a.value = asSent(a.value);
@@ -80,17 +81,16 @@ const safely = (act) => (...words) => {
 const bare = (address) => address.split("#")[0];
 const unasked = (address) => address.split(/[?#]/)[0];
 
-// ---- lines, in memory where storage is closed or full
+// ---- lines
 
 const script = document.currentScript?.src, UPLOAD = new URL("upload", script || location.origin);
 const MARK = Symbol.for("yugdemor"), DAY = 864e5, { fetch, Date: { now } } = window;
 const LINE = "yugdemor line ", OPEN = "yugdemor open ", TO = "yugdemor to ", KNOWN = "yugdemor known";
-const local = safely(() => localStorage)() ?? {}, session = safely(() => sessionStorage)() ?? {}, memory = {};
-const store = (where, key, text) => safely(() => where[key] = text)();
-const stored = (kind) => [local, memory].flatMap((where) => Object.keys(where).sort()
+const memory = {}, store = (where, key, text) => safely(() => where[key] = text)();
+const stored = (kind) => [local ?? {}, memory].flatMap((where) => Object.keys(where).sort()
 	.filter((key) => key.startsWith(kind) && where[key]).map((key) => [key, where[key]]));
 
-let room = 2e6, isSafe = local instanceof Storage, isKnown = local[KNOWN], pause = 0, isSending, timer;
+let local, session, room = 2e6, isSafe, isKnown, pause = 0, isBusy, timer;
 const keep = (line, tail = "}") => {
 	const key = `${LINE}${line.v} ${1e5 + line.n}`, text = json(line).slice(0, -1) + tail;
 	room -= text.length;
@@ -107,7 +107,7 @@ const acknowledge = (lines, { have = {}, refused = {} }) => {
 		if (!(v in have)) continue;
 		first[v] ??= n;
 		const isLost = refused[v] || first[v] > have[v] + 1, isDone = isLost || n <= have[v];
-		if (isLost && v === visit.v) visit.isOver = true;
+		visit.isOver ||= isLost && v === visit.v;
 		// a load waits for its opener
 		if (!isDone && (!opener || local[OPEN + opener])) continue;
 		went = true;
@@ -126,28 +126,49 @@ const ask = async (options) => {
 const flush = async () => {
 	clearTimeout(timer);
 	timer = null;
-	const lines = isSending ? [] : nextLines(LINE, 12e4);
+	const lines = isBusy ? [] : nextLines(LINE, 12e4);
 	if (!lines.length) return;
 	let went;
-	isSending = true;
+	isBusy = true;
 	try {
 		// the cookie first, to one tab
-		isKnown ||= await (navigator.locks?.request(KNOWN, () => ask()) ?? ask());
+		isKnown ||= await (navigator.locks?.request(KNOWN, ask) ?? ask());
 		store(local, KNOWN, 1);
 		went = acknowledge(lines, await ask({ method: "POST", body: bodyOf(lines) }));
 	} catch {}
-	isSending = false;
+	isBusy = false;
 	pause = went ? 100 : Math.min(3e4, pause * 2 + 100);
 	plan();
 };
 const plan = () => (timer ??= setTimeout(flush, pause));
 
 let visit;
-const begin = (isNew, handed) => {
+// opens storage when idle or needed
+const enter = safely(() => {
+	if (!local) {
+		local = safely(() => localStorage)() ?? {};
+		session = safely(() => sessionStorage)() ?? {};
+		visit.handed = session[TO];
+		delete session[TO];
+		isSafe = local instanceof Storage;
+		isKnown = local[KNOWN];
+		for (const [, text] of stored(LINE)) room -= text.length;
+		for (const [key, text] of stored(OPEN)) {
+			const end = JSON.parse(text);
+			if (end.at > now() - 2 * DAY) continue;
+			delete local[key];
+			if (end.n) keep(end);
+		}
+		plan();
+	}
+	if (!visit.n) store(local, OPEN + visit.v, json({ at: visit.at }));
+});
+const whenIdle = (act) => window.requestIdleCallback?.(act, { timeout: 500 }) ?? setTimeout(act, 50);
+const begin = (isNew) => {
 	const at = now(), v = `${at.toString(36)}-${crypto.getRandomValues(new Uint32Array(4)).join("-")}`;
-	visit = { v, isNew, handed, path: location.pathname + location.search, at, n: 0, requests: 0, isOver: true };
+	visit = { v, isNew, path: location.pathname + location.search, at, n: 0, sent: 0, isOver: true };
 	window[MARK] = v;
-	store(local, OPEN + v, json({ at }));
+	whenIdle(enter);
 };
 const say = (t, rest, tail) => {
 	if (visit.isOver) return;
@@ -165,10 +186,11 @@ const take = () => {
 	if (visit.els) return;
 	visit.els = document.querySelectorAll("*");
 	visit.copy = document.implementation.createHTMLDocument("").importNode(visit.els[0], true);
-	window.requestIdleCallback?.(tell, { timeout: 500 }) ?? setTimeout(tell, 50);
+	whenIdle(tell);
 };
 const tell = safely(() => {
 	if (visit.places) return;
+	enter();
 	visit.places = new Map();
 	const { els, copy, isNew, path } = visit, head = { ...openerOf(visit), path };
 	const page = pageOf(copy, MOST_BYTES - bytesOf(json(head)));
@@ -184,18 +206,19 @@ const tell = safely(() => {
 	say("load", { ...head, step: page.step }, `,"page":${page.text}}`);
 });
 const placeOf = (el) => visit.places.get(el);
-// of the first of a chain, or a path that no page has
+// the first's, or a path that no page has
 const targetOf = (chain) => {
 	const at = chain.findIndex(placeOf), { path } = placeOf(chain[at] ?? visit.copy);
 	return at ? `${path.split("/", MOST_LEVELS).join("/")}/_new[1]` : path;
 };
 const isLink = (el) => el && /^(a|area)$/.test(nameOf(el));
-// a click with a request, on what is no link
+// with a request, on what is no link
 const conflict = (chain) =>
-	sayEvent("click", chain.filter((el) => !isLink(el)), { req: visit.requests += 1 });
+	sayEvent("click", chain.filter((el) => !isLink(el)), { req: visit.sent += 1 });
 
 const handOn = (to, n) => {
 	if (!to) return;
+	enter();
 	const id = TO + [visit.v, n, bare(to)], opened = { opener: visit.v, from: n };
 	store(session, TO, id);
 	store(local, id, json({ id, opened, url: bare(document.URL), to: bare(to), at: now() }));
@@ -215,7 +238,7 @@ const openerOf = ({ isNew, handed }) => {
 
 let typed, idle;
 const valueOf = (el) => el.type === "checkbox" ? el.checked : el.value;
-const isOn = (it) => it.held ?? attribute(it.copy, "checked") !== null;
+const isOn = (it) => it.held ?? it.copy.defaultChecked;
 const heldBy = (it) => it.held ?? startOf(it.copy);
 const sayInput = (el, chain, text) => {
 	const value = asSent(text), it = placeOf(el);
@@ -252,38 +275,38 @@ const pairsOf = (form, by) => under(form).flatMap((it) => {
 	if (/^[cr]/.test(kind)) return isOn(it) ? [[name, value ?? "on"]] : [];
 	return it.el === by ? [[name, value ?? ""]] : [];
 });
-const stated = ({ form, submitter }, name) => attribute(submitter, `form${name}`) ?? attribute(form, name) ?? "";
+const stated = ({ form, submitter }, name) => attr(submitter, `form${name}`) ?? attr(form, name) ?? "";
 const submitTo = (submit) => URL.parse(stated(submit, "action") || document.URL, document.baseURI);
 const replayed = (address) => URL.parse(address, location.origin + visit.path)?.href ?? "";
 const isSubmitSaid = (submit, to) => {
 	const { form, submitter, data } = submit, copy = placeOf(form)?.copy, post = /^post$/i;
 	const isPost = post.test(stated(submit, "method")), part = isPost ? bare : unasked;
 	const sent = [...data].map((pair) => pair.map((it) => it.replace ? asSent(it) : null));
-	return isPost === post.test(attribute(copy, "method"))
+	return isPost === post.test(attr(copy, "method"))
 		&& !(isPost && /^(multi|text)/i.test(stated(submit, "enctype")))
-		&& /^\s*utf-?8\s*$/i.test(attribute(form, "accept-charset") ?? document.characterSet)
-		&& /^http/.test(to?.href) && part(to.href) === part(replayed(attribute(copy, "action") || visit.path))
+		&& /^\s*utf-?8\s*$/i.test(attr(form, "accept-charset") ?? document.characterSet)
+		&& /^http/.test(to?.href) && part(to.href) === part(replayed(attr(copy, "action") || visit.path))
 		&& json(sent) === json(pairsOf(form, submitter));
 };
-// what was asked for last, and if this window must go there
+// asked for last, and if this window must go there
 let asked;
 const request = (isSaid, t, chain, rest, to, here) => {
-	if (isSaid) sayEvent(t, chain, { ...rest, req: visit.requests += 1 });
+	if (isSaid) sayEvent(t, chain, { ...rest, req: visit.sent += 1 });
 	else conflict(chain);
 	asked = { to: unasked(to?.href ?? ""), isHere: here && window.navigation };
-	handOn(to?.href, visit.requests);
+	handOn(to?.href, visit.sent);
 };
 
-// the user's event whose handlers may run, and the last one
+// the user's event that is handled, and the last one
 let pending, cause;
 const acting = (chain) => chain.find((el) => matches.call(el, ACTING));
 const isHere = (target) => {
-	const name = target ?? attribute(document.querySelector("base[target]"), "target") ?? "";
+	const name = target ?? attr(document.querySelector("base[target]"), "target") ?? "";
 	return /^(_self)?$/i.test(name) || name === window.name || window === parent && /^_(top|parent)$/i.test(name);
 };
 const staysHere = (link, { button, ctrlKey, metaKey, shiftKey, altKey }) =>
 	!(button || ctrlKey || metaKey || shiftKey || altKey || matches.call(link, "[download]"))
-		&& isHere(attribute(link, "target"));
+		&& isHere(attr(link, "target"));
 const linkTo = (link, event) => {
 	if (!isLink(link) || event.defaultPrevented) return null;
 	const to = URL.parse(link.href?.baseVal ?? link.href, document.baseURI);
@@ -293,7 +316,7 @@ const linkTo = (link, event) => {
 const settleClick = (el, chain, event, made) => {
 	const it = placeOf(el), kind = it && kindOf(it.copy), to = linkTo(el, event);
 	const isOdd = event.altKey || [el, event.target].some((it) => matches.call(it, "[ping],[ismap]"));
-	const isSaid = !isOdd && replayed(attribute(it?.copy, "href")) === to?.href;
+	const isSaid = !isOdd && replayed(attr(it?.copy, "href")) === to?.href;
 	if (to) request(isSaid, "click", chain, {}, to, staysHere(el, event));
 	else if (event.type !== "click" || kind === "text" || event.defaultPrevented && /^[cr]/.test(kind)) return;
 	else if (kind === "checkbox") toggle(it);
@@ -322,7 +345,7 @@ const settle = () => {
 };
 const answer = (to) => {
 	if (!cause.n) conflict(cause.chain);
-	cause.n ??= visit.requests;
+	cause.n ??= visit.sent;
 	handOn(to, cause.n);
 };
 // the last event led elsewhere: a conflict
@@ -333,14 +356,14 @@ const checkLeft = () => {
 	asked = null;
 };
 // shortly after an event, too
-const background = new Set();
+const alone = new Set();
 const noteRequest = (address, opens, target) => {
 	const to = address === null ? "" : URL.parse(address, document.baseURI)?.href ?? "", led = opens && to;
 	if (!/^(http|about)/.test(to) || target !== undefined && window.navigation && isHere(target)) return;
 	if (pending) (pending.made ??= []).push(led);
-	else if (now() - cause?.at < 500 && !background.has(unasked(to))) answer(led);
+	else if (now() - cause?.at < 500 && !alone.has(unasked(to))) answer(led);
 	else {
-		background.add(unasked(to));
+		alone.add(unasked(to));
 		handOn(led, 0);
 	}
 };
@@ -369,7 +392,6 @@ const noteSubmit = (event) => {
 };
 
 const watchCalls = (note) => {
-	const { prototype } = XMLHttpRequest;
 	const watch = (owner, name, act) => {
 		owner[name] = new Proxy(owner[name], { apply(call, self, words) {
 			safely(act)(self, ...words);
@@ -379,27 +401,17 @@ const watchCalls = (note) => {
 	watch(window, "fetch", (_, it) => note(it?.url ?? it));
 	watch(window, "open", (_, it) => note(it || "about:blank", true));
 	watch(Navigator.prototype, "sendBeacon", (_, it) => note(it));
-	// that of a link outside of the page
+	// of a link outside of the page
 	watch(HTMLElement.prototype, "click", (it) => it.href && !it.isConnected && note(it.href, true));
-	watch(HTMLFormElement.prototype, "submit", (it) => note(attribute(it, "action") ?? "", true, attribute(it, "target")));
-	watch(prototype, "open", (self, _, it) => self[MARK] = it);
-	watch(prototype, "send", (self) => note(self[MARK]));
+	watch(HTMLFormElement.prototype, "submit", (it) => note(attr(it, "action") ?? "", true, attr(it, "target")));
+	watch(XMLHttpRequest.prototype, "open", (self, _, it) => self[MARK] = it);
+	watch(XMLHttpRequest.prototype, "send", (self) => note(self[MARK]));
 };
 
 const on = (owner, type, act) => owner?.addEventListener(type, safely(act), true);
 const start = () => {
 	if (window[MARK]) return;
-	const handed = session[TO];
-	delete session[TO];
-	begin(performance.getEntriesByType("navigation")[0].type === "navigate", handed);
-	for (const [, text] of stored(LINE)) room -= text.length;
-	for (const [key, text] of stored(OPEN)) {
-		const end = JSON.parse(text);
-		if (end.at > now() - 2 * DAY) continue;
-		delete local[key];
-		if (end.n) keep(end);
-	}
-	plan();
+	begin(performance.getEntriesByType("navigation")[0].type === "navigate");
 	for (const type of "pointerdown keydown keypress beforeinput input click auxclick change drop".split(" "))
 		on(window, type, startEvent);
 	on(window, "submit", noteSubmit);

@@ -51,7 +51,7 @@ WRONG = [
      "unchanged"),
     ("counts letters for bytes", "bytesOf(page.text) <= room", "page.text.length <= room", "limits"),
     ("goes deeper than 48 levels", "MOST_LEVELS = 48", "MOST_LEVELS = 480", "limits"),
-    ("leaves out what is seen of an element", "step ? SEEN :", "step ? READ :", "limits"),
+    ("leaves out what is seen of an element", "(step > 1 ? READ : SEEN)", "READ", "limits"),
     ("keeps no line", "isSafe &&= room > 0 && store(local, key, text);", "isSafe = false;", "lost_connections"),
     ("takes what was sent for stored", "went = acknowledge(lines, await ask(",
      "lines.forEach(([key]) => delete local[key]); went = acknowledge(lines, await ask(", "lost_connections"),

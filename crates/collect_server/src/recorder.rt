@@ -4,9 +4,10 @@
 pub(crate) const RECORDER: &[u8] = b"\
     (() => {\n\
     \"use strict\";\n\
-    const get = (el, name) => Reflect.get(Element.prototype, name, el);\n\
+    const getters = {};\n\
+    const get = (el, name) => (getters[name] ??= Element.prototype.__lookupGetter__(name)).call(el);\n\
     const { getAttribute, getAttributeNames, matches, querySelectorAll } = Element.prototype;\n\
-    const attribute = (el, name) => el ? getAttribute.call(el, name) : null;\n\
+    const attr = (el, name) => el ? getAttribute.call(el, name) : null;\n\
     const all = (el, selector) => [...querySelectorAll.call(el, selector)];\n\
     const MOST_BYTES = 65200, MOST_NODES = 4096, MOST_LEVELS = 48;\n\
     const ACTING = \"a[*|href],area[href],button,input,textarea,select\", TARGETS = \"form,\" + ACTING;\n\
@@ -28,8 +29,8 @@ pub(crate) const RECORDER: &[u8] = b"\
     };\n\
     const attributesOf = (el, n, step) => {\n\
     const a = {};\n\
-    const names = step > 1 ? READ : step ? SEEN : getAttributeNames.call(el);\n\
-    for (const name of names) a[name] = attribute(el, name) ?? undefined;\n\
+    for (const name of getAttributeNames.call(el))\n\
+    if (!step || (step > 1 ? READ : SEEN).includes(name)) a[name] = attr(el, name);\n\
     const isMended = n === \"input\" && kindOf(el) === \"text\" && el.value !== (a.value ?? \"\");\n\
     if (n === \"select\" || isMended) a.value = startOf(el);\n\
     else if (a.value) a.value = asSent(a.value);\n\
@@ -76,11 +77,10 @@ pub(crate) const RECORDER: &[u8] = b"\
     const script = document.currentScript?.src, UPLOAD = new URL(\"upload\", script || location.origin);\n\
     const MARK = Symbol.for(\"yugdemor\"), DAY = 864e5, { fetch, Date: { now } } = window;\n\
     const LINE = \"yugdemor line \", OPEN = \"yugdemor open \", TO = \"yugdemor to \", KNOWN = \"yugdemor known\";\n\
-    const local = safely(() => localStorage)() ?? {}, session = safely(() => sessionStorage)() ?? {}, memory = {};\n\
-    const store = (where, key, text) => safely(() => where[key] = text)();\n\
-    const stored = (kind) => [local, memory].flatMap((where) => Object.keys(where).sort()\n\
+    const memory = {}, store = (where, key, text) => safely(() => where[key] = text)();\n\
+    const stored = (kind) => [local ?? {}, memory].flatMap((where) => Object.keys(where).sort()\n\
     .filter((key) => key.startsWith(kind) && where[key]).map((key) => [key, where[key]]));\n\
-    let room = 2e6, isSafe = local instanceof Storage, isKnown = local[KNOWN], pause = 0, isSending, timer;\n\
+    let local, session, room = 2e6, isSafe, isKnown, pause = 0, isBusy, timer;\n\
     const keep = (line, tail = \"}\") => {\n\
     const key = `${LINE}${line.v} ${1e5 + line.n}`, text = json(line).slice(0, -1) + tail;\n\
     room -= text.length;\n\
@@ -97,7 +97,7 @@ pub(crate) const RECORDER: &[u8] = b"\
     if (!(v in have)) continue;\n\
     first[v] ??= n;\n\
     const isLost = refused[v] || first[v] > have[v] + 1, isDone = isLost || n <= have[v];\n\
-    if (isLost && v === visit.v) visit.isOver = true;\n\
+    visit.isOver ||= isLost && v === visit.v;\n\
     if (!isDone && (!opener || local[OPEN + opener])) continue;\n\
     went = true;\n\
     room += text.length;\n\
@@ -115,26 +115,46 @@ pub(crate) const RECORDER: &[u8] = b"\
     const flush = async () => {\n\
     clearTimeout(timer);\n\
     timer = null;\n\
-    const lines = isSending ? [] : nextLines(LINE, 12e4);\n\
+    const lines = isBusy ? [] : nextLines(LINE, 12e4);\n\
     if (!lines.length) return;\n\
     let went;\n\
-    isSending = true;\n\
+    isBusy = true;\n\
     try {\n\
-    isKnown ||= await (navigator.locks?.request(KNOWN, () => ask()) ?? ask());\n\
+    isKnown ||= await (navigator.locks?.request(KNOWN, ask) ?? ask());\n\
     store(local, KNOWN, 1);\n\
     went = acknowledge(lines, await ask({ method: \"POST\", body: bodyOf(lines) }));\n\
     } catch {}\n\
-    isSending = false;\n\
+    isBusy = false;\n\
     pause = went ? 100 : Math.min(3e4, pause * 2 + 100);\n\
     plan();\n\
     };\n\
     const plan = () => (timer ??= setTimeout(flush, pause));\n\
     let visit;\n\
-    const begin = (isNew, handed) => {\n\
+    const enter = safely(() => {\n\
+    if (!local) {\n\
+    local = safely(() => localStorage)() ?? {};\n\
+    session = safely(() => sessionStorage)() ?? {};\n\
+    visit.handed = session[TO];\n\
+    delete session[TO];\n\
+    isSafe = local instanceof Storage;\n\
+    isKnown = local[KNOWN];\n\
+    for (const [, text] of stored(LINE)) room -= text.length;\n\
+    for (const [key, text] of stored(OPEN)) {\n\
+    const end = JSON.parse(text);\n\
+    if (end.at > now() - 2 * DAY) continue;\n\
+    delete local[key];\n\
+    if (end.n) keep(end);\n\
+    }\n\
+    plan();\n\
+    }\n\
+    if (!visit.n) store(local, OPEN + visit.v, json({ at: visit.at }));\n\
+    });\n\
+    const whenIdle = (act) => window.requestIdleCallback?.(act, { timeout: 500 }) ?? setTimeout(act, 50);\n\
+    const begin = (isNew) => {\n\
     const at = now(), v = `${at.toString(36)}-${crypto.getRandomValues(new Uint32Array(4)).join(\"-\")}`;\n\
-    visit = { v, isNew, handed, path: location.pathname + location.search, at, n: 0, requests: 0, isOver: true };\n\
+    visit = { v, isNew, path: location.pathname + location.search, at, n: 0, sent: 0, isOver: true };\n\
     window[MARK] = v;\n\
-    store(local, OPEN + v, json({ at }));\n\
+    whenIdle(enter);\n\
     };\n\
     const say = (t, rest, tail) => {\n\
     if (visit.isOver) return;\n\
@@ -151,10 +171,11 @@ pub(crate) const RECORDER: &[u8] = b"\
     if (visit.els) return;\n\
     visit.els = document.querySelectorAll(\"*\");\n\
     visit.copy = document.implementation.createHTMLDocument(\"\").importNode(visit.els[0], true);\n\
-    window.requestIdleCallback?.(tell, { timeout: 500 }) ?? setTimeout(tell, 50);\n\
+    whenIdle(tell);\n\
     };\n\
     const tell = safely(() => {\n\
     if (visit.places) return;\n\
+    enter();\n\
     visit.places = new Map();\n\
     const { els, copy, isNew, path } = visit, head = { ...openerOf(visit), path };\n\
     const page = pageOf(copy, MOST_BYTES - bytesOf(json(head)));\n\
@@ -176,9 +197,10 @@ pub(crate) const RECORDER: &[u8] = b"\
     };\n\
     const isLink = (el) => el && /^(a|area)$/.test(nameOf(el));\n\
     const conflict = (chain) =>\n\
-    sayEvent(\"click\", chain.filter((el) => !isLink(el)), { req: visit.requests += 1 });\n\
+    sayEvent(\"click\", chain.filter((el) => !isLink(el)), { req: visit.sent += 1 });\n\
     const handOn = (to, n) => {\n\
     if (!to) return;\n\
+    enter();\n\
     const id = TO + [visit.v, n, bare(to)], opened = { opener: visit.v, from: n };\n\
     store(session, TO, id);\n\
     store(local, id, json({ id, opened, url: bare(document.URL), to: bare(to), at: now() }));\n\
@@ -196,7 +218,7 @@ pub(crate) const RECORDER: &[u8] = b"\
     };\n\
     let typed, idle;\n\
     const valueOf = (el) => el.type === \"checkbox\" ? el.checked : el.value;\n\
-    const isOn = (it) => it.held ?? attribute(it.copy, \"checked\") !== null;\n\
+    const isOn = (it) => it.held ?? it.copy.defaultChecked;\n\
     const heldBy = (it) => it.held ?? startOf(it.copy);\n\
     const sayInput = (el, chain, text) => {\n\
     const value = asSent(text), it = placeOf(el);\n\
@@ -231,35 +253,35 @@ pub(crate) const RECORDER: &[u8] = b"\
     if (/^[cr]/.test(kind)) return isOn(it) ? [[name, value ?? \"on\"]] : [];\n\
     return it.el === by ? [[name, value ?? \"\"]] : [];\n\
     });\n\
-    const stated = ({ form, submitter }, name) => attribute(submitter, `form${name}`) ?? attribute(form, name) ?? \"\";\n\
+    const stated = ({ form, submitter }, name) => attr(submitter, `form${name}`) ?? attr(form, name) ?? \"\";\n\
     const submitTo = (submit) => URL.parse(stated(submit, \"action\") || document.URL, document.baseURI);\n\
     const replayed = (address) => URL.parse(address, location.origin + visit.path)?.href ?? \"\";\n\
     const isSubmitSaid = (submit, to) => {\n\
     const { form, submitter, data } = submit, copy = placeOf(form)?.copy, post = /^post$/i;\n\
     const isPost = post.test(stated(submit, \"method\")), part = isPost ? bare : unasked;\n\
     const sent = [...data].map((pair) => pair.map((it) => it.replace ? asSent(it) : null));\n\
-    return isPost === post.test(attribute(copy, \"method\"))\n\
+    return isPost === post.test(attr(copy, \"method\"))\n\
     && !(isPost && /^(multi|text)/i.test(stated(submit, \"enctype\")))\n\
-    && /^\\s*utf-?8\\s*$/i.test(attribute(form, \"accept-charset\") ?? document.characterSet)\n\
-    && /^http/.test(to?.href) && part(to.href) === part(replayed(attribute(copy, \"action\") || visit.path))\n\
+    && /^\\s*utf-?8\\s*$/i.test(attr(form, \"accept-charset\") ?? document.characterSet)\n\
+    && /^http/.test(to?.href) && part(to.href) === part(replayed(attr(copy, \"action\") || visit.path))\n\
     && json(sent) === json(pairsOf(form, submitter));\n\
     };\n\
     let asked;\n\
     const request = (isSaid, t, chain, rest, to, here) => {\n\
-    if (isSaid) sayEvent(t, chain, { ...rest, req: visit.requests += 1 });\n\
+    if (isSaid) sayEvent(t, chain, { ...rest, req: visit.sent += 1 });\n\
     else conflict(chain);\n\
     asked = { to: unasked(to?.href ?? \"\"), isHere: here && window.navigation };\n\
-    handOn(to?.href, visit.requests);\n\
+    handOn(to?.href, visit.sent);\n\
     };\n\
     let pending, cause;\n\
     const acting = (chain) => chain.find((el) => matches.call(el, ACTING));\n\
     const isHere = (target) => {\n\
-    const name = target ?? attribute(document.querySelector(\"base[target]\"), \"target\") ?? \"\";\n\
+    const name = target ?? attr(document.querySelector(\"base[target]\"), \"target\") ?? \"\";\n\
     return /^(_self)?$/i.test(name) || name === window.name || window === parent && /^_(top|parent)$/i.test(name);\n\
     };\n\
     const staysHere = (link, { button, ctrlKey, metaKey, shiftKey, altKey }) =>\n\
     !(button || ctrlKey || metaKey || shiftKey || altKey || matches.call(link, \"[download]\"))\n\
-    && isHere(attribute(link, \"target\"));\n\
+    && isHere(attr(link, \"target\"));\n\
     const linkTo = (link, event) => {\n\
     if (!isLink(link) || event.defaultPrevented) return null;\n\
     const to = URL.parse(link.href?.baseVal ?? link.href, document.baseURI);\n\
@@ -269,7 +291,7 @@ pub(crate) const RECORDER: &[u8] = b"\
     const settleClick = (el, chain, event, made) => {\n\
     const it = placeOf(el), kind = it && kindOf(it.copy), to = linkTo(el, event);\n\
     const isOdd = event.altKey || [el, event.target].some((it) => matches.call(it, \"[ping],[ismap]\"));\n\
-    const isSaid = !isOdd && replayed(attribute(it?.copy, \"href\")) === to?.href;\n\
+    const isSaid = !isOdd && replayed(attr(it?.copy, \"href\")) === to?.href;\n\
     if (to) request(isSaid, \"click\", chain, {}, to, staysHere(el, event));\n\
     else if (event.type !== \"click\" || kind === \"text\" || event.defaultPrevented && /^[cr]/.test(kind)) return;\n\
     else if (kind === \"checkbox\") toggle(it);\n\
@@ -298,7 +320,7 @@ pub(crate) const RECORDER: &[u8] = b"\
     };\n\
     const answer = (to) => {\n\
     if (!cause.n) conflict(cause.chain);\n\
-    cause.n ??= visit.requests;\n\
+    cause.n ??= visit.sent;\n\
     handOn(to, cause.n);\n\
     };\n\
     const fail = () => pending ? (pending.made ??= []).push(null) : answer();\n\
@@ -307,14 +329,14 @@ pub(crate) const RECORDER: &[u8] = b"\
     if (asked?.isHere) fail();\n\
     asked = null;\n\
     };\n\
-    const background = new Set();\n\
+    const alone = new Set();\n\
     const noteRequest = (address, opens, target) => {\n\
     const to = address === null ? \"\" : URL.parse(address, document.baseURI)?.href ?? \"\", led = opens && to;\n\
     if (!/^(http|about)/.test(to) || target !== undefined && window.navigation && isHere(target)) return;\n\
     if (pending) (pending.made ??= []).push(led);\n\
-    else if (now() - cause?.at < 500 && !background.has(unasked(to))) answer(led);\n\
+    else if (now() - cause?.at < 500 && !alone.has(unasked(to))) answer(led);\n\
     else {\n\
-    background.add(unasked(to));\n\
+    alone.add(unasked(to));\n\
     handOn(led, 0);\n\
     }\n\
     };\n\
@@ -341,7 +363,6 @@ pub(crate) const RECORDER: &[u8] = b"\
     else noteRequest(submitTo({ form, submitter })?.href, true);\n\
     };\n\
     const watchCalls = (note) => {\n\
-    const { prototype } = XMLHttpRequest;\n\
     const watch = (owner, name, act) => {\n\
     owner[name] = new Proxy(owner[name], { apply(call, self, words) {\n\
     safely(act)(self, ...words);\n\
@@ -352,24 +373,14 @@ pub(crate) const RECORDER: &[u8] = b"\
     watch(window, \"open\", (_, it) => note(it || \"about:blank\", true));\n\
     watch(Navigator.prototype, \"sendBeacon\", (_, it) => note(it));\n\
     watch(HTMLElement.prototype, \"click\", (it) => it.href && !it.isConnected && note(it.href, true));\n\
-    watch(HTMLFormElement.prototype, \"submit\", (it) => note(attribute(it, \"action\") ?? \"\", true, attribute(it, \"target\")));\n\
-    watch(prototype, \"open\", (self, _, it) => self[MARK] = it);\n\
-    watch(prototype, \"send\", (self) => note(self[MARK]));\n\
+    watch(HTMLFormElement.prototype, \"submit\", (it) => note(attr(it, \"action\") ?? \"\", true, attr(it, \"target\")));\n\
+    watch(XMLHttpRequest.prototype, \"open\", (self, _, it) => self[MARK] = it);\n\
+    watch(XMLHttpRequest.prototype, \"send\", (self) => note(self[MARK]));\n\
     };\n\
     const on = (owner, type, act) => owner?.addEventListener(type, safely(act), true);\n\
     const start = () => {\n\
     if (window[MARK]) return;\n\
-    const handed = session[TO];\n\
-    delete session[TO];\n\
-    begin(performance.getEntriesByType(\"navigation\")[0].type === \"navigate\", handed);\n\
-    for (const [, text] of stored(LINE)) room -= text.length;\n\
-    for (const [key, text] of stored(OPEN)) {\n\
-    const end = JSON.parse(text);\n\
-    if (end.at > now() - 2 * DAY) continue;\n\
-    delete local[key];\n\
-    if (end.n) keep(end);\n\
-    }\n\
-    plan();\n\
+    begin(performance.getEntriesByType(\"navigation\")[0].type === \"navigate\");\n\
     for (const type of \"pointerdown keydown keypress beforeinput input click auxclick change drop\".split(\" \"))\n\
     on(window, type, startEvent);\n\
     on(window, \"submit\", noteSubmit);\n\
