@@ -31,6 +31,10 @@ class Fault(Exception):
     """The browser refused a call, or didn't do in time what was waited for."""
 
 
+class Late(Fault):
+    """It wasn't done in time."""
+
+
 def install():
     """The path of Chromium, which apt-get installs where it is missing; the program ends where it can't."""
     found = shutil.which("chromium")
@@ -56,7 +60,7 @@ def until(what, holds, seconds=SECONDS):
         if answer:
             return answer
         if time.monotonic() > end:
-            raise Fault(f"waited {seconds} s in vain: {what}")
+            raise Late(f"waited {seconds} s in vain: {what}")
         time.sleep(pause)
         # a slow machine has other things to do
         pause = min(pause * 1.1, 0.2)
@@ -134,7 +138,7 @@ class Browser:
         try:
             said = answer.get(timeout=SECONDS)
         except queue.Empty:
-            raise Fault(f"no answer to {method}") from None
+            raise Late(f"no answer to {method}") from None
         if "error" in said:
             raise Fault(f"{method}: {said['error']['message']}")
         return said["result"]
@@ -178,7 +182,7 @@ class Browser:
         act()
         self.call("Tracing.end")
         if not self.is_traced.wait(SECONDS):
-            raise Fault("no trace")
+            raise Late("no trace")
         return self.trace
 
     def close(self):
