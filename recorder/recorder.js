@@ -1,17 +1,15 @@
-// Records what users do on pages: README.md says how and why.
+// README.md says how and why.
 (() => {
 "use strict";
 
-// ---- page (tools/pages takes it, too)
+// ---- page
 
-// a field named `name` hides that of its form
-const getters = {};
-const get = (el, name) => (getters[name] ??= Element.prototype.__lookupGetter__(name)).call(el);
+const get = (el, name) => Reflect.get(Element.prototype, name, el);
 const { getAttribute, getAttributeNames, matches, querySelectorAll } = Element.prototype;
 const attr = (el, name) => el ? getAttribute.call(el, name) : null;
 const all = (el, selector) => [...querySelectorAll.call(el, selector)];
 
-const MOST_BYTES = 65200, MOST_NODES = 4096, MOST_LEVELS = 48;
+const BYTES = 65200, NODES = 4096, LEVELS = 48;
 const ACTING = "a[*|href],area[href],button,input,textarea,select", TARGETS = "form," + ACTING;
 const READ = "href action method type name value checked disabled formaction formmethod".split(" ");
 const SEEN = [...READ, ..."alt src title placeholder aria-label".split(" ")];
@@ -31,7 +29,7 @@ const startOf = (el) => {
 	HTMLFormElement.prototype.reset.call(form);
 	return asSent(form[0]?.value ?? "");
 };
-const attributesOf = (el, n, step) => {
+const attrsOf = (el, n, step) => {
 	const a = {};
 	for (const name of getAttributeNames.call(el))
 		if (!step || (step > 1 ? READ : SEEN).includes(name)) a[name] = attr(el, name);
@@ -50,25 +48,29 @@ const leading = (root) => {
 	return shown;
 };
 const isKept = (text, n, step) => !step || n === "textarea" || step < 2 && !/^(script|style)$/.test(n) && text.trim();
-const treeOf = (copy, n, path, level, page) => {
+const treeOf = function* (copy, n, path, level, page) {
 	const { step, shown, places } = page, c = [], counts = { __proto__: null };
 	places.set(copy, { copy, path });
-	for (let it = get(copy, "firstChild"); it; it = get(it, "nextSibling")) {
+	if (places.size % 64 === 0) yield;
+	for (const it of get(copy, "childNodes")) {
 		if (it instanceof Text) {
 			if (isKept(it.data, n, step)) c.push(n === "textarea" ? asSent(it.data) : it.data);
-		} else if (it instanceof Element && level < MOST_LEVELS && (!shown || shown.has(it))) {
+		} else if (it instanceof Element && level < LEVELS && (!shown || shown.has(it))) {
 			const name = nameOf(it), count = counts[name] = (counts[name] ?? 0) + 1;
-			c.push(treeOf(it, name, `${path}/${name}[${count}]`, level + 1, page));
+			c.push(yield* treeOf(it, name, `${path}/${name}[${count}]`, level + 1, page));
 		}
 	}
 	page.nodes += c.length;
-	return { n, a: attributesOf(copy, n, step), c };
+	return { n, a: attrsOf(copy, n, step), c };
 };
-const pageOf = (root, room, from) => {
-	for (let step = from ?? (all(root, "*").length < MOST_NODES ? 0 : 3); ; step += 1) {
+// in pieces, the last is the page
+const pageOf = function* (root, room, from) {
+	for (let step = from ?? (all(root, "*").length < NODES ? 0 : 3); ; step += 1) {
 		const page = { step, shown: step > 3 ? new Set() : step > 2 ? leading(root) : null, places: new Map(), nodes: 1 };
-		page.text = json(treeOf(root, nameOf(root), `/${nameOf(root)}[1]`, 1, page)).replace(/,"(a":{}|c":\[\])/g, "");
-		if (step > 3 || page.nodes <= MOST_NODES && bytesOf(page.text) <= room) return page;
+		const tree = yield* treeOf(root, nameOf(root), `/${nameOf(root)}[1]`, 1, page);
+		page.text = json(tree).replace(/,"(a":{}|c":\[\])/g, "");
+		yield page;
+		if (step > 3 || page.nodes <= NODES && bytesOf(page.text) <= room) return page;
 	}
 };
 // ---- end of page
@@ -80,8 +82,6 @@ const safely = (act) => (...words) => {
 };
 const bare = (address) => address.split("#")[0];
 const unasked = (address) => address.split(/[?#]/)[0];
-
-// ---- lines
 
 const script = document.currentScript?.src, UPLOAD = new URL("upload", script || location.origin);
 const MARK = Symbol.for("yugdemor"), DAY = 864e5, { fetch, Date: { now } } = window;
@@ -108,7 +108,6 @@ const acknowledge = (lines, { have = {}, refused = {} }) => {
 		first[v] ??= n;
 		const isLost = refused[v] || first[v] > have[v] + 1, isDone = isLost || n <= have[v];
 		visit.isOver ||= isLost && v === visit.v;
-		// a load waits for its opener
 		if (!isDone && (!opener || local[OPEN + opener])) continue;
 		went = true;
 		room += text.length;
@@ -131,7 +130,6 @@ const flush = async () => {
 	let went;
 	isBusy = true;
 	try {
-		// the cookie first, to one tab
 		isKnown ||= await (navigator.locks?.request(KNOWN, ask) ?? ask());
 		store(local, KNOWN, 1);
 		went = acknowledge(lines, await ask({ method: "POST", body: bodyOf(lines) }));
@@ -143,7 +141,6 @@ const flush = async () => {
 const plan = () => (timer ??= setTimeout(flush, pause));
 
 let visit;
-// opens storage when idle or needed
 const enter = safely(() => {
 	if (!local) {
 		local = safely(() => localStorage)() ?? {};
@@ -163,7 +160,7 @@ const enter = safely(() => {
 	}
 	if (!visit.n) store(local, OPEN + visit.v, json({ at: visit.at }));
 });
-const whenIdle = (act) => window.requestIdleCallback?.(act, { timeout: 500 }) ?? setTimeout(act, 50);
+const whenIdle = (act) => window.requestIdleCallback?.(act, { timeout: 100 }) ?? setTimeout(act, 50, true);
 const begin = (isNew) => {
 	const at = now(), v = `${at.toString(36)}-${crypto.getRandomValues(new Uint32Array(4)).join("-")}`;
 	visit = { v, isNew, path: location.pathname + location.search, at, n: 0, sent: 0, isOver: true };
@@ -172,7 +169,7 @@ const begin = (isNew) => {
 };
 const say = (t, rest, tail) => {
 	if (visit.isOver) return;
-	const { v } = visit, n = visit.n += 1, at = visit.at = now();
+	const { v } = visit, n = ++visit.n, at = visit.at = now();
 	keep({ v, n, t, at, kept: isSafe ? undefined : false, ...rest }, tail);
 	store(local, OPEN + v, json({ v, n: n + 1, t: "end", at }));
 	plan();
@@ -181,40 +178,64 @@ const sayEvent = (t, chain, rest) => {
 	if (visit.n < 1e4) say(t, { target: targetOf(chain), ...rest });
 	else if (visit.n === 1e4) say("click", { target: targetOf([]) });
 };
-// into a document where it does nothing
+// until they are undone
+const note = (changes) => changes.forEach((it) => {
+	visit.changes.push(it);
+	it.removedNodes.forEach(watch);
+});
+const observer = new MutationObserver(note);
+const watch = (node) => observer.observe(node,
+	{ subtree: true, childList: true, attributeOldValue: true, characterDataOldValue: true });
 const take = () => {
-	if (visit.els) return;
-	visit.els = document.querySelectorAll("*");
-	visit.copy = document.implementation.createHTMLDocument("").importNode(visit.els[0], true);
+	if (visit.changes) return;
+	visit.changes = [];
+	watch(visit.root = document.documentElement);
 	whenIdle(tell);
 };
-const tell = safely(() => {
-	if (visit.places) return;
+const tellPage = function* () {
+	const { root, changes, isNew, path } = visit, copies = new Map();
+	const inert = document.implementation.createHTMLDocument("");
+	const copyOf = (node) => {
+		if (!node || copies.has(node)) return copies.get(node);
+		let top;
+		for (let it = node; it; it = get(it, "parentElement")) top = it;
+		const one = document.createTreeWalker(top), other = document.createTreeWalker(inert.importNode(top, true));
+		do copies.set(one.currentNode, other.currentNode); while (one.nextNode() && other.nextNode());
+		return copies.get(node);
+	};
 	enter();
-	visit.places = new Map();
-	const { els, copy, isNew, path } = visit, head = { ...openerOf(visit), path };
-	const page = pageOf(copy, MOST_BYTES - bytesOf(json(head)));
+	note(observer.takeRecords());
+	observer.disconnect();
+	changes.reverse().forEach(safely((it) => {
+		const { attributeName: name, attributeNamespace: space, oldValue } = it, copy = copyOf(it.target);
+		if (!name) copy.nodeValue = oldValue;
+		else if (oldValue === null) copy.removeAttributeNS(space, name);
+		else copy.setAttributeNS(space, name, oldValue);
+		for (const node of it.addedNodes) copy.removeChild(copyOf(node));
+		for (const node of it.removedNodes) copy.insertBefore(copyOf(node), copyOf(it.nextSibling));
+	}));
+	const head = { ...openerOf(visit), path }, page = yield* pageOf(copyOf(root), BYTES - bytesOf(json(head)));
 	visit.places = page.places;
-	[copy, ...all(copy, "*")].forEach((copy, at) => {
-		const el = els[at], it = placeOf(copy);
-		if (!it) return;
-		it.el = el;
-		it.filled = isNew ? null : valueOf(el);
-		visit.places.set(el, it);
-	});
+	for (const [el, copy] of copies) {
+		const it = placeOf(copy);
+		if (it) visit.places.set(el, Object.assign(it, { el, filled: isNew ? null : valueOf(el) }));
+	}
 	visit.isOver = false;
 	say("load", { ...head, step: page.step }, `,"page":${page.text}}`);
+};
+const tell = safely((isPiece) => {
+	const end = now() + (isPiece ? 4 : 1e9);
+	visit.pieces ??= tellPage();
+	while (!visit.pieces.next().done) if (now() > end) return whenIdle(tell);
 });
 const placeOf = (el) => visit.places.get(el);
-// the first's, or a path that no page has
 const targetOf = (chain) => {
-	const at = chain.findIndex(placeOf), { path } = placeOf(chain[at] ?? visit.copy);
-	return at ? `${path.split("/", MOST_LEVELS).join("/")}/_new[1]` : path;
+	const at = chain.findIndex(placeOf), { path } = placeOf(chain[at] ?? visit.root);
+	return at ? `${path.split("/", LEVELS).join("/")}/_new[1]` : path;
 };
 const isLink = (el) => el && /^(a|area)$/.test(nameOf(el));
-// with a request, on what is no link
 const conflict = (chain) =>
-	sayEvent("click", chain.filter((el) => !isLink(el)), { req: visit.sent += 1 });
+	sayEvent("click", chain.filter((el) => !isLink(el)), { req: ++visit.sent });
 
 const handOn = (to, n) => {
 	if (!to) return;
@@ -224,7 +245,6 @@ const handOn = (to, n) => {
 	store(local, id, json({ id, opened, url: bare(document.URL), to: bare(to), at: now() }));
 };
 const openerOf = ({ isNew, handed }) => {
-	// behind a redirect the referrer alone fits
 	const fit = ({ id, url, to }) => {
 		const there = (to === bare(document.URL)) * 2 + (url === document.referrer);
 		return (isNew || id === handed) && there && there + (id === handed) * 1.5;
@@ -242,7 +262,6 @@ const isOn = (it) => it.held ?? it.copy.defaultChecked;
 const heldBy = (it) => it.held ?? startOf(it.copy);
 const sayInput = (el, chain, text) => {
 	const value = asSent(text), it = placeOf(el);
-	// a password, shown or not
 	if (el.type === "password" || it && (it.copy.type === "password" || heldBy(it) === value)) return;
 	if (bytesOf(json(value)) > 6e4) return conflict(chain);
 	if (it) it.held = value;
@@ -269,15 +288,16 @@ const reconcile = (form) => {
 };
 
 const pairsOf = (form, by) => under(form).flatMap((it) => {
-	const { name, value, disabled } = attributesOf(it.copy, nameOf(it.copy), 1), kind = kindOf(it.copy);
+	const { name, value, disabled } = attrsOf(it.copy, nameOf(it.copy), 1), kind = kindOf(it.copy);
 	if (!name || disabled !== undefined) return [];
 	if (kind === "text") return [[name, heldBy(it)]];
 	if (/^[cr]/.test(kind)) return isOn(it) ? [[name, value ?? "on"]] : [];
 	return it.el === by ? [[name, value ?? ""]] : [];
 });
 const stated = ({ form, submitter }, name) => attr(submitter, `form${name}`) ?? attr(form, name) ?? "";
-const submitTo = (submit) => URL.parse(stated(submit, "action") || document.URL, document.baseURI);
-const replayed = (address) => URL.parse(address, location.origin + visit.path)?.href ?? "";
+const urlOf = (address, base = document.baseURI) => URL.parse(address, base)?.href ?? "";
+const submitTo = (submit) => urlOf(stated(submit, "action") || document.URL);
+const replayed = (address) => urlOf(address, location.origin + visit.path);
 const isSubmitSaid = (submit, to) => {
 	const { form, submitter, data } = submit, copy = placeOf(form)?.copy, post = /^post$/i;
 	const isPost = post.test(stated(submit, "method")), part = isPost ? bare : unasked;
@@ -285,38 +305,36 @@ const isSubmitSaid = (submit, to) => {
 	return isPost === post.test(attr(copy, "method"))
 		&& !(isPost && /^(multi|text)/i.test(stated(submit, "enctype")))
 		&& /^\s*utf-?8\s*$/i.test(attr(form, "accept-charset") ?? document.characterSet)
-		&& /^http/.test(to?.href) && part(to.href) === part(replayed(attr(copy, "action") || visit.path))
+		&& /^http/.test(to) && part(to) === part(replayed(attr(copy, "action") || visit.path))
 		&& json(sent) === json(pairsOf(form, submitter));
 };
-// asked for last, and if this window must go there
+// asked for last
 let asked;
 const request = (isSaid, t, chain, rest, to, here) => {
-	if (isSaid) sayEvent(t, chain, { ...rest, req: visit.sent += 1 });
+	if (isSaid) sayEvent(t, chain, { ...rest, req: ++visit.sent });
 	else conflict(chain);
-	asked = { to: unasked(to?.href ?? ""), isHere: here && window.navigation };
-	handOn(to?.href, visit.sent);
+	asked = { to: unasked(to), isHere: here && window.navigation };
+	handOn(to, visit.sent);
 };
 
-// the user's event that is handled, and the last one
-let pending, cause;
+// the user's, and the last
+let turn, cause;
 const acting = (chain) => chain.find((el) => matches.call(el, ACTING));
 const isHere = (target) => {
 	const name = target ?? attr(document.querySelector("base[target]"), "target") ?? "";
 	return /^(_self)?$/i.test(name) || name === window.name || window === parent && /^_(top|parent)$/i.test(name);
 };
-const staysHere = (link, { button, ctrlKey, metaKey, shiftKey, altKey }) =>
-	!(button || ctrlKey || metaKey || shiftKey || altKey || matches.call(link, "[download]"))
-		&& isHere(attr(link, "target"));
+const staysHere = (link, it) => isHere(attr(link, "target"))
+	&& !(it.button || it.ctrlKey || it.metaKey || it.shiftKey || it.altKey || matches.call(link, "[download]"));
 const linkTo = (link, event) => {
 	if (!isLink(link) || event.defaultPrevented) return null;
-	const to = URL.parse(link.href?.baseVal ?? link.href, document.baseURI);
-	const isInside = to?.href.includes("#") && bare(to.href) === bare(document.URL);
-	return /^http/.test(to?.href) && !(isInside && staysHere(link, event)) ? to : null;
+	const to = urlOf(link.href?.baseVal ?? link.href), isInside = to.includes("#") && bare(to) === bare(document.URL);
+	return /^http/.test(to) && !(isInside && staysHere(link, event)) ? to : null;
 };
 const settleClick = (el, chain, event, made) => {
 	const it = placeOf(el), kind = it && kindOf(it.copy), to = linkTo(el, event);
 	const isOdd = event.altKey || [el, event.target].some((it) => matches.call(it, "[ping],[ismap]"));
-	const isSaid = !isOdd && replayed(attr(it?.copy, "href")) === to?.href;
+	const isSaid = !isOdd && replayed(attr(it?.copy, "href")) === to;
 	if (to) request(isSaid, "click", chain, {}, to, staysHere(el, event));
 	else if (event.type !== "click" || kind === "text" || event.defaultPrevented && /^[cr]/.test(kind)) return;
 	else if (kind === "checkbox") toggle(it);
@@ -331,9 +349,10 @@ const settleSubmit = (submit, made) => {
 	else if (!made) sayEvent("submit", [form], by);
 };
 const settle = () => {
-	if (!pending) return;
-	const { event, chain, isClick, field, submit, made, went } = pending, el = isClick && acting(chain);
-	pending = null;
+	if (!turn) return;
+	tell();
+	const { event, chain, isClick, field, submit, made, went } = turn, el = isClick && acting(chain);
+	turn = null;
 	checkLeft();
 	if (field) sayTyped([...field, field[0].value]);
 	if (isClick || submit || made) sayTyped();
@@ -348,19 +367,18 @@ const answer = (to) => {
 	cause.n ??= visit.sent;
 	handOn(to, cause.n);
 };
-// the last event led elsewhere: a conflict
-const fail = () => pending ? (pending.made ??= []).push(null) : answer();
+// elsewhere: a conflict
+const fail = () => turn ? (turn.made ??= []).push(null) : answer();
 const leave = (to) => asked?.to === unasked(to) ? asked.isHere = false : fail();
 const checkLeft = () => {
 	if (asked?.isHere) fail();
 	asked = null;
 };
-// shortly after an event, too
 const alone = new Set();
-const noteRequest = (address, opens, target) => {
-	const to = address === null ? "" : URL.parse(address, document.baseURI)?.href ?? "", led = opens && to;
+const noteCall = (address, opens, target) => {
+	const to = address === null ? "" : urlOf(address), led = opens && to;
 	if (!/^(http|about)/.test(to) || target !== undefined && window.navigation && isHere(target)) return;
-	if (pending) (pending.made ??= []).push(led);
+	if (turn) (turn.made ??= []).push(led);
 	else if (now() - cause?.at < 500 && !alone.has(unasked(to))) answer(led);
 	else {
 		alone.add(unasked(to));
@@ -369,76 +387,72 @@ const noteRequest = (address, opens, target) => {
 };
 const startEvent = (event) => {
 	const { type } = event, chain = event.composedPath().filter((it) => it instanceof Element), [el] = chain;
-	if (!event.isTrusted) return type === "click" && noteRequest(linkTo(acting(chain), event), true);
-	if (type === "input" && event.inputType && !pending) return;
+	if (!event.isTrusted) return type === "click" && noteCall(linkTo(acting(chain), event), true);
+	if (type === "input" && event.inputType && !turn) return;
 	if (now() - visit.at > DAY) begin();
 	take();
-	tell();
+	// fields may change
+	if (!visit.isNew) tell();
 	const isClick = type === "click" || type === "auxclick" && event.button === 1;
 	if (isClick) settle();
-	if (!pending) setTimeout(safely(settle));
-	pending ??= { event, isClick, chain };
-	if (event.key === "Enter") pending.enter = event;
-	if (type === "input" && kindOf(el) === "text") pending.field = [el, chain];
+	if (!turn) setTimeout(safely(settle));
+	turn ??= { event, isClick, chain };
+	if (event.key === "Enter") turn.enter = event;
+	if (type === "input" && kindOf(el) === "text") turn.field = [el, chain];
 };
-// by a button, by Enter, or by a script
 const noteSubmit = (event) => {
-	const { submitter, target: form, isTrusted } = event, { enter, isClick, chain } = pending ?? {};
+	const { submitter, target: form, isTrusted } = event, { enter, isClick, chain } = turn ?? {};
 	if (!isTrusted) return;
-	const isPressed = isClick && acting(chain) === submitter && !pending.event.defaultPrevented;
+	const isPressed = isClick && acting(chain) === submitter && !turn.event.defaultPrevented;
 	const isEntered = enter?.target.form === form && !enter.defaultPrevented;
-	if (isPressed || isEntered) pending.submit = { form, submitter, event };
-	else noteRequest(submitTo({ form, submitter })?.href, true);
+	if (isPressed || isEntered) turn.submit = { form, submitter, event };
+	else noteCall(submitTo({ form, submitter }), true);
 };
 
 const watchCalls = (note) => {
 	const watch = (owner, name, act) => {
-		owner[name] = new Proxy(owner[name], { apply(call, self, words) {
-			safely(act)(self, ...words);
-			return Reflect.apply(call, self, words);
-		} });
+		const apply = (call, self, words) => (safely(act)(self, ...words), Reflect.apply(call, self, words));
+		owner[name] = new Proxy(owner[name], { apply });
 	};
 	watch(window, "fetch", (_, it) => note(it?.url ?? it));
 	watch(window, "open", (_, it) => note(it || "about:blank", true));
 	watch(Navigator.prototype, "sendBeacon", (_, it) => note(it));
-	// of a link outside of the page
 	watch(HTMLElement.prototype, "click", (it) => it.href && !it.isConnected && note(it.href, true));
 	watch(HTMLFormElement.prototype, "submit", (it) => note(attr(it, "action") ?? "", true, attr(it, "target")));
 	watch(XMLHttpRequest.prototype, "open", (self, _, it) => self[MARK] = it);
 	watch(XMLHttpRequest.prototype, "send", (self) => note(self[MARK]));
 };
 
-const on = (owner, type, act) => owner?.addEventListener(type, safely(act), true);
+const on = (type, act, owner = window) => owner.addEventListener(type, safely(act), true);
 const start = () => {
 	if (window[MARK]) return;
 	begin(performance.getEntriesByType("navigation")[0].type === "navigate");
 	for (const type of "pointerdown keydown keypress beforeinput input click auxclick change drop".split(" "))
-		on(window, type, startEvent);
-	on(window, "submit", noteSubmit);
-	on(window, "formdata", ({ isTrusted, target, formData }) => {
-		if (isTrusted && pending?.submit?.form === target) pending.submit.data = formData;
+		on(type, startEvent);
+	on("submit", noteSubmit);
+	on("formdata", (it) => {
+		if (it.isTrusted && turn?.submit?.form === it.target) turn.submit.data = it.formData;
 	});
-	on(window.navigation, "navigate", ({ destination: { url, sameDocument }, navigationType, userInitiated }) => {
+	on("navigate", ({ destination: { url, sameDocument }, navigationType, userInitiated }) => {
 		const { way } = visit, at = now();
-		// a second one may be left out
 		if (url === way?.url && at - way.at < 3000) fail();
 		visit.way = !sameDocument && navigationType !== "traverse" && /^http/.test(url) && { url, at };
 		if (!visit.way) return;
-		if (!userInitiated) noteRequest(url, true);
-		else if (pending) pending.went = url;
+		if (!userInitiated) noteCall(url, true);
+		else if (turn) turn.went = url;
 		else leave(url);
-	});
-	// the page is kept, but for another way
-	for (const it of ["success", "error"]) on(window.navigation, `navigate${it}`, () => {
+	}, window.navigation);
+	// the page is kept
+	for (const it of ["success", "error"]) on(`navigate${it}`, () => {
 		const { way } = visit;
 		setTimeout(safely(() => way && way === visit.way && fail()));
-	});
-	on(document, "securitypolicyviolation", (it) => it.effectiveDirective === "form-action" && fail());
-	on(window, "pageshow", ({ persisted }) => {
+	}, window.navigation);
+	on("securitypolicyviolation", (it) => it.effectiveDirective === "form-action" && fail());
+	on("pageshow", ({ persisted }) => {
 		if (persisted) begin();
 		take();
 	});
-	on(window, "pagehide", () => {
+	on("pagehide", () => {
 		take();
 		tell();
 		settle();
@@ -449,20 +463,19 @@ const start = () => {
 		delete local[OPEN + visit.v];
 		if (isKnown) navigator.sendBeacon(UPLOAD, bodyOf(nextLines(LINE + visit.v, 6e4)));
 	});
-	on(document, "visibilitychange", () => {
+	on("visibilitychange", () => {
 		settle();
 		sayTyped();
-		if (visit.els) tell();
+		if (visit.changes) tell();
 		flush();
 	});
-	on(window, "online", flush);
+	on("online", flush);
 	if (document.readyState === "complete") take();
-	// calls.js tells an extension
-	if (script) watchCalls(noteRequest);
-	else on(window, "yugdemor", ({ detail }) => noteRequest(...JSON.parse(detail)));
+	if (script) watchCalls(noteCall);
+	else on("yugdemor", ({ detail }) => noteCall(...JSON.parse(detail)));
 };
 if (/^http/.test(location) && safely(() => top.location.href)()) {
-	if (document.prerendering) on(document, "prerenderingchange", start);
+	if (document.prerendering) on("prerenderingchange", start);
 	else safely(start)();
 }
 })();

@@ -236,9 +236,9 @@ class Tab:
     def loaded(self):
         self.holds("document.readyState === 'complete' && location.href !== 'about:blank'")
 
-    def moved(self, before):
+    def moved(self, before, what="another page"):
         """Waits until another page is there than that which began then."""
-        until("another page", lambda: self.born() not in (before, None))
+        until(what, lambda: self.born() not in (before, None))
         self.loaded()
 
     def leads(self, act):

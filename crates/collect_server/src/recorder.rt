@@ -4,12 +4,11 @@
 pub(crate) const RECORDER: &[u8] = b"\
     (() => {\n\
     \"use strict\";\n\
-    const getters = {};\n\
-    const get = (el, name) => (getters[name] ??= Element.prototype.__lookupGetter__(name)).call(el);\n\
+    const get = (el, name) => Reflect.get(Element.prototype, name, el);\n\
     const { getAttribute, getAttributeNames, matches, querySelectorAll } = Element.prototype;\n\
     const attr = (el, name) => el ? getAttribute.call(el, name) : null;\n\
     const all = (el, selector) => [...querySelectorAll.call(el, selector)];\n\
-    const MOST_BYTES = 65200, MOST_NODES = 4096, MOST_LEVELS = 48;\n\
+    const BYTES = 65200, NODES = 4096, LEVELS = 48;\n\
     const ACTING = \"a[*|href],area[href],button,input,textarea,select\", TARGETS = \"form,\" + ACTING;\n\
     const READ = \"href action method type name value checked disabled formaction formmethod\".split(\" \");\n\
     const SEEN = [...READ, ...\"alt src title placeholder aria-label\".split(\" \")];\n\
@@ -27,7 +26,7 @@ pub(crate) const RECORDER: &[u8] = b"\
     HTMLFormElement.prototype.reset.call(form);\n\
     return asSent(form[0]?.value ?? \"\");\n\
     };\n\
-    const attributesOf = (el, n, step) => {\n\
+    const attrsOf = (el, n, step) => {\n\
     const a = {};\n\
     for (const name of getAttributeNames.call(el))\n\
     if (!step || (step > 1 ? READ : SEEN).includes(name)) a[name] = attr(el, name);\n\
@@ -46,25 +45,28 @@ pub(crate) const RECORDER: &[u8] = b"\
     return shown;\n\
     };\n\
     const isKept = (text, n, step) => !step || n === \"textarea\" || step < 2 && !/^(script|style)$/.test(n) && text.trim();\n\
-    const treeOf = (copy, n, path, level, page) => {\n\
+    const treeOf = function* (copy, n, path, level, page) {\n\
     const { step, shown, places } = page, c = [], counts = { __proto__: null };\n\
     places.set(copy, { copy, path });\n\
-    for (let it = get(copy, \"firstChild\"); it; it = get(it, \"nextSibling\")) {\n\
+    if (places.size % 64 === 0) yield;\n\
+    for (const it of get(copy, \"childNodes\")) {\n\
     if (it instanceof Text) {\n\
     if (isKept(it.data, n, step)) c.push(n === \"textarea\" ? asSent(it.data) : it.data);\n\
-    } else if (it instanceof Element && level < MOST_LEVELS && (!shown || shown.has(it))) {\n\
+    } else if (it instanceof Element && level < LEVELS && (!shown || shown.has(it))) {\n\
     const name = nameOf(it), count = counts[name] = (counts[name] ?? 0) + 1;\n\
-    c.push(treeOf(it, name, `${path}/${name}[${count}]`, level + 1, page));\n\
+    c.push(yield* treeOf(it, name, `${path}/${name}[${count}]`, level + 1, page));\n\
     }\n\
     }\n\
     page.nodes += c.length;\n\
-    return { n, a: attributesOf(copy, n, step), c };\n\
+    return { n, a: attrsOf(copy, n, step), c };\n\
     };\n\
-    const pageOf = (root, room, from) => {\n\
-    for (let step = from ?? (all(root, \"*\").length < MOST_NODES ? 0 : 3); ; step += 1) {\n\
+    const pageOf = function* (root, room, from) {\n\
+    for (let step = from ?? (all(root, \"*\").length < NODES ? 0 : 3); ; step += 1) {\n\
     const page = { step, shown: step > 3 ? new Set() : step > 2 ? leading(root) : null, places: new Map(), nodes: 1 };\n\
-    page.text = json(treeOf(root, nameOf(root), `/${nameOf(root)}[1]`, 1, page)).replace(/,\"(a\":{}|c\":\\[\\])/g, \"\");\n\
-    if (step > 3 || page.nodes <= MOST_NODES && bytesOf(page.text) <= room) return page;\n\
+    const tree = yield* treeOf(root, nameOf(root), `/${nameOf(root)}[1]`, 1, page);\n\
+    page.text = json(tree).replace(/,\"(a\":{}|c\":\\[\\])/g, \"\");\n\
+    yield page;\n\
+    if (step > 3 || page.nodes <= NODES && bytesOf(page.text) <= room) return page;\n\
     }\n\
     };\n\
     const safely = (act) => (...words) => {\n\
@@ -149,7 +151,7 @@ pub(crate) const RECORDER: &[u8] = b"\
     }\n\
     if (!visit.n) store(local, OPEN + visit.v, json({ at: visit.at }));\n\
     });\n\
-    const whenIdle = (act) => window.requestIdleCallback?.(act, { timeout: 500 }) ?? setTimeout(act, 50);\n\
+    const whenIdle = (act) => window.requestIdleCallback?.(act, { timeout: 100 }) ?? setTimeout(act, 50, true);\n\
     const begin = (isNew) => {\n\
     const at = now(), v = `${at.toString(36)}-${crypto.getRandomValues(new Uint32Array(4)).join(\"-\")}`;\n\
     visit = { v, isNew, path: location.pathname + location.search, at, n: 0, sent: 0, isOver: true };\n\
@@ -158,7 +160,7 @@ pub(crate) const RECORDER: &[u8] = b"\
     };\n\
     const say = (t, rest, tail) => {\n\
     if (visit.isOver) return;\n\
-    const { v } = visit, n = visit.n += 1, at = visit.at = now();\n\
+    const { v } = visit, n = ++visit.n, at = visit.at = now();\n\
     keep({ v, n, t, at, kept: isSafe ? undefined : false, ...rest }, tail);\n\
     store(local, OPEN + v, json({ v, n: n + 1, t: \"end\", at }));\n\
     plan();\n\
@@ -167,37 +169,63 @@ pub(crate) const RECORDER: &[u8] = b"\
     if (visit.n < 1e4) say(t, { target: targetOf(chain), ...rest });\n\
     else if (visit.n === 1e4) say(\"click\", { target: targetOf([]) });\n\
     };\n\
+    const note = (changes) => changes.forEach((it) => {\n\
+    visit.changes.push(it);\n\
+    it.removedNodes.forEach(watch);\n\
+    });\n\
+    const observer = new MutationObserver(note);\n\
+    const watch = (node) => observer.observe(node,\n\
+    { subtree: true, childList: true, attributeOldValue: true, characterDataOldValue: true });\n\
     const take = () => {\n\
-    if (visit.els) return;\n\
-    visit.els = document.querySelectorAll(\"*\");\n\
-    visit.copy = document.implementation.createHTMLDocument(\"\").importNode(visit.els[0], true);\n\
+    if (visit.changes) return;\n\
+    visit.changes = [];\n\
+    watch(visit.root = document.documentElement);\n\
     whenIdle(tell);\n\
     };\n\
-    const tell = safely(() => {\n\
-    if (visit.places) return;\n\
+    const tellPage = function* () {\n\
+    const { root, changes, isNew, path } = visit, copies = new Map();\n\
+    const inert = document.implementation.createHTMLDocument(\"\");\n\
+    const copyOf = (node) => {\n\
+    if (!node || copies.has(node)) return copies.get(node);\n\
+    let top;\n\
+    for (let it = node; it; it = get(it, \"parentElement\")) top = it;\n\
+    const one = document.createTreeWalker(top), other = document.createTreeWalker(inert.importNode(top, true));\n\
+    do copies.set(one.currentNode, other.currentNode); while (one.nextNode() && other.nextNode());\n\
+    return copies.get(node);\n\
+    };\n\
     enter();\n\
-    visit.places = new Map();\n\
-    const { els, copy, isNew, path } = visit, head = { ...openerOf(visit), path };\n\
-    const page = pageOf(copy, MOST_BYTES - bytesOf(json(head)));\n\
+    note(observer.takeRecords());\n\
+    observer.disconnect();\n\
+    changes.reverse().forEach(safely((it) => {\n\
+    const { attributeName: name, attributeNamespace: space, oldValue } = it, copy = copyOf(it.target);\n\
+    if (!name) copy.nodeValue = oldValue;\n\
+    else if (oldValue === null) copy.removeAttributeNS(space, name);\n\
+    else copy.setAttributeNS(space, name, oldValue);\n\
+    for (const node of it.addedNodes) copy.removeChild(copyOf(node));\n\
+    for (const node of it.removedNodes) copy.insertBefore(copyOf(node), copyOf(it.nextSibling));\n\
+    }));\n\
+    const head = { ...openerOf(visit), path }, page = yield* pageOf(copyOf(root), BYTES - bytesOf(json(head)));\n\
     visit.places = page.places;\n\
-    [copy, ...all(copy, \"*\")].forEach((copy, at) => {\n\
-    const el = els[at], it = placeOf(copy);\n\
-    if (!it) return;\n\
-    it.el = el;\n\
-    it.filled = isNew ? null : valueOf(el);\n\
-    visit.places.set(el, it);\n\
-    });\n\
+    for (const [el, copy] of copies) {\n\
+    const it = placeOf(copy);\n\
+    if (it) visit.places.set(el, Object.assign(it, { el, filled: isNew ? null : valueOf(el) }));\n\
+    }\n\
     visit.isOver = false;\n\
     say(\"load\", { ...head, step: page.step }, `,\"page\":${page.text}}`);\n\
+    };\n\
+    const tell = safely((isPiece) => {\n\
+    const end = now() + (isPiece ? 4 : 1e9);\n\
+    visit.pieces ??= tellPage();\n\
+    while (!visit.pieces.next().done) if (now() > end) return whenIdle(tell);\n\
     });\n\
     const placeOf = (el) => visit.places.get(el);\n\
     const targetOf = (chain) => {\n\
-    const at = chain.findIndex(placeOf), { path } = placeOf(chain[at] ?? visit.copy);\n\
-    return at ? `${path.split(\"/\", MOST_LEVELS).join(\"/\")}/_new[1]` : path;\n\
+    const at = chain.findIndex(placeOf), { path } = placeOf(chain[at] ?? visit.root);\n\
+    return at ? `${path.split(\"/\", LEVELS).join(\"/\")}/_new[1]` : path;\n\
     };\n\
     const isLink = (el) => el && /^(a|area)$/.test(nameOf(el));\n\
     const conflict = (chain) =>\n\
-    sayEvent(\"click\", chain.filter((el) => !isLink(el)), { req: visit.sent += 1 });\n\
+    sayEvent(\"click\", chain.filter((el) => !isLink(el)), { req: ++visit.sent });\n\
     const handOn = (to, n) => {\n\
     if (!to) return;\n\
     enter();\n\
@@ -247,15 +275,16 @@ pub(crate) const RECORDER: &[u8] = b"\
     }\n\
     };\n\
     const pairsOf = (form, by) => under(form).flatMap((it) => {\n\
-    const { name, value, disabled } = attributesOf(it.copy, nameOf(it.copy), 1), kind = kindOf(it.copy);\n\
+    const { name, value, disabled } = attrsOf(it.copy, nameOf(it.copy), 1), kind = kindOf(it.copy);\n\
     if (!name || disabled !== undefined) return [];\n\
     if (kind === \"text\") return [[name, heldBy(it)]];\n\
     if (/^[cr]/.test(kind)) return isOn(it) ? [[name, value ?? \"on\"]] : [];\n\
     return it.el === by ? [[name, value ?? \"\"]] : [];\n\
     });\n\
     const stated = ({ form, submitter }, name) => attr(submitter, `form${name}`) ?? attr(form, name) ?? \"\";\n\
-    const submitTo = (submit) => URL.parse(stated(submit, \"action\") || document.URL, document.baseURI);\n\
-    const replayed = (address) => URL.parse(address, location.origin + visit.path)?.href ?? \"\";\n\
+    const urlOf = (address, base = document.baseURI) => URL.parse(address, base)?.href ?? \"\";\n\
+    const submitTo = (submit) => urlOf(stated(submit, \"action\") || document.URL);\n\
+    const replayed = (address) => urlOf(address, location.origin + visit.path);\n\
     const isSubmitSaid = (submit, to) => {\n\
     const { form, submitter, data } = submit, copy = placeOf(form)?.copy, post = /^post$/i;\n\
     const isPost = post.test(stated(submit, \"method\")), part = isPost ? bare : unasked;\n\
@@ -263,35 +292,33 @@ pub(crate) const RECORDER: &[u8] = b"\
     return isPost === post.test(attr(copy, \"method\"))\n\
     && !(isPost && /^(multi|text)/i.test(stated(submit, \"enctype\")))\n\
     && /^\\s*utf-?8\\s*$/i.test(attr(form, \"accept-charset\") ?? document.characterSet)\n\
-    && /^http/.test(to?.href) && part(to.href) === part(replayed(attr(copy, \"action\") || visit.path))\n\
+    && /^http/.test(to) && part(to) === part(replayed(attr(copy, \"action\") || visit.path))\n\
     && json(sent) === json(pairsOf(form, submitter));\n\
     };\n\
     let asked;\n\
     const request = (isSaid, t, chain, rest, to, here) => {\n\
-    if (isSaid) sayEvent(t, chain, { ...rest, req: visit.sent += 1 });\n\
+    if (isSaid) sayEvent(t, chain, { ...rest, req: ++visit.sent });\n\
     else conflict(chain);\n\
-    asked = { to: unasked(to?.href ?? \"\"), isHere: here && window.navigation };\n\
-    handOn(to?.href, visit.sent);\n\
+    asked = { to: unasked(to), isHere: here && window.navigation };\n\
+    handOn(to, visit.sent);\n\
     };\n\
-    let pending, cause;\n\
+    let turn, cause;\n\
     const acting = (chain) => chain.find((el) => matches.call(el, ACTING));\n\
     const isHere = (target) => {\n\
     const name = target ?? attr(document.querySelector(\"base[target]\"), \"target\") ?? \"\";\n\
     return /^(_self)?$/i.test(name) || name === window.name || window === parent && /^_(top|parent)$/i.test(name);\n\
     };\n\
-    const staysHere = (link, { button, ctrlKey, metaKey, shiftKey, altKey }) =>\n\
-    !(button || ctrlKey || metaKey || shiftKey || altKey || matches.call(link, \"[download]\"))\n\
-    && isHere(attr(link, \"target\"));\n\
+    const staysHere = (link, it) => isHere(attr(link, \"target\"))\n\
+    && !(it.button || it.ctrlKey || it.metaKey || it.shiftKey || it.altKey || matches.call(link, \"[download]\"));\n\
     const linkTo = (link, event) => {\n\
     if (!isLink(link) || event.defaultPrevented) return null;\n\
-    const to = URL.parse(link.href?.baseVal ?? link.href, document.baseURI);\n\
-    const isInside = to?.href.includes(\"#\") && bare(to.href) === bare(document.URL);\n\
-    return /^http/.test(to?.href) && !(isInside && staysHere(link, event)) ? to : null;\n\
+    const to = urlOf(link.href?.baseVal ?? link.href), isInside = to.includes(\"#\") && bare(to) === bare(document.URL);\n\
+    return /^http/.test(to) && !(isInside && staysHere(link, event)) ? to : null;\n\
     };\n\
     const settleClick = (el, chain, event, made) => {\n\
     const it = placeOf(el), kind = it && kindOf(it.copy), to = linkTo(el, event);\n\
     const isOdd = event.altKey || [el, event.target].some((it) => matches.call(it, \"[ping],[ismap]\"));\n\
-    const isSaid = !isOdd && replayed(attr(it?.copy, \"href\")) === to?.href;\n\
+    const isSaid = !isOdd && replayed(attr(it?.copy, \"href\")) === to;\n\
     if (to) request(isSaid, \"click\", chain, {}, to, staysHere(el, event));\n\
     else if (event.type !== \"click\" || kind === \"text\" || event.defaultPrevented && /^[cr]/.test(kind)) return;\n\
     else if (kind === \"checkbox\") toggle(it);\n\
@@ -306,9 +333,10 @@ pub(crate) const RECORDER: &[u8] = b"\
     else if (!made) sayEvent(\"submit\", [form], by);\n\
     };\n\
     const settle = () => {\n\
-    if (!pending) return;\n\
-    const { event, chain, isClick, field, submit, made, went } = pending, el = isClick && acting(chain);\n\
-    pending = null;\n\
+    if (!turn) return;\n\
+    tell();\n\
+    const { event, chain, isClick, field, submit, made, went } = turn, el = isClick && acting(chain);\n\
+    turn = null;\n\
     checkLeft();\n\
     if (field) sayTyped([...field, field[0].value]);\n\
     if (isClick || submit || made) sayTyped();\n\
@@ -323,17 +351,17 @@ pub(crate) const RECORDER: &[u8] = b"\
     cause.n ??= visit.sent;\n\
     handOn(to, cause.n);\n\
     };\n\
-    const fail = () => pending ? (pending.made ??= []).push(null) : answer();\n\
+    const fail = () => turn ? (turn.made ??= []).push(null) : answer();\n\
     const leave = (to) => asked?.to === unasked(to) ? asked.isHere = false : fail();\n\
     const checkLeft = () => {\n\
     if (asked?.isHere) fail();\n\
     asked = null;\n\
     };\n\
     const alone = new Set();\n\
-    const noteRequest = (address, opens, target) => {\n\
-    const to = address === null ? \"\" : URL.parse(address, document.baseURI)?.href ?? \"\", led = opens && to;\n\
+    const noteCall = (address, opens, target) => {\n\
+    const to = address === null ? \"\" : urlOf(address), led = opens && to;\n\
     if (!/^(http|about)/.test(to) || target !== undefined && window.navigation && isHere(target)) return;\n\
-    if (pending) (pending.made ??= []).push(led);\n\
+    if (turn) (turn.made ??= []).push(led);\n\
     else if (now() - cause?.at < 500 && !alone.has(unasked(to))) answer(led);\n\
     else {\n\
     alone.add(unasked(to));\n\
@@ -342,32 +370,30 @@ pub(crate) const RECORDER: &[u8] = b"\
     };\n\
     const startEvent = (event) => {\n\
     const { type } = event, chain = event.composedPath().filter((it) => it instanceof Element), [el] = chain;\n\
-    if (!event.isTrusted) return type === \"click\" && noteRequest(linkTo(acting(chain), event), true);\n\
-    if (type === \"input\" && event.inputType && !pending) return;\n\
+    if (!event.isTrusted) return type === \"click\" && noteCall(linkTo(acting(chain), event), true);\n\
+    if (type === \"input\" && event.inputType && !turn) return;\n\
     if (now() - visit.at > DAY) begin();\n\
     take();\n\
-    tell();\n\
+    if (!visit.isNew) tell();\n\
     const isClick = type === \"click\" || type === \"auxclick\" && event.button === 1;\n\
     if (isClick) settle();\n\
-    if (!pending) setTimeout(safely(settle));\n\
-    pending ??= { event, isClick, chain };\n\
-    if (event.key === \"Enter\") pending.enter = event;\n\
-    if (type === \"input\" && kindOf(el) === \"text\") pending.field = [el, chain];\n\
+    if (!turn) setTimeout(safely(settle));\n\
+    turn ??= { event, isClick, chain };\n\
+    if (event.key === \"Enter\") turn.enter = event;\n\
+    if (type === \"input\" && kindOf(el) === \"text\") turn.field = [el, chain];\n\
     };\n\
     const noteSubmit = (event) => {\n\
-    const { submitter, target: form, isTrusted } = event, { enter, isClick, chain } = pending ?? {};\n\
+    const { submitter, target: form, isTrusted } = event, { enter, isClick, chain } = turn ?? {};\n\
     if (!isTrusted) return;\n\
-    const isPressed = isClick && acting(chain) === submitter && !pending.event.defaultPrevented;\n\
+    const isPressed = isClick && acting(chain) === submitter && !turn.event.defaultPrevented;\n\
     const isEntered = enter?.target.form === form && !enter.defaultPrevented;\n\
-    if (isPressed || isEntered) pending.submit = { form, submitter, event };\n\
-    else noteRequest(submitTo({ form, submitter })?.href, true);\n\
+    if (isPressed || isEntered) turn.submit = { form, submitter, event };\n\
+    else noteCall(submitTo({ form, submitter }), true);\n\
     };\n\
     const watchCalls = (note) => {\n\
     const watch = (owner, name, act) => {\n\
-    owner[name] = new Proxy(owner[name], { apply(call, self, words) {\n\
-    safely(act)(self, ...words);\n\
-    return Reflect.apply(call, self, words);\n\
-    } });\n\
+    const apply = (call, self, words) => (safely(act)(self, ...words), Reflect.apply(call, self, words));\n\
+    owner[name] = new Proxy(owner[name], { apply });\n\
     };\n\
     watch(window, \"fetch\", (_, it) => note(it?.url ?? it));\n\
     watch(window, \"open\", (_, it) => note(it || \"about:blank\", true));\n\
@@ -377,35 +403,35 @@ pub(crate) const RECORDER: &[u8] = b"\
     watch(XMLHttpRequest.prototype, \"open\", (self, _, it) => self[MARK] = it);\n\
     watch(XMLHttpRequest.prototype, \"send\", (self) => note(self[MARK]));\n\
     };\n\
-    const on = (owner, type, act) => owner?.addEventListener(type, safely(act), true);\n\
+    const on = (type, act, owner = window) => owner.addEventListener(type, safely(act), true);\n\
     const start = () => {\n\
     if (window[MARK]) return;\n\
     begin(performance.getEntriesByType(\"navigation\")[0].type === \"navigate\");\n\
     for (const type of \"pointerdown keydown keypress beforeinput input click auxclick change drop\".split(\" \"))\n\
-    on(window, type, startEvent);\n\
-    on(window, \"submit\", noteSubmit);\n\
-    on(window, \"formdata\", ({ isTrusted, target, formData }) => {\n\
-    if (isTrusted && pending?.submit?.form === target) pending.submit.data = formData;\n\
+    on(type, startEvent);\n\
+    on(\"submit\", noteSubmit);\n\
+    on(\"formdata\", (it) => {\n\
+    if (it.isTrusted && turn?.submit?.form === it.target) turn.submit.data = it.formData;\n\
     });\n\
-    on(window.navigation, \"navigate\", ({ destination: { url, sameDocument }, navigationType, userInitiated }) => {\n\
+    on(\"navigate\", ({ destination: { url, sameDocument }, navigationType, userInitiated }) => {\n\
     const { way } = visit, at = now();\n\
     if (url === way?.url && at - way.at < 3000) fail();\n\
     visit.way = !sameDocument && navigationType !== \"traverse\" && /^http/.test(url) && { url, at };\n\
     if (!visit.way) return;\n\
-    if (!userInitiated) noteRequest(url, true);\n\
-    else if (pending) pending.went = url;\n\
+    if (!userInitiated) noteCall(url, true);\n\
+    else if (turn) turn.went = url;\n\
     else leave(url);\n\
-    });\n\
-    for (const it of [\"success\", \"error\"]) on(window.navigation, `navigate${it}`, () => {\n\
+    }, window.navigation);\n\
+    for (const it of [\"success\", \"error\"]) on(`navigate${it}`, () => {\n\
     const { way } = visit;\n\
     setTimeout(safely(() => way && way === visit.way && fail()));\n\
-    });\n\
-    on(document, \"securitypolicyviolation\", (it) => it.effectiveDirective === \"form-action\" && fail());\n\
-    on(window, \"pageshow\", ({ persisted }) => {\n\
+    }, window.navigation);\n\
+    on(\"securitypolicyviolation\", (it) => it.effectiveDirective === \"form-action\" && fail());\n\
+    on(\"pageshow\", ({ persisted }) => {\n\
     if (persisted) begin();\n\
     take();\n\
     });\n\
-    on(window, \"pagehide\", () => {\n\
+    on(\"pagehide\", () => {\n\
     take();\n\
     tell();\n\
     settle();\n\
@@ -416,19 +442,19 @@ pub(crate) const RECORDER: &[u8] = b"\
     delete local[OPEN + visit.v];\n\
     if (isKnown) navigator.sendBeacon(UPLOAD, bodyOf(nextLines(LINE + visit.v, 6e4)));\n\
     });\n\
-    on(document, \"visibilitychange\", () => {\n\
+    on(\"visibilitychange\", () => {\n\
     settle();\n\
     sayTyped();\n\
-    if (visit.els) tell();\n\
+    if (visit.changes) tell();\n\
     flush();\n\
     });\n\
-    on(window, \"online\", flush);\n\
+    on(\"online\", flush);\n\
     if (document.readyState === \"complete\") take();\n\
-    if (script) watchCalls(noteRequest);\n\
-    else on(window, \"yugdemor\", ({ detail }) => noteRequest(...JSON.parse(detail)));\n\
+    if (script) watchCalls(noteCall);\n\
+    else on(\"yugdemor\", ({ detail }) => noteCall(...JSON.parse(detail)));\n\
     };\n\
     if (/^http/.test(location) && safely(() => top.location.href)()) {\n\
-    if (document.prerendering) on(document, \"prerenderingchange\", start);\n\
+    if (document.prerendering) on(\"prerenderingchange\", start);\n\
     else safely(start)();\n\
     }\n\
     })();\n\
