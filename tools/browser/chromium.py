@@ -236,9 +236,9 @@ class Tab:
     def loaded(self):
         self.holds("document.readyState === 'complete' && location.href !== 'about:blank'")
 
-    def moved(self, before, what="another page"):
+    def moved(self, before):
         """Waits until another page is there than that which began then."""
-        until(what, lambda: self.born() not in (before, None))
+        until("another page", lambda: self.born() not in (before, None))
         self.loaded()
 
     def leads(self, act):
