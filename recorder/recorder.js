@@ -99,7 +99,7 @@ const keep = (line, tail = "}") => {
 };
 const nextLines = (kind, left) => stored(kind).filter(([, text], at) => (left -= text.length) > 0 || !at);
 const bodyOf = (lines) => lines.map(([, text]) => text + "\n").join("");
-const acknowledge = (lines, { have = {}, refused = {} }) => {
+const forget = (lines, { have = {}, refused = {} }) => {
 	const first = {};
 	let went;
 	for (const [key, text] of lines) {
@@ -132,7 +132,7 @@ const flush = async () => {
 	try {
 		isKnown ||= await (navigator.locks?.request(KNOWN, ask) ?? ask());
 		store(local, KNOWN, 1);
-		went = acknowledge(lines, await ask({ method: "POST", body: bodyOf(lines) }));
+		went = forget(lines, await ask({ method: "POST", body: bodyOf(lines) }));
 	} catch {}
 	isBusy = false;
 	pause = went ? 100 : Math.min(3e4, pause * 2 + 100);
@@ -298,15 +298,16 @@ const stated = ({ form, submitter }, name) => attr(submitter, `form${name}`) ?? 
 const urlOf = (address, base = document.baseURI) => URL.parse(address, base)?.href ?? "";
 const submitTo = (submit) => urlOf(stated(submit, "action") || document.URL);
 const replayed = (address) => urlOf(address, location.origin + visit.path);
-const isSubmitSaid = (submit, to) => {
+const isFormSaid = (submit, to) => {
 	const { form, submitter, data } = submit, copy = placeOf(form)?.copy, post = /^post$/i;
 	const isPost = post.test(stated(submit, "method")), part = isPost ? bare : unasked;
-	const sent = [...data].map((pair) => pair.map((it) => it.replace ? asSent(it) : null));
+	const sent = json([...data].map((pair) => pair.map((it) => it.replace ? asSent(it) : null)));
 	return isPost === post.test(attr(copy, "method"))
 		&& !(isPost && /^(multi|text)/i.test(stated(submit, "enctype")))
-		&& /^\s*utf-?8\s*$/i.test(attr(form, "accept-charset") ?? document.characterSet)
+		&& (/^\s*utf-?8\s*$/i.test(attr(form, "accept-charset") ?? document.characterSet)
+			|| /^[\0-~]*$/.test(stated(submit, "action") + sent))
 		&& /^http/.test(to) && part(to) === part(replayed(attr(copy, "action") || visit.path))
-		&& json(sent) === json(pairsOf(form, submitter));
+		&& sent === json(pairsOf(form, submitter));
 };
 // asked for last
 let asked;
@@ -340,12 +341,12 @@ const settleClick = (el, chain, event, made) => {
 	else if (kind === "checkbox") toggle(it);
 	else if (!made) sayEvent("click", chain);
 };
-const settleSubmit = (submit, made) => {
+const settleForm = (submit, made) => {
 	const { form, submitter, data, event } = submit, by = submitter && { by: targetOf([submitter]) };
 	const to = submitTo(submit);
 	reconcile(form);
 	if (data && !event.defaultPrevented)
-		request(isSubmitSaid(submit, to), "submit", [form], by, to, isHere(stated(submit, "target") || undefined));
+		request(isFormSaid(submit, to), "submit", [form], by, to, isHere(stated(submit, "target") || undefined));
 	else if (!made) sayEvent("submit", [form], by);
 };
 const settle = () => {
@@ -356,7 +357,7 @@ const settle = () => {
 	checkLeft();
 	if (field) sayTyped([...field, field[0].value]);
 	if (isClick || submit || made) sayTyped();
-	if (submit) settleSubmit(submit, made);
+	if (submit) settleForm(submit, made);
 	else if (el) settleClick(el, chain.slice(chain.indexOf(el)), event, made);
 	cause = { at: now(), chain };
 	if (went) leave(went);
@@ -367,7 +368,6 @@ const answer = (to) => {
 	cause.n ??= visit.sent;
 	handOn(to, cause.n);
 };
-// elsewhere: a conflict
 const fail = () => turn ? (turn.made ??= []).push(null) : answer();
 const leave = (to) => asked?.to === unasked(to) ? asked.isHere = false : fail();
 const checkLeft = () => {

@@ -91,7 +91,7 @@ pub(crate) const RECORDER: &[u8] = b"\
     };\n\
     const nextLines = (kind, left) => stored(kind).filter(([, text], at) => (left -= text.length) > 0 || !at);\n\
     const bodyOf = (lines) => lines.map(([, text]) => text + \"\\n\").join(\"\");\n\
-    const acknowledge = (lines, { have = {}, refused = {} }) => {\n\
+    const forget = (lines, { have = {}, refused = {} }) => {\n\
     const first = {};\n\
     let went;\n\
     for (const [key, text] of lines) {\n\
@@ -124,7 +124,7 @@ pub(crate) const RECORDER: &[u8] = b"\
     try {\n\
     isKnown ||= await (navigator.locks?.request(KNOWN, ask) ?? ask());\n\
     store(local, KNOWN, 1);\n\
-    went = acknowledge(lines, await ask({ method: \"POST\", body: bodyOf(lines) }));\n\
+    went = forget(lines, await ask({ method: \"POST\", body: bodyOf(lines) }));\n\
     } catch {}\n\
     isBusy = false;\n\
     pause = went ? 100 : Math.min(3e4, pause * 2 + 100);\n\
@@ -285,15 +285,16 @@ pub(crate) const RECORDER: &[u8] = b"\
     const urlOf = (address, base = document.baseURI) => URL.parse(address, base)?.href ?? \"\";\n\
     const submitTo = (submit) => urlOf(stated(submit, \"action\") || document.URL);\n\
     const replayed = (address) => urlOf(address, location.origin + visit.path);\n\
-    const isSubmitSaid = (submit, to) => {\n\
+    const isFormSaid = (submit, to) => {\n\
     const { form, submitter, data } = submit, copy = placeOf(form)?.copy, post = /^post$/i;\n\
     const isPost = post.test(stated(submit, \"method\")), part = isPost ? bare : unasked;\n\
-    const sent = [...data].map((pair) => pair.map((it) => it.replace ? asSent(it) : null));\n\
+    const sent = json([...data].map((pair) => pair.map((it) => it.replace ? asSent(it) : null)));\n\
     return isPost === post.test(attr(copy, \"method\"))\n\
     && !(isPost && /^(multi|text)/i.test(stated(submit, \"enctype\")))\n\
-    && /^\\s*utf-?8\\s*$/i.test(attr(form, \"accept-charset\") ?? document.characterSet)\n\
+    && (/^\\s*utf-?8\\s*$/i.test(attr(form, \"accept-charset\") ?? document.characterSet)\n\
+    || /^[\\0-~]*$/.test(stated(submit, \"action\") + sent))\n\
     && /^http/.test(to) && part(to) === part(replayed(attr(copy, \"action\") || visit.path))\n\
-    && json(sent) === json(pairsOf(form, submitter));\n\
+    && sent === json(pairsOf(form, submitter));\n\
     };\n\
     let asked;\n\
     const request = (isSaid, t, chain, rest, to, here) => {\n\
@@ -324,12 +325,12 @@ pub(crate) const RECORDER: &[u8] = b"\
     else if (kind === \"checkbox\") toggle(it);\n\
     else if (!made) sayEvent(\"click\", chain);\n\
     };\n\
-    const settleSubmit = (submit, made) => {\n\
+    const settleForm = (submit, made) => {\n\
     const { form, submitter, data, event } = submit, by = submitter && { by: targetOf([submitter]) };\n\
     const to = submitTo(submit);\n\
     reconcile(form);\n\
     if (data && !event.defaultPrevented)\n\
-    request(isSubmitSaid(submit, to), \"submit\", [form], by, to, isHere(stated(submit, \"target\") || undefined));\n\
+    request(isFormSaid(submit, to), \"submit\", [form], by, to, isHere(stated(submit, \"target\") || undefined));\n\
     else if (!made) sayEvent(\"submit\", [form], by);\n\
     };\n\
     const settle = () => {\n\
@@ -340,7 +341,7 @@ pub(crate) const RECORDER: &[u8] = b"\
     checkLeft();\n\
     if (field) sayTyped([...field, field[0].value]);\n\
     if (isClick || submit || made) sayTyped();\n\
-    if (submit) settleSubmit(submit, made);\n\
+    if (submit) settleForm(submit, made);\n\
     else if (el) settleClick(el, chain.slice(chain.indexOf(el)), event, made);\n\
     cause = { at: now(), chain };\n\
     if (went) leave(went);\n\
