@@ -6,3 +6,4 @@ pub mod Visible
 pub mod Responses
 pub mod AnswerLaws
 pub mod HeardLaws
+pub mod BeginLaws

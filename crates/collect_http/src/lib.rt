@@ -2,6 +2,7 @@
 #![tactic(auto)]
 
 mod asking;
+mod beginning;
 mod collector;
 mod cookie;
 mod fields;

@@ -3,7 +3,7 @@ ghost use Rattle.std.specs.Prelude.{◌≡◌, ◌∷◌, ◌++◌, ℕ, List, [
 ghost use Rattle.std.specs.Option.{option_copied};
 ghost use Rattle.http1.specs.Fields.{Header};
 ghost use Rattle.http_server.specs.Response.{IsResponse};
-ghost use Rattle.collect_http.specs.Answering.{IsUntold, fields_said, methods_at, preflight_fields, read_fields, script_fields, status_said, text_fields};
+ghost use Rattle.collect_http.specs.Answering.{fields_said, methods_at, preflight_fields, read_fields, script_fields, status_said, status_untold, text_fields};
 
 use crate::verdict::{Plain, Resource, is_of};
 use bytes::{BufMut, Bytes};
@@ -31,7 +31,7 @@ pub(crate) fn say(response: &mut Response, status: StatusCode, text: &[u8]) -> R
 
 /// Nothing is told.
 pub(crate) fn refuse(response: &mut Response, untold: Untold) -> Result<(), NoMemory>
-    ensures { OnOk result (IsUntold response.new) }
+    ensures { OnOk result (response.new.status ≡ status_untold untold) }
 {
     match untold {
         Untold::Busy => {

@@ -1,5 +1,6 @@
 //! What is told of a client's visits, as JSON. No name of a visit and no code of a fault needs to be escaped.
 ghost use Rattle.std.specs.Prelude.{◌≡◌, ◌++◌, ℕ, List, [], codes, decimal, drop, flat_map, Some, IfOk, OnOk};
+ghost use Rattle.upload_store.specs.Standing.{KeepsState};
 ghost use Rattle.upload_store.specs.Store.{StoreState, unrefused};
 ghost use Rattle.upload_folder.specs.Standing.{IsOpenAt};
 ghost use Rattle.http1.specs.Fields.{Header};
@@ -16,7 +17,7 @@ use std::alloc::Global;
 use upload_files::GrowingFile;
 use upload_folder::{Clients, Folder};
 use upload_reader::{Client, LaneFault};
-use upload_store::VisitSet;
+use upload_store::{Store, VisitSet};
 
 /// What is told of a client whose file is open.
 pub(crate) fn say_told<F: GrowingFile + Drop, D: Folder<F>>(
@@ -47,6 +48,21 @@ pub(crate) fn say_nothing(
     say(response, StatusCode::OK, &text)
 }
 
+/// What is told of a client that has no file, by the store that has taken its body.
+pub(crate) fn say_unstored(
+    alloc: Global,
+    store: &Store,
+    visits: &VisitSet,
+    response: &mut Response,
+) -> Result<(), NoMemory>
+    ensures { OnOk result ((code : ℕ) (sent : List Header) (state : StoreState) → IsResponse code sent [] response.old
+        → KeepsState store.now state → state.kept ≡ []
+        → IsResponse 200 (sent ++ text_fields) (told_text state visits.now.keys) response.new) }
+{
+    let text = unstored_text(alloc, store, visits.as_slice())?;
+    say(response, StatusCode::OK, &text)
+}
+
 // How many lines of each visit are stored, and which visits are refused, with why.
 fn told_text<F: GrowingFile + Drop, D: Folder<F>>(
     alloc: Global,
@@ -67,11 +83,39 @@ fn told_text<F: GrowingFile + Drop, D: Folder<F>>(
 fn nothing_text(alloc: Global, visits: &[Client]) -> Result<Vec<u8>, NoMemory>
     ensures { IfOk result (λ text. (client : List ℕ) → text.items ≡ told_text (unrefused client []) visits.now) }
 {
+    let counts = no_counts(alloc, visits)?;
+    join(alloc, &counts, b"")
+}
+
+// Nothing is stored of these visits, of which some may be refused.
+fn unstored_text(alloc: Global, store: &Store, visits: &[Client]) -> Result<Vec<u8>, NoMemory>
+    ensures { IfOk result (λ text. (state : StoreState) → KeepsState store.now state → state.kept ≡ []
+        → text.items ≡ told_text state visits.now) }
+{
+    let counts = no_counts(alloc, visits)?;
+    let refusals = store_refusals(alloc, store, visits)?;
+    join(alloc, &counts, &refusals)
+}
+
+fn no_counts(alloc: Global, visits: &[Client]) -> Result<Vec<u8>, NoMemory>
+    ensures { IfOk result (λ text. text.items ≡ flat_map (member_of (λ _. Some (decimal 0))) visits.now) }
+{
     let mut counts = Vec::new(alloc);
     for visit in visits {
         put_count(alloc, &mut counts, visit, 0)?;
     }
-    join(alloc, &counts, b"")
+    Ok(counts)
+}
+
+fn store_refusals(alloc: Global, store: &Store, visits: &[Client]) -> Result<Vec<u8>, NoMemory>
+    ensures { IfOk result (λ text. (state : StoreState) → KeepsState store.now state
+        → text.items ≡ flat_map (member_of (refusal_text state)) visits.now) }
+{
+    let mut text = Vec::new(alloc);
+    for visit in visits {
+        put_refusal(alloc, &mut text, visit, store.refusal(visit))?;
+    }
+    Ok(text)
 }
 
 // Members with commas before them, joined to the object.

@@ -348,12 +348,30 @@ fn no_room_is_told(rt: HostRuntime) -> Result<(), Fail> {
 }
 
 #[test]
+fn no_file_is_made_before_a_line_is_to_be_stored(rt: HostRuntime) -> Result<(), Fail> {
+    let mut all = begin(&rt, NEVER, 1, 1 << 20)?;
+    assert!(rt; tells(&rt, &mut all, &[], "{\"have\":{},\"refused\":{}}\n")?);
+    assert!(rt; tells(&rt, &mut all, &[A2], "{\"have\":{\"a\":0},\"refused\":{}}\n")?);
+    let refused = "{\"have\":{\"b\":0},\"refused\":{\"b\":\"E5\"}}\n";
+    assert!(rt; tells(&rt, &mut all, &[BAD_B1], refused)?);
+    assert!(rt; has_posted(&rt, &mut all, 5, 200)? && all.settle(false));
+    let answer = ask(&rt, &mut all, POST, A1)?;
+    assert!(rt; has_status(rt.alloc(), answer.as_str(), 507)?);
+    Ok(())
+}
+
+#[test]
 fn a_full_file_is_told(rt: HostRuntime) -> Result<(), Fail> {
     let mut long = begin(&rt, NEVER, 9, 80)?;
     let taken = ask(&rt, &mut long, POST, A1)?;
     assert!(rt; has_status(rt.alloc(), taken.as_str(), 200)?);
     let refused = ask(&rt, &mut long, POST, A2)?;
     assert!(rt; has_status(rt.alloc(), refused.as_str(), 413)?);
+    let told = ask(&rt, &mut long, GET, "")?;
+    assert!(rt;
+        told.as_str()
+            .ends_with("{\"have\":{\"a\":1,\"b\":0},\"refused\":{}}\n")
+    );
     Ok(())
 }
 

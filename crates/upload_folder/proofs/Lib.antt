@@ -6,3 +6,4 @@ pub mod TakeLaws
 pub mod FetchLaws
 pub mod SettleLaws
 pub mod RefusedLaws
+pub mod ToldLaws

@@ -6,7 +6,8 @@ use upload_reader::Client;
 
 /// A folder of clients' files that nobody else writes to. What these contracts say is all that is believed of it.
 pub trait Folder<F: GrowingFile> {
-    // What a client's file that isn't open gives to read; none where there is no file.
+    // What a client's file that isn't open gives to read; none where there is no file. Of one that is open, what it gave
+    // before.
     ghost lies: { Self → List ℕ → Option (List ℕ) };
     // What lies there is known.
     ghost known: { Self → Bool };
@@ -16,10 +17,7 @@ pub trait Folder<F: GrowingFile> {
         ensures found { known self.old ≡ true
             → IfOk result (λ file. option_map F.seen file ≡ lies self.old client.now) }
         ensures sound { known self.old ≡ true → IfOk result (λ file. IfSome file (λ file. F.lost file ≡ false)) }
-        ensures unfound { OnErr result (lies self.new client.now ≡ lies self.old client.now) }
-        ensures none { result ≡ Ok None → lies self.new client.now ≡ lies self.old client.now }
-        ensures others { (name : List ℕ) → bytes_eq client.now name ≡ false
-            → lies self.new name ≡ lies self.old name }
+        ensures lies { (name : List ℕ) → lies self.new name ≡ lies self.old name }
         ensures known { known self.new ≡ known self.old };
 
     /// Makes the file of a client that has none; `Full` where there is no room for one more. Its name stays, whatever
@@ -27,7 +25,7 @@ pub trait Folder<F: GrowingFile> {
     fn create(&mut self, client: &Client) -> Result<F, FileFault>
         ensures created { known self.old ≡ true → IfOk result (λ file. F.seen file ≡ []) }
         ensures sound { known self.old ≡ true → IfOk result (λ file. F.lost file ≡ false) }
-        ensures uncreated { OnErr result (IfSome (lies self.new client.now) (λ bytes. bytes ≡ [])) }
+        ensures lies { IfSome (lies self.new client.now) (λ bytes. bytes ≡ []) }
         ensures others { (name : List ℕ) → bytes_eq client.now name ≡ false
             → lies self.new name ≡ lies self.old name }
         ensures known { known self.new ≡ known self.old };

@@ -7,6 +7,7 @@
 mod clients;
 mod folder;
 mod held;
+mod laws;
 mod letting_go;
 mod round;
 mod slot;
@@ -16,4 +17,5 @@ mod untold;
 
 pub use clients::Clients;
 pub use folder::Folder;
+pub use laws::told_stay;
 pub use untold::Untold;

@@ -1,4 +1,7 @@
 //! Why nothing is told of a client.
+ghost use Rattle.std.specs.Prelude.{◌≡◌, false};
+ghost use Rattle.upload_folder.specs.Held.{takes_none};
+
 use upload_files::FileFault;
 
 /// Why a call on a client's file answers nothing.
@@ -21,7 +24,9 @@ pub enum Untold {
 }
 
 impl Untold {
-    pub(crate) fn of(fault: FileFault) -> Untold {
+    pub(crate) fn of(fault: FileFault) -> Untold
+        ensures { takes_none result ≡ false }
+    {
         match fault {
             FileFault::Full => Untold::Full,
             FileFault::Crowded => Untold::Crowded,
