@@ -1,6 +1,6 @@
 //! A body of a client that has no file.
 ghost use Rattle.std.specs.Prelude.{◌≡◌, ◌≢◌, [], MatchOption, IfOk};
-ghost use Rattle.collect_http.specs.Beginning.{IsBegun};
+ghost use Rattle.collect_http.specs.Beginning.{IsTakenWithoutFile};
 
 use page_tree::NoMemory;
 use std::alloc::Global;
@@ -15,7 +15,7 @@ pub(crate) fn begin(
     keys: RandomState,
     body: &[u8],
 ) -> Result<Option<(Store, VisitSet)>, NoMemory>
-    ensures { IfOk result (λ begun. IsBegun client.now body.now begun) }
+    ensures { IfOk result (λ begun. IsTakenWithoutFile client.now body.now begun) }
 {
     let mut store = Store::new(alloc, client.copy()?, keys);
     let visits = store.asked(alloc, body)?;

@@ -351,7 +351,14 @@ fn no_room_is_told(rt: HostRuntime) -> Result<(), Fail> {
 fn no_file_is_made_before_a_line_is_to_be_stored(rt: HostRuntime) -> Result<(), Fail> {
     let mut all = begin(&rt, NEVER, 1, 1 << 20)?;
     assert!(rt; tells(&rt, &mut all, &[], "{\"have\":{},\"refused\":{}}\n")?);
-    assert!(rt; tells(&rt, &mut all, &[A2], "{\"have\":{\"a\":0},\"refused\":{}}\n")?);
+    assert!(rt;
+        tells(
+            &rt,
+            &mut all,
+            &[A2],
+            "{\"have\":{\"a\":0},\"refused\":{}}\n"
+        )?
+    );
     let refused = "{\"have\":{\"b\":0},\"refused\":{\"b\":\"E5\"}}\n";
     assert!(rt; tells(&rt, &mut all, &[BAD_B1], refused)?);
     assert!(rt; has_posted(&rt, &mut all, 5, 200)? && all.settle(false));
