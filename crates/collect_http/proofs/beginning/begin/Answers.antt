@@ -1,4 +1,4 @@
-use Rattle.std.proofs.Common.{[], sym, subst}
+use Rattle.std.proofs.Common.{sym, subst}
 use Rattle.upload_store.specs.Standing.{KeepsState, WritesOn}
 use Rattle.upload_store.specs.Store.{empty_store, take_body}
 use Rattle.collect_http.proofs.BeginLaws.{begun_of}

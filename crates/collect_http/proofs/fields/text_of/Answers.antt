@@ -1,7 +1,6 @@
-use Rattle.std.proofs.Common.{refl, sym, subst}
+use Rattle.std.proofs.Common.{refl, sym}
 use Rattle.std.proofs.lemmas.Bool.{false≢true}
 use Rattle.http_header.specs.HeaderMap.{get}
-use Rattle.http.specs.Request.{head_of}
 use Rattle.collect_http.proofs.Visible.{text_some, text_none}
 use Rattle.collect_http.proofs.fields.text_of.Goals as goal
 

@@ -1,4 +1,4 @@
-use Rattle.std.proofs.Common.{◌≡◌, ◌∷◌, ◌++◌, ℕ, List, [], ◌+◌, ◌-◌, length, take, drop, Bor, Option, None, MatchOption, sym, ◌∙◌}
+use Rattle.std.proofs.Common.{◌≡◌, ◌∷◌, ◌++◌, ℕ, List, [], take, Bor, Option, None, MatchOption, sym, ◌∙◌}
 use Rattle.byte_streams.specs.CompleteLines.{complete_lines}
 use Rattle.upload_store.proofs.FirstLine.{cut_line, no_cut}
 use Rattle.collect_http.proofs.heard.behind_line.Goals as goal

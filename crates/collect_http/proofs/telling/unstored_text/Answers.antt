@@ -1,4 +1,4 @@
-use Rattle.std.proofs.Common.{ap, ◌∙◌}
+use Rattle.std.proofs.Common.{◌∙◌}
 use Rattle.upload_store.specs.Standing.{KeepsState}
 use Rattle.collect_http.proofs.Members.{unstored_told}
 use Rattle.collect_http.proofs.telling.unstored_text.Goals as goal
