@@ -1,5 +1,5 @@
 -- Where a visit's own requests have ascending numbers, each is the first of its number.
-use Rattle.std.proofs.Common.{◌≡◌, ◌≢◌, ℕ, zero, suc, ◌+◌, ◌-◌, ◌<◌, ◌≤◌, List, [], ◌∷◌, ◌++◌, length, map, take, All, Bool, true, false, if◌then◌else◌, ◌==◌, Option, Some, None, option_and_then, option_map, inl, inr, slice_get, get_or, IfSome, codes, refl, sym, ap, ap₂, ◌∙◌, subst, arith}
+use Rattle.std.proofs.Common.{◌≡◌, ℕ, zero, suc, ◌+◌, ◌-◌, ◌<◌, ◌≤◌, List, [], ◌∷◌, length, map, take, All, Bool, true, false, if◌then◌else◌, ◌==◌, Option, Some, None, option_and_then, option_map, inl, inr, slice_get, get_or, IfSome, codes, refl, sym, ap, ap₂, ◌∙◌, subst, arith}
 use Rattle.std.specs.List.{find, filter_map, range_with_len, cons_option}
 use Rattle.std.specs.Option.{option_or}
 use Rattle.std.proofs.lemmas.Bool.{ne_eqb}

@@ -1,7 +1,6 @@
 -- A query in which each sender has its pair, those of fresh names with any value.
 use Rattle.std.proofs.Common.{◌≡◌, ◌≢◌, ℕ, ◌+◌, ◌<◌, List, [], ◌∷◌, ◌++◌, map, drop, length, get_or, All, Bool, true, false, if◌then◌else◌, Option, Some, None, Bor, refl, sym, ap, ap₂, ◌∙◌, append-nil, codes, arith}
 use Rattle.std.specs.List.{cons_option}
-use Rattle.std.specs.Str.{bytes_eq}
 use Rattle.std.proofs.lemmas.List.Elements.{All-nil}
 use Rattle.form_urlencoded.specs.Form.{extend_pairs, serialize_pair}
 use Rattle.page_looks.specs.Sending.{is_passed_over, kept_pairs, query_text, without_fresh}

@@ -1,11 +1,11 @@
-use Rattle.std.proofs.Common.{◌≡◌, ◌<◌, ◌+◌, length, true, false, Some, None, option_map, rules, sym, ap, subst, ◌∙◌, arith}
+use Rattle.std.proofs.Common.{◌≡◌, ◌<◌, length, true, Some, None, option_map, rules, sym, ap, subst, ◌∙◌, arith}
 use Rattle.page_looks.specs.Sending.{is_passed_over}
 use Rattle.form_urlencoded.specs.Form.{serialize_pair}
 use Rattle.visit_replay.specs.inside.FieldsNow.{pair_of, pair_now}
 use Rattle.visit_replay.specs.inside.Queries.{kept_in}
 use Rattle.visit_replay.specs.inside.Senders.{IsSender, SaysFresh}
 use Rattle.visit_replay.proofs.QueriesBeside.{behind}
-use Rattle.visit_replay.proofs.SentBesideFresh.{IsLeft, none_first, fresh_first, counted_first}
+use Rattle.visit_replay.proofs.SentBesideFresh.{none_first, fresh_first, counted_first}
 use Rattle.visit_replay.proofs.sent_query.is_sent_but_for_fresh.Goals as goal
 use Rattle.visit_replay.proofs.sent_query.is_sent_but_for_fresh.Goals.{then-sender+in_ok-is_passed_over+else-not-branch, else-sender+else-not-is_written_so}
 
