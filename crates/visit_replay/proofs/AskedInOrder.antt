@@ -1,5 +1,5 @@
 -- Where a visit's own requests have ascending numbers, each is the first of its number.
-use Rattle.std.proofs.Common.{◌≡◌, ℕ, zero, suc, ◌+◌, ◌-◌, ◌<◌, ◌≤◌, List, [], ◌∷◌, length, map, take, All, Bool, true, false, if◌then◌else◌, ◌==◌, Option, Some, None, option_and_then, option_map, inl, inr, slice_get, get_or, IfSome, codes, refl, sym, ap, ap₂, ◌∙◌, subst, arith}
+use Rattle.std.proofs.Common.{◌≡◌, ℕ, zero, suc, ◌+◌, ◌-◌, ◌<◌, ◌≤◌, List, [], ◌∷◌, length, map, take, All, Bool, true, false, if◌then◌else◌, ◌==◌, Option, Some, None, option_and_then, option_map, inl, inr, slice_get, unwrap_or, IfSome, codes, refl, sym, ap, ◌∙◌, subst, arith}
 use Rattle.std.specs.List.{find, filter_map, range_with_len, cons_option}
 use Rattle.std.specs.Option.{option_or}
 use Rattle.std.proofs.lemmas.Bool.{ne_eqb}
@@ -19,8 +19,9 @@ use Rattle.visit_replay.specs.declared.requests.Method.TheVariants.{Get}
 use Rattle.visit_replay.specs.declared.requests.Request.{Request}
 use Rattle.visit_replay.proofs.Asking.{asked_more, numbered_next}
 use Rattle.visit_replay.proofs.FirstOfNumber.{next_if}
-use Rattle.visit_replay.proofs.FreshValues.{sent_number}
-use Rattle.visit_replay.proofs.Places.{taken_here}
+use Rattle.visit_replay.specs.inside.Differing.{IsFormer}
+use Rattle.visit_replay.specs.inside.FieldsNow.{IsAlike, IsButFor}
+use Rattle.visit_replay.proofs.FreshValues.{alike_for, sent_number, whole_counts, whole_is, whole_number}
 
 abbrev asked_so_far : Visit → ℕ → List Request
 asked_so_far visit k = filter_map (was_asked visit) (range_with_len 0 k)
@@ -85,11 +86,11 @@ first_here visit k last was there asked above are =
     ∙ ap (λ b. next_if b was) (is_itself was.number) in
     subst (λ n. find p (asked_so_far visit n) ≡ Some was) whole (stays_found visit (k + 1) (length visit.events - (k + 1)) was.number was here)
 
-pub nothing_other : (fresh : List (List ℕ)) (visit : Visit) (k last : ℕ) (was is : Request) → k < length visit.events → was_asked visit k ≡ Some was
-    → was.number ≡ is.number → are_alike fresh was is ≡ true → last < is.number → AreAtMost visit k last → was_other fresh visit is ≡ None
-nothing_other fresh visit k last was is there asked same alike above are =
+pub former_here : (fresh : List (List ℕ)) (visit : Visit) (k last : ℕ) (was is : Request) → k < length visit.events → was_asked visit k ≡ Some was
+    → was.number ≡ is.number → last < is.number → AreAtMost visit k last → was_other fresh visit is ≡ (if are_alike fresh was is then None else Some was)
+former_here fresh visit k last was is there asked same above are =
     let first : was_numbered visit is.number ≡ Some was = rw (← same) (first_here visit k last was there asked (omega (arith, same, above)) are) in
-    ap (option_and_then (λ w. if are_alike fresh w is then None else Some w)) first ∙ ap (λ (b : Bool). if b then None else Some was) alike
+    ap (option_and_then (λ w. if are_alike fresh w is then None else Some w)) first
 
 -- ---- no event's has number 0
 
@@ -146,28 +147,35 @@ all_numbered visit (suc k) =
     (subst (All p) (sym (asked_more visit k))
     (All-append p (asked_so_far visit k) (cons_option (was_asked visit k) []) (all_numbered visit k) (one_numbered (was_asked visit k) (asked_numbered visit k))))
 
-pub load_is_none : (fresh : List (List ℕ)) (visit : Visit) (load : Request) → load.number ≡ 0 → was_other fresh visit load ≡ None
+load_is_none : (fresh : List (List ℕ)) (visit : Visit) (load : Request) → load.number ≡ 0 → was_other fresh visit load ≡ None
 load_is_none fresh visit load nought =
     let none : was_numbered visit load.number ≡ None = rw nought (none_found (λ r. r.number == 0) (asked_so_far visit (length visit.events)) (all_numbered visit (length visit.events))) in
     ap (option_and_then (λ was. if are_alike fresh was load then None else Some was)) none
 
-pub first_is_none : (fresh : List (List ℕ)) (visit : Visit) (requests : List Request) → IfSome (slice_get requests 0) (λ load. load.number ≡ 0)
-    → All (λ is. was_other fresh visit is ≡ None) (take 1 requests)
-first_is_none fresh visit [] nought = All-nil (λ is. was_other fresh visit is ≡ None)
-first_is_none fresh visit (load ∷ rest) nought =
-    All-cons (λ is. was_other fresh visit is ≡ None) load [] (load_is_none fresh visit load nought) (All-nil (λ is. was_other fresh visit is ≡ None))
+pub load_is_told : (fresh : List (List ℕ)) (visit : Visit) (requests : List Request) → 0 < length requests → IfSome (slice_get requests 0) (λ load. load.number ≡ 0)
+    → None ∷ [] ≡ map (was_other fresh visit) (take 1 requests)
+load_is_told fresh visit [] some nought = absurd (omega (arith, some))
+load_is_told fresh visit (load ∷ rest) some nought = ap (λ o. o ∷ []) (sym (load_is_none fresh visit load nought))
 
--- ---- one more
+-- ---- what is told where an event asked for it without the values of fresh names
 
-pub more_are_none : (fresh : List (List ℕ)) (visit : Visit) (requests : List Request) (count : ℕ) (is : Request) → count < length requests → is ≡ get_or requests count is
-    → All (λ is. was_other fresh visit is ≡ None) (take count requests) → was_other fresh visit is ≡ None
-    → All (λ is. was_other fresh visit is ≡ None) (take (count + 1) requests)
-more_are_none fresh visit requests count is below at so_far here =
-    let p : Request → Type 0 = λ r. was_other fresh visit r ≡ None in
-    subst (All p) (sym (taken_here requests count is below at)) (All-append p (take count requests) (is ∷ []) so_far (All-cons p is [] here (All-nil p)))
+pub alike_told : (fresh : List (List ℕ)) (asked : Option Request) (is : Request) → IsAlike fresh asked is → IsFormer fresh asked is None
+alike_told fresh asked is alike = (alike.0, alike.1, alike.2, sym (ap (λ (b : Bool). if b then None else Some alike.0) alike.3))
 
--- ---- nothing is told
+module _ (fresh : List (List ℕ)) (asked : Option Request) (is was : Request) (same : was.number ≡ is.number) (counts : IsButFor fresh (Some was) asked) where
+  abbrev whole : Request
+  whole = unwrap_or asked was
 
-pub all_none : {A B : Type 0} (g : A → Option B) (xs : List A) → All (λ x. g x ≡ None) xs → map (λ _. None) xs ≡ map g xs
-all_none g [] none = refl
-all_none g (x ∷ xs) none = ap₂ (λ a b. a ∷ b) (sym (All-head (λ x. g x ≡ None) x xs none)) (all_none g xs (All-tail (λ x. g x ≡ None) x xs none))
+  told_whole : (b : Bool) → b ≡ are_alike fresh was is → (other : Option Request) → other ≡ (if b then None else Some whole) → IsFormer fresh asked is other
+  told_whole b alike other told = (
+    whole,
+    whole_is fresh was asked counts,
+    sym (whole_number fresh was asked counts) ∙ same,
+    told ∙ ap (λ (b : Bool). if b then None else Some whole) (alike ∙ alike_for fresh was whole is (whole_counts fresh was asked counts)),
+  )
+
+  pub alike_but_for : true ≡ are_alike fresh was is → IsFormer fresh asked is None
+  alike_but_for alike = told_whole true alike None refl
+
+  pub other_but_for : false ≡ are_alike fresh was is → IsFormer fresh asked is asked
+  other_but_for alike = told_whole false alike asked (whole_is fresh was asked counts)

@@ -279,17 +279,3 @@ module _ (fresh : List (List ℕ)) (requests : List Request) (visit : Visit) (k 
       (ap (λ n. is_some (kept n)) (sym same) ∙ none)
       (λ here. y_is ∙ sym told_whole ∙ ap (λ n. kept_beside fresh (only_numbered requests n) whole) (same ∙ here))
       (updated ∙ ap (λ n. if n == number then Some y else kept number) same)
-
-  -- nothing is kept of one that is alike
-  pub nothing_comes : kept_beside fresh (only_numbered requests was.number) was ≡ None → (new : Option (Option Request))
-      → new ≡ (if not (is_some (kept was.number)) && was.number == number then Some None else kept number)
-      → new ≡ option_map (kept_beside fresh (only_numbered requests number)) (find (λ r. r.number == number) (filter_map (was_asked visit) (range_with_len 0 (k + 1))))
-  nothing_comes told new updated = go (is_some (kept was.number)) refl
-    where
-      go : (b : Bool) → is_some (kept was.number) ≡ b → new ≡ option_map (kept_beside fresh (only_numbered requests number)) (find (λ r. r.number == number) (filter_map (was_asked visit) (range_with_len 0 (k + 1))))
-      go true there = updated ∙ ap (λ b. if not b && was.number == number then Some None else kept number) there ∙ whole_stays there
-      go false none = whole_comes false told None refl new none (updated ∙ ap (λ b. if not b && was.number == number then Some None else kept number) none)
-
-pub none_kept : (fresh : List (List ℕ)) (was is : Request) (only : Option (Option Request)) → only ≡ Some (Some is) → are_alike fresh was is ≡ true
-    → kept_beside fresh only was ≡ None
-none_kept fresh was is only one alike = ap (λ o. kept_beside fresh o was) one ∙ ap (λ (b : Bool). if b then None else Some was) alike

@@ -1,9 +1,8 @@
-//! Whether a visit asked for just what its replay asks for, but for the values of fresh names. Most visits that are done did, and this tells it with nothing made
-//! or kept.
-ghost use Rattle.std.specs.Prelude.{ℕ, ◌≡◌, ◌<◌, ◌≤◌, length, take, slice_get, None, All, IfOk, IfSome, IsTrue, OnOk};
+//! Whether an event asked for just what its replay asks for, but for the values of fresh names. Most did, and this tells it with nothing made or kept.
+ghost use Rattle.std.specs.Prelude.{ℕ, ◌≡◌, ◌<◌, ◌≤◌, length, take, slice_get, IfOk, IfSome, IsTrue, OnOk};
 ghost use Rattle.upload_reader.specs.Session.{request_of};
 ghost use Rattle.visit_replay.specs.Aim.{by_path};
-ghost use Rattle.visit_replay.specs.Difference.{was_asked, was_other};
+ghost use Rattle.visit_replay.specs.Difference.{was_asked};
 ghost use Rattle.visit_replay.specs.inside.Differing.{AreCompared, IsTargetOf, KnowsOwn};
 ghost use Rattle.visit_replay.specs.inside.FieldsNow.{IsAlike};
 ghost use Rattle.visit_replay.specs.inside.KeptFields.{Keeps};
@@ -11,75 +10,12 @@ ghost use Rattle.visit_replay.specs.inside.KeptFields.{Keeps};
 use crate::comparisons::Comparisons;
 use crate::fields::Fields;
 use crate::forms::Filled;
-use crate::moving::note_at;
 use crate::own_lookups::OwnLookups;
 use crate::requests::{Request, is_asked_at};
 use client_log::Visit;
-use page_tree::{NoMemory, Text};
+use page_tree::NoMemory;
 use std::alloc::Global;
 use upload_reader::Event;
-
-/// Whether the visit's own requests have the numbers of these, behind that of the load, in ascending order, and each is alike. It needn't be told of all that are.
-pub(crate) fn has_asked_alike(
-    alloc: Global,
-    fresh: &[Text],
-    visit: &Visit,
-    requests: &[Request],
-) -> Result<bool, NoMemory>
-    ensures { IfOk result (λ alike. IsTrue alike → All (λ is. was_other fresh.now visit.now is ≡ None) requests.now) }
-{
-    if !begins_with_a_load(requests) {
-        return Ok(false);
-    }
-    let mut compared = Comparisons::new(alloc);
-    let mut fields = Fields::new(alloc);
-    let mut own = OwnLookups::new(alloc, &visit.page, fresh);
-    let mut count = 1;
-    let mut last = 0;
-    let events = visit.events.as_slice();
-    for k in 0..asking_end(events) {
-        let event = &events[k];
-        let target = own.paths.target_of(&visit.page, event)?;
-        let number = event.request();
-        if number != 0 {
-            if number <= last || count >= requests.len() {
-                return Ok(false);
-            }
-            let is = &requests[count];
-            if !has_asked_for(
-                alloc,
-                visit,
-                &fields,
-                k,
-                target,
-                is,
-                &mut compared,
-                &mut own,
-            )? || is.number != number
-            {
-                return Ok(false);
-            }
-            count += 1;
-            last = number;
-        }
-        note_at(&visit.page, event, target, &mut fields)?;
-    }
-    if count != requests.len() {
-        return Ok(false);
-    }
-    Ok(true)
-}
-
-// Whether the first has number 0, which no event's has.
-fn begins_with_a_load(requests: &[Request]) -> bool
-    ensures load { IsTrue result → IfSome (slice_get requests.now 0) (λ load. load.number ≡ 0) }
-    ensures some { IsTrue result → 0 < length requests.now }
-{
-    match requests.first() {
-        Some(load) => load.number == 0,
-        None => false,
-    }
-}
 
 /// Whether the event with k events before it asked for that at its target, by the fields as these left them, but for the values of fresh names. It needn't be
 /// told of all that did.

@@ -1,9 +1,6 @@
 //! What a visit asked for on the page that it was made on, where that differs from what its replay asks for.
-ghost use Rattle.std.specs.Prelude.{ℕ, List, ◌≡◌, ◌+◌, ◌<◌, ◌≤◌, [], ◌∷◌, ◌++◌, ◌==◌, ◌&&◌, if◌then◌else◌, not, is_some, length, map, take, slice_get, Some, None, IfOk, IfSome, IsTrue, OnOk, OnErr, option_and_then};
-ghost use Rattle.std.specs.BTreeMap.{get};
+ghost use Rattle.std.specs.Prelude.{List, ◌≡◌, ◌+◌, ◌<◌, ◌≤◌, length, map, take, slice_get, Some, IfOk, IfSome, OnOk, option_and_then};
 ghost use Rattle.std.specs.List.{Contains};
-ghost use Rattle.std.specs.Ordering.{nat_cmp};
-ghost use Rattle.upload_reader.specs.Session.{request_of};
 ghost use Rattle.upload_reader.specs.declared.message.Event.{Event as PlainEvent};
 ghost use Rattle.client_log.specs.declared.visit.Visit.{Visit as PlainVisit};
 ghost use Rattle.visit_replay.specs.Aim.{Aim, by_path};
@@ -17,14 +14,15 @@ ghost use Rattle.visit_replay.specs.inside.OneEvent.{AimsAt, IsBetween, aimed};
 ghost use Rattle.visit_replay.specs.inside.Senders.{KnowsForms, names_left};
 
 use crate::aims::{Aiming, aim_at};
-use crate::asked_alike::{asking_end, has_asked_alike, has_asked_for};
+use crate::asked_alike::asking_end;
 use crate::comparisons::Comparisons;
 use crate::conflicts::Located;
 use crate::difference::{Contrast, Difference, Former};
 use crate::fields::Fields;
 use crate::finding::Finding;
 use crate::forms::Filled;
-use crate::kept_requests::{is_other, kept_of, only_by_number, only_numbered};
+use crate::in_order::former_in_order;
+use crate::kept_requests::{is_other, kept_of, only_by_number};
 use crate::known_forms::KnownForms;
 use crate::known_inputs::KnownInputs;
 use crate::lookups::Lookups;
@@ -112,8 +110,8 @@ fn all_former(
 ) -> Result<Former, NoMemory>
     ensures { IfOk result (λ all. all ≡ map (was_other fresh.now visit.now) requests.now) }
 {
-    if has_asked_alike(alloc, fresh, visit, requests)? {
-        return nothing_told(alloc, requests);
+    if let Some(all) = former_in_order(alloc, fresh, visit, requests)? {
+        return Ok(all);
     }
     let mut all = Former::new(alloc);
     let mut compared = Comparisons::new(alloc);
@@ -125,18 +123,8 @@ fn all_former(
     Ok(all)
 }
 
-// Nothing, of each of these.
-fn nothing_told(alloc: Global, requests: &[Request]) -> Result<Former, NoMemory>
-    ensures { IfOk result (λ all. all ≡ map (λ _. None) requests.now) }
-{
-    let mut all = Former::new(alloc);
-    for _request in requests {
-        all.push(None)?;
-    }
-    Ok(all)
-}
-
-// What is kept of the visit's own requests beside these, which are made now. What stands behind its last event with a request isn't gone through.
+// What is kept of the visit's own requests beside these, which are made now, whatever numbers they have. What stands behind its last event with a request
+// isn't gone through.
 fn kept_by_number(
     alloc: Global,
     fresh: &[Text],
@@ -164,41 +152,8 @@ fn kept_by_number(
     Ok(all)
 }
 
-// Takes in what one event more asked for, beside the requests that are made now.
+// Takes in what one event more asked for, beside the requests that are made now. The whole of it is made only where it differs.
 fn take_in<'v>(
-    alloc: Global,
-    fresh: &[Text],
-    visit: &'v Visit,
-    fields: &Fields<'_>,
-    k: usize,
-    target: Option<u32>,
-    now: &BTreeMap<u64, Option<&Request>>,
-    compared: &mut Comparisons,
-    own: &mut OwnLookups<'v>,
-    all: &mut BTreeMap<u64, Option<Request>>,
-) -> Result<(), NoMemory>
-    requires there { k < length visit.now.events }
-    requires fields { Keeps (by_path visit.now.page) fields.now visit.now.page (take k visit.now.events) }
-    requires target { IfSome (slice_get visit.now.events k) (λ event. IsTargetOf visit.now.page event target) }
-    requires known { AreCompared fresh.now compared.old.all.items }
-    requires own { KnowsOwn fresh.now visit.now.page own.old }
-    ensures known { OnOk result (AreCompared fresh.now compared.new.all.items) }
-    ensures own { OnOk result (KnowsOwn fresh.now visit.now.page own.new) }
-    ensures kept { OnOk result ((requests : List PlainRequest) → HasOnly requests now.now
-        → HasNumbered fresh.now requests visit.now k all.old → HasNumbered fresh.now requests visit.now (k + 1) all.new) }
-{
-    if let Some(is) = only_numbered(now, visit.events.as_slice()[k].request()) {
-        if has_asked_for(alloc, visit, fields, k, target, is, compared, own)? {
-            return keep_none(all, is.number);
-        }
-    }
-    take_other(
-        alloc, fresh, visit, fields, k, target, now, compared, own, all,
-    )
-}
-
-// The same where it may differ. The whole of it is made only where it does.
-fn take_other<'v>(
     alloc: Global,
     fresh: &[Text],
     visit: &'v Visit,
@@ -237,20 +192,8 @@ fn take_other<'v>(
     Ok(())
 }
 
-// Nothing is to be kept of that number, unless there is something already.
-fn keep_none(all: &mut BTreeMap<u64, Option<Request>>, number: u64) -> Result<(), NoMemory>
-    ensures { OnOk result ((other : ℕ) → get nat_cmp all.new other
-        ≡ (if not (is_some (get nat_cmp all.old number)) && number == other then Some None else get nat_cmp all.old other)) }
-{
-    if all.contains_key(&number) {
-        return Ok(());
-    }
-    all.insert(number, None)?;
-    Ok(())
-}
-
-// What the event with k events before it asked for at its target, by the fields as these left them: whole, or without what doesn't count.
-fn own_request<'v>(
+/// What the event with k events before it asked for at its target, by the fields as these left them: whole, or without what doesn't count.
+pub(crate) fn own_request<'v>(
     alloc: Global,
     visit: &'v Visit,
     fields: &Fields<'_>,

@@ -1,6 +1,5 @@
-//! What is kept of a visit's own requests: of each number the first, where it may differ from what the replay asks for. Many requests may hold long texts,
-//! and most are what they were.
-ghost use Rattle.std.specs.Prelude.{List, ◌≡◌, IfOk, IfSome, OnOk, None, Some, if◌then◌else◌, is_some, option_map, option_and_then};
+//! What is kept of a visit's own requests where their numbers don't ascend: of each number the first, where it may differ from what the replay asks for.
+ghost use Rattle.std.specs.Prelude.{List, ◌≡◌, IfOk, OnOk, None, Some, if◌then◌else◌, is_some, option_map, option_and_then};
 ghost use Rattle.std.specs.BTreeMap.{get};
 ghost use Rattle.std.specs.Ordering.{nat_cmp};
 ghost use Rattle.visit_replay.specs.declared.requests.Request.{Request as PlainRequest};
@@ -38,20 +37,6 @@ fn only_if_first<'r>(
         None
     } else {
         Some(request)
-    }
-}
-
-/// The only request of that number.
-pub(crate) fn only_numbered<'r>(
-    now: &BTreeMap<u64, Option<&'r Request>>,
-    number: u64,
-) -> Option<&'r Request>
-    ensures { IfSome result (λ is. (requests : List PlainRequest) → HasOnly requests now.now
-        → only_numbered requests is.now.number ≡ Some (Some is.now)) }
-{
-    match now.get(&number).copied() {
-        Some(Some(is)) if is.number == number => Some(is),
-        _ => None,
     }
 }
 

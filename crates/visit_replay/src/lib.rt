@@ -28,6 +28,7 @@ mod following;
 mod forms;
 mod fresh_queries;
 mod hidden_inputs;
+mod in_order;
 mod kept_requests;
 mod known_forms;
 mod known_inputs;

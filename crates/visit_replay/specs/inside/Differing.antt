@@ -57,6 +57,11 @@ HasNumbered fresh requests visit k all = (number : ℕ) → get nat_cmp all numb
     ≡ option_map (kept_beside fresh (only_numbered requests number))
     (find (λ r. r.number == number) (filter_map (was_asked visit) (range_with_len 0 k)))
 
+-- what a request was, where it differs, of which that with its number was asked
+abbrev pub IsFormer : List (List ℕ) → Option Request → Request → Option Request → Type 0
+IsFormer fresh asked is other = (was : Request) × (asked ≡ Some was) × (was.number ≡ is.number)
+    × (other ≡ (if are_alike fresh was is then None else Some was))
+
 -- the number of the only node that the event's path leads to, if there is one
 abbrev pub IsTargetOf : Tree → Event → Option ℕ → Type 0
 IsTargetOf page event None = place_of_aim (by_path page event) ≡ None

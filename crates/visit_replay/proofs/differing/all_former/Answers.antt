@@ -1,9 +1,7 @@
 use Rattle.std.proofs.Common.{◌<◌, length, subst, sym, ◌∙◌, arith}
-use Rattle.std.proofs.lemmas.Result.{IfOk-weaker}
 use Rattle.std.specs.List.{Contains}
 use Rattle.std.proofs.lemmas.List.Elements.{Contains-get_or}
 use Rattle.visit_replay.specs.Difference.{was_other}
-use Rattle.visit_replay.proofs.AskedInOrder.{all_none}
 use Rattle.visit_replay.proofs.BesideRequests.{told_more}
 use Rattle.visit_replay.proofs.differing.all_former.Goals as goal
 
@@ -20,8 +18,3 @@ loop-request-preserved c =
           c.in_ok-was.was' (c.in_ok-was.ensures.other requests visit among c.in_ok-before.ensures.kept);
       compared = c.in_ok-was.ensures.known;
     }
-
-pub returns-then-branch : goal.returns-then-branch
-returns-then-branch c =
-    let requests = c.args.requests.now in
-    IfOk-weaker c.nothing_told.result _ _ (λ all none. none ∙ all_none (was_other c.args.fresh.now c.args.visit.now) requests (c.in_ok-has_asked_alike.ensures c.if-branch.true)) c.nothing_told.ensures

@@ -1,23 +1,41 @@
-use Rattle.std.proofs.Common.{◌==◌, ◌&&◌, not, is_some, if◌then◌else◌, Some, None, sym, ap, subst, ◌∙◌}
-use Rattle.std.proofs.lemmas.Result.{on_ok_weaker}
+use Rattle.std.proofs.Common.{◌≡◌, None, Some, if◌then◌else◌, option_map, refl, sym, ap, ◌∙◌, subst, rules}
 use Rattle.std.specs.BTreeMap.{get}
 use Rattle.std.specs.Ordering.{nat_cmp}
 use Rattle.visit_replay.specs.Difference.{was_asked}
-use Rattle.visit_replay.specs.inside.Differing.{only_numbered}
-use Rattle.visit_replay.specs.inside.FieldsNow.{IsAlike, IsButFor}
-use Rattle.visit_replay.proofs.FreshValues.{is_but_for_none, none_kept, nothing_comes}
+use Rattle.visit_replay.specs.inside.Differing.{kept_beside, only_numbered}
+use Rattle.visit_replay.specs.inside.FieldsNow.{IsButFor}
+use Rattle.visit_replay.proofs.Asking.{numbered_none}
+use Rattle.visit_replay.proofs.FreshValues.{none_for, whole_stays, whole_comes}
 use Rattle.visit_replay.proofs.differing.take_in.Goals as goal
 
-pub returns-then-branch-clause-kept : goal.returns-then-branch-clause-kept
-returns-then-branch-clause-kept c = on_ok_weaker c.keep_none.result (λ kept requests only numbered number.
+pub returns-in_default-clause-kept : goal.returns-in_default-clause-kept
+returns-in_default-clause-kept c = λ requests only numbered number.
     let visit = c.args.visit.now in
     let fresh = c.args.fresh.now in
-    let is = c.in-Some.is'.now in
-    let alike : IsAlike fresh (was_asked visit c.args.k) is =
-    subst (λ names. IsAlike names (was_asked visit c.args.k) is) c.requires.own.2 (c.in_ok-has_asked_for.ensures.asked c.if-branch.true) in
-    let was = alike.0 in
-    let asked : IsButFor fresh (Some was) (was_asked visit c.args.k) = is_but_for_none fresh (Some was) (was_asked visit c.args.k) (sym alike.1) in
-    let same = alike.2 in
-    nothing_comes fresh requests visit c.args.k number was asked (get nat_cmp c.args.all.now) (numbered number)
-    (none_kept fresh was is (only_numbered requests was.number) (ap (only_numbered requests) same ∙ c.in-Some.ensures requests only) alike.3) _
-    (kept number ∙ ap (λ n. if not (is_some (get nat_cmp c.args.all.now n)) && n == number then Some None else get nat_cmp c.args.all.now number) (sym same))) c.keep_none.ensures
+    let asked : IsButFor fresh None (was_asked visit c.args.k) = subst (λ names. IsButFor names None (was_asked visit c.args.k)) c.requires.own.2 (rw c.in_default.is at c.in_ok-was.ensures.request) in
+    numbered number ∙ ap (option_map (kept_beside fresh (only_numbered requests number))) (sym (numbered_none visit c.args.k number (none_for fresh (was_asked visit c.args.k) asked)))
+
+pub returns-then-contains_key-clause-kept : goal.returns-then-contains_key-clause-kept
+returns-then-contains_key-clause-kept c = λ requests only numbered number.
+    let visit = c.args.visit.now in
+    let fresh = c.args.fresh.now in
+    let asked : IsButFor fresh (Some c.in-Some.was) (was_asked visit c.args.k) = subst (λ names. IsButFor names (Some c.in-Some.was) (was_asked visit c.args.k)) c.requires.own.2 (rw c.in-Some.is at c.in_ok-was.ensures.request) in
+    whole_stays fresh requests visit c.args.k number c.in-Some.was asked (get nat_cmp c.args.all.now) (numbered number) (sym c.contains_key.ensures ∙ c.if-contains_key.true)
+
+pub returns-then-other-clause-kept : goal.returns-then-other-clause-kept
+returns-then-other-clause-kept c = λ requests only numbered number.
+    let visit = c.args.visit.now in
+    let fresh = c.args.fresh.now in
+    let asked : IsButFor fresh (Some c.in-Some.was) (was_asked visit c.args.k) = subst (λ names. IsButFor names (Some c.in-Some.was) (was_asked visit c.args.k)) c.requires.own.2 (rw c.in-Some.is at c.in_ok-was.ensures.request) in
+    let whole : c.in_ok-whole.whole ≡ (if c.in_ok-other.other then was_asked visit c.args.k else None) =
+    c.in_ok-whole.ensures.request.0 refl ∙ sym (ap (λ b. if b then was_asked visit c.args.k else None) c.if-other.true) in
+    whole_comes fresh requests visit c.args.k number c.in-Some.was asked (get nat_cmp c.args.all.now) (numbered number) c.in_ok-other.other (c.in_ok-other.ensures.other requests only)
+    c.in_ok-whole.whole whole _ (sym c.contains_key.ensures ∙ c.if-contains_key.false) (search (rules, c.in_ok-insert.ensures.updates.0 number))
+
+pub returns-clause-kept : goal.returns-clause-kept
+returns-clause-kept c = λ requests only numbered number.
+    let visit = c.args.visit.now in
+    let fresh = c.args.fresh.now in
+    let asked : IsButFor fresh (Some c.in-Some.was) (was_asked visit c.args.k) = subst (λ names. IsButFor names (Some c.in-Some.was) (was_asked visit c.args.k)) c.requires.own.2 (rw c.in-Some.is at c.in_ok-was.ensures.request) in
+    whole_comes fresh requests visit c.args.k number c.in-Some.was asked (get nat_cmp c.args.all.now) (numbered number) c.in_ok-other.other (c.in_ok-other.ensures.other requests only)
+    None (sym (ap (λ b. if b then was_asked visit c.args.k else None) c.if-other.false)) _ (sym c.contains_key.ensures ∙ c.if-contains_key.false) (search (rules, c.in_ok-insert-2.ensures.updates.0 number))

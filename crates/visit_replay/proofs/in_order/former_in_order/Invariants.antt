@@ -1,10 +1,10 @@
-use Rattle.std.proofs.Common.{◌≡◌, ◌≤◌, All, None, length, take}
+use Rattle.std.proofs.Common.{◌≡◌, ◌≤◌, length, map, take}
 use Rattle.visit_replay.specs.Aim.{by_path}
 use Rattle.visit_replay.specs.Difference.{was_other}
 use Rattle.visit_replay.specs.inside.Differing.{AreCompared, KnowsOwn}
 use Rattle.visit_replay.specs.inside.KeptFields.{Keeps}
 use Rattle.visit_replay.proofs.AskedInOrder.{AreAtMost}
-use Rattle.visit_replay.proofs.asked_alike.has_asked_alike.Given as goal
+use Rattle.visit_replay.proofs.in_order.former_in_order.Given as goal
 
 abbrev pub invariant-loop-k : goal.invariant-loop-k
 invariant-loop-k l = record {
@@ -13,5 +13,5 @@ invariant-loop-k l = record {
   compared : AreCompared l.fresh l.compared.all.items;
   asked : AreAtMost l.visit l.k l.last;
   few : l.count ≤ length l.requests;
-  told : All (λ is. was_other l.fresh l.visit is ≡ None) (take l.count l.requests);
+  told : l.all ≡ map (was_other l.fresh l.visit) (take l.count l.requests);
 }
