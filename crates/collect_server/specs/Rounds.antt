@@ -5,6 +5,9 @@ use Rattle.http_server.specs.Connection.{history}
 use Rattle.http_server.specs.Exchange.{Calls}
 use Rattle.http_server.specs.History.{output, new_history}
 use Rattle.http_server.specs.declared.response.Response.{Response}
+use Rattle.upload_folder.specs.Told.{AreToldStill, ClientLines}
+use Rattle.collect_http.specs.Answering.{CollectorStandsFor}
+use Rattle.collect_http.specs.declared.collector.Collector.{Collector}
 use Rattle.collect_server.specs.declared.peer.Peer.{Peer}
 
 -- ---- one place
@@ -67,6 +70,17 @@ abbrev pub AreAnsweredFrom : {S : Type 0} → (S → Request (List ℕ) → Resp
 AreAnsweredFrom {S} answers first called olds news next = (between : S)
     × AreAnswered answers called (drop first olds) (drop first news) between
     × AreAnswered answers between (take first olds) (take first news) next
+
+-- ---- what was told
+
+-- Each client's file is that of a store of which the same lines are told, and stay.
+module _ {F D : Type 0} (seen : F → List ℕ) (durable : F → ℕ) (lost : F → Bool)
+    (lies : D → List ℕ → Option (List ℕ × ℕ)) (known : D → Bool) where
+  abbrev pub StandsTold : (List ℕ → ClientLines) → Collector F D → Type 0
+  StandsTold kept collector = (now : List ℕ → ClientLines)
+      × CollectorStandsFor seen durable lost lies known collector now × AreToldStill kept now
+
+-- ---- a round
 
 -- Connections begin, what comes is answered, there is one settle, and what stands is sent.
 pub record IsServingRound {S : Type 0} (answers : S → Request (List ℕ) → Response → S → Type 0)

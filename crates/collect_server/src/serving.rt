@@ -1,9 +1,10 @@
 //! The server: rounds of reading, one settle, and writing.
-ghost use Rattle.std.specs.Prelude.{◌≡◌, None, IfOk, OnOk, OnErr, option_map, replicate, string_bytes};
+ghost use Rattle.std.specs.Prelude.{◌≡◌, ℕ, List, None, IfOk, OnOk, OnErr, option_map, replicate, string_bytes};
 ghost use Rattle.http_server.specs.Connection.{history};
 ghost use Rattle.http_server.specs.History.{new_history};
-ghost use Rattle.collect_http.specs.Answering.{Answers, RoundSettles, origin_of};
-ghost use Rattle.collect_server.specs.Rounds.{AreAt, IsServingRound, PlaceKeeps};
+ghost use Rattle.upload_folder.specs.Told.{ClientLines};
+ghost use Rattle.collect_http.specs.Answering.{Answers, CollectorStandsFor, HasFew, RoundSettles, origin_of};
+ghost use Rattle.collect_server.specs.Rounds.{AreAt, IsServingRound, PlaceKeeps, StandsTold};
 
 use crate::call::Collecting;
 use crate::disk_file::{DiskFile, file_fault};
@@ -68,6 +69,7 @@ impl<
     ) -> Result<Serving<DiskFile, DiskFolder<'a, R>>, ServeFault>
         ensures origin { IfOk result (λ serving. origin_of serving.collector ≡ collecting.origin) }
         ensures peers { IfOk result (λ serving. serving.peers.places.items ≡ replicate 256 None) }
+        ensures few { IfOk result (λ serving. HasFew serving.collector) }
     {
         let alloc = rt.alloc();
         let address = collecting.address();
@@ -123,6 +125,10 @@ impl<F: GrowingFile + Drop, D: Folder<F>> Serving<F, D> {
         ensures round { OnOk result (IsServingRound (Answers F.seen F.durable F.lost D.lies D.known)
             (RoundSettles F.seen F.durable F.lost D.lies D.known)
             self.old.collector self.old.peers.places.items self.new.collector self.new.peers.places.items) }
+        ensures told { OnOk result ((kept : List ℕ → ClientLines)
+            → CollectorStandsFor F.seen F.durable F.lost D.lies D.known self.old.collector kept
+            → StandsTold F.seen F.durable F.lost D.lies D.known kept self.new.collector) }
+        ensures few { HasFew self.old.collector → HasFew self.new.collector }
         ensures err { OnErr result (self.new.collector ≡ self.old.collector) }
     {
         self.peers.sweep();

@@ -1,4 +1,5 @@
 pub mod Torn
+pub mod StayLaws
 pub mod HeldLaws
 pub mod SlotLaws
 pub mod ClientLaws
@@ -6,4 +7,5 @@ pub mod TakeLaws
 pub mod FetchLaws
 pub mod SettleLaws
 pub mod RefusedLaws
+pub mod StepLaws
 pub mod ToldLaws
