@@ -7,3 +7,4 @@ pub mod Responses
 pub mod AnswerLaws
 pub mod HeardLaws
 pub mod BeginLaws
+pub mod StillTold

@@ -2,7 +2,8 @@ use Rattle.std.proofs.Common.{◌∙◌, refl, sym, subst}
 use Rattle.collect_http.specs.Answering.{Answers, HasFew}
 use Rattle.collect_server.specs.Rounds.{AreAnsweredFrom, PlaceBegins, PlaceKeeps, StandsTold}
 use Rattle.collect_server.proofs.Places.{at_then, begins_then}
-use Rattle.collect_server.proofs.RoundLaws.{answer_told, round_holds}
+use Rattle.collect_http.proofs.StillTold.{answer_told}
+use Rattle.collect_server.proofs.RoundLaws.{round_holds}
 use Rattle.collect_server.proofs.serving.Serving.round.Goals as goal
 
 pub returns-clause-round : goal.returns-clause-round
