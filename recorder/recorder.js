@@ -14,7 +14,6 @@ const ACTING = "a[*|href],area[href],button,input,textarea,select", TARGETS = "f
 const READ = "href action method type name value checked disabled formaction formmethod".split(" ");
 const SEEN = [...READ, ..."alt src title placeholder aria-label".split(" ")];
 
-// no half of a pair
 const json = (value) => JSON.stringify(value).replace(/\\(\\|ud\w{3})/g, (it) => it.length > 2 ? "\ufffd" : it);
 const bytesOf = (text) => new TextEncoder().encode(text).length;
 const asSent = (text) => text.replace(/\r\n?|\n/g, "\r\n");
@@ -24,10 +23,9 @@ const kindOf = (el) => {
 	return !isField || /^(image|file|reset|button)$/.test(type) ? "" : /^(check|rad|sub)/.test(type) ? type : "text";
 };
 const startOf = (el) => {
-	const form = document.createElement("form");
-	form.append(el.cloneNode(true));
-	HTMLFormElement.prototype.reset.call(form);
-	return asSent(form[0]?.value ?? "");
+	const it = el.cloneNode(true);
+	it.value = it.defaultValue ?? it.value;
+	return asSent(it.value ?? "");
 };
 const attrsOf = (el, n, step) => {
 	const a = {};
@@ -63,7 +61,6 @@ const treeOf = function* (copy, n, path, level, page) {
 	page.nodes += c.length;
 	return { n, a: attrsOf(copy, n, step), c };
 };
-// in pieces, the last is the page
 const pageOf = function* (root, room, from) {
 	for (let step = from ?? (all(root, "*").length < NODES ? 0 : 3); ; step += 1) {
 		const page = { step, shown: step > 3 ? new Set() : step > 2 ? leading(root) : null, places: new Map(), nodes: 1 };
@@ -84,7 +81,7 @@ const bare = (address) => address.split("#")[0];
 const unasked = (address) => address.split(/[?#]/)[0];
 
 const script = document.currentScript?.src, UPLOAD = new URL("upload", script || location.origin);
-const MARK = Symbol.for("yugdemor"), DAY = 864e5, { fetch, Date: { now } } = window;
+const MARK = Symbol.for("yugdemor"), DAY = 864e5, { fetch, navigation, Date: { now } } = window;
 const LINE = "yugdemor line ", OPEN = "yugdemor open ", TO = "yugdemor to ", KNOWN = "yugdemor known";
 const memory = {}, store = (where, key, text) => safely(() => where[key] = text)();
 const stored = (kind) => [local ?? {}, memory].flatMap((where) => Object.keys(where).sort()
@@ -123,8 +120,7 @@ const ask = async (options) => {
 	return answer.json();
 };
 const flush = async () => {
-	clearTimeout(timer);
-	timer = null;
+	timer = clearTimeout(timer);
 	const lines = isBusy ? [] : nextLines(LINE, 12e4);
 	if (!lines.length) return;
 	let went;
@@ -178,7 +174,6 @@ const sayEvent = (t, chain, rest) => {
 	if (visit.n < 1e4) say(t, { target: targetOf(chain), ...rest });
 	else if (visit.n === 1e4) say("click", { target: targetOf([]) });
 };
-// until they are undone
 const note = (changes) => changes.forEach((it) => {
 	visit.changes.push(it);
 	it.removedNodes.forEach(watch);
@@ -240,9 +235,9 @@ const conflict = (chain) =>
 const handOn = (to, n) => {
 	if (!to) return;
 	enter();
-	const id = TO + [visit.v, n, bare(to)], opened = { opener: visit.v, from: n };
+	const { v } = visit, url = bare(document.URL), id = TO + [v, n, to = bare(to)];
 	store(session, TO, id);
-	store(local, id, json({ id, opened, url: bare(document.URL), to: bare(to), at: now() }));
+	store(local, id, json({ id, opened: { opener: v, from: n }, url, to, at: now() }));
 };
 const openerOf = ({ isNew, handed }) => {
 	const fit = ({ id, url, to }) => {
@@ -260,18 +255,21 @@ let typed, idle;
 const valueOf = (el) => el.type === "checkbox" ? el.checked : el.value;
 const isOn = (it) => it.held ?? it.copy.defaultChecked;
 const heldBy = (it) => it.held ?? startOf(it.copy);
-const sayInput = (el, chain, text) => {
-	const value = asSent(text), it = placeOf(el);
+const sayInput = (chain, text) => {
+	const [el] = chain, value = asSent(text), it = placeOf(el);
 	if (el.type === "password" || it && (it.copy.type === "password" || heldBy(it) === value)) return;
 	if (bytesOf(json(value)) > 6e4) return conflict(chain);
 	if (it) it.held = value;
 	sayEvent("input", chain, { value });
 };
-const sayTyped = (next = null) => {
-	if (typed && typed[0] !== next?.[0]) sayInput(...typed);
-	typed = next;
-	clearTimeout(idle);
-	if (next) idle = setTimeout(safely(sayTyped), 1000);
+const sayTyped = (chain) => {
+	if (typed && typed.chain[0] !== chain?.[0]) sayInput(typed.chain, typed.text);
+	typed = chain && { chain, text: chain[0].value, at: now() };
+	if (chain) idle ??= setTimeout(sayIdle, 1e3);
+};
+const sayIdle = () => {
+	const left = typed?.at + 1e3 - now();
+	idle = left > 0 ? setTimeout(sayIdle, left) : safely(sayTyped)();
 };
 const toggle = (it) => {
 	it.held = !isOn(it);
@@ -282,7 +280,7 @@ const reconcile = (form) => {
 	for (const it of under(form)) {
 		const { el, filled } = it, kind = kindOf(it.copy);
 		if (filled !== valueOf(el) && !el.matches(":autofill")) continue;
-		if (kind === "text") sayInput(el, [el], el.value);
+		if (kind === "text") sayInput([el], el.value);
 		if (kind === "checkbox" && isOn(it) !== el.checked) toggle(it);
 	}
 };
@@ -309,34 +307,35 @@ const isFormSaid = (submit, to) => {
 		&& /^http/.test(to) && part(to) === part(replayed(attr(copy, "action") || visit.path))
 		&& sent === json(pairsOf(form, submitter));
 };
-// asked for last
 let asked;
 const request = (isSaid, t, chain, rest, to, here) => {
 	if (isSaid) sayEvent(t, chain, { ...rest, req: ++visit.sent });
 	else conflict(chain);
-	asked = { to: unasked(to), isHere: here && window.navigation };
+	asked = { to: unasked(to), isHere: here && navigation };
 	handOn(to, visit.sent);
 };
 
 // the user's, and the last
 let turn, cause;
 const acting = (chain) => chain.find((el) => matches.call(el, ACTING));
+const chainOf = (it) => typed?.chain[0] === it.target ? typed.chain
+	: it.composedPath().filter((el) => el instanceof Element);
 const isHere = (target) => {
 	const name = target ?? attr(document.querySelector("base[target]"), "target") ?? "";
 	return /^(_self)?$/i.test(name) || name === window.name || window === parent && /^_(top|parent)$/i.test(name);
 };
 const staysHere = (link, it) => isHere(attr(link, "target"))
 	&& !(it.button || it.ctrlKey || it.metaKey || it.shiftKey || it.altKey || matches.call(link, "[download]"));
-const linkTo = (link, event) => {
-	if (!isLink(link) || event.defaultPrevented) return null;
+const linkTo = (link, it) => {
+	if (!isLink(link) || it.defaultPrevented) return null;
 	const to = urlOf(link.href?.baseVal ?? link.href), isInside = to.includes("#") && bare(to) === bare(document.URL);
-	return /^http/.test(to) && !(isInside && staysHere(link, event)) ? to : null;
+	return /^http/.test(to) && !(isInside && staysHere(link, it)) ? to : null;
 };
 const settleClick = (el, chain, event, made) => {
 	const it = placeOf(el), kind = it && kindOf(it.copy), to = linkTo(el, event);
-	const isOdd = event.altKey || [el, event.target].some((it) => matches.call(it, "[ping],[ismap]"));
-	const isSaid = !isOdd && replayed(attr(it?.copy, "href")) === to;
-	if (to) request(isSaid, "click", chain, {}, to, staysHere(el, event));
+	const isSaid = () => !event.altKey && replayed(attr(it?.copy, "href")) === to
+		&& ![el, event.target].some((it) => matches.call(it, "[ping],[ismap]"));
+	if (to) request(isSaid(), "click", chain, {}, to, staysHere(el, event));
 	else if (event.type !== "click" || kind === "text" || event.defaultPrevented && /^[cr]/.test(kind)) return;
 	else if (kind === "checkbox") toggle(it);
 	else if (!made) sayEvent("click", chain);
@@ -349,20 +348,20 @@ const settleForm = (submit, made) => {
 		request(isFormSaid(submit, to), "submit", [form], by, to, isHere(stated(submit, "target") || undefined));
 	else if (!made) sayEvent("submit", [form], by);
 };
-const settle = () => {
+const settle = safely(() => {
 	if (!turn) return;
-	tell();
+	visit.places ?? tell();
 	const { event, chain, isClick, field, submit, made, went } = turn, el = isClick && acting(chain);
 	turn = null;
 	checkLeft();
-	if (field) sayTyped([...field, field[0].value]);
+	if (field && (field === typed?.chain || kindOf(field[0]) === "text")) sayTyped(field);
 	if (isClick || submit || made) sayTyped();
 	if (submit) settleForm(submit, made);
 	else if (el) settleClick(el, chain.slice(chain.indexOf(el)), event, made);
 	cause = { at: now(), chain };
 	if (went) leave(went);
 	made?.forEach(answer);
-};
+});
 const answer = (to) => {
 	if (!cause.n) conflict(cause.chain);
 	cause.n ??= visit.sent;
@@ -377,7 +376,7 @@ const checkLeft = () => {
 const alone = new Set();
 const noteCall = (address, opens, target) => {
 	const to = address === null ? "" : urlOf(address), led = opens && to;
-	if (!/^(http|about)/.test(to) || target !== undefined && window.navigation && isHere(target)) return;
+	if (!/^(http|about)/.test(to) || target !== undefined && navigation && isHere(target)) return;
 	if (turn) (turn.made ??= []).push(led);
 	else if (now() - cause?.at < 500 && !alone.has(unasked(to))) answer(led);
 	else {
@@ -385,27 +384,28 @@ const noteCall = (address, opens, target) => {
 		handOn(led, 0);
 	}
 };
-const startEvent = (event) => {
-	const { type } = event, chain = event.composedPath().filter((it) => it instanceof Element), [el] = chain;
-	if (!event.isTrusted) return type === "click" && noteCall(linkTo(acting(chain), event), true);
-	if (type === "input" && event.inputType && !turn) return;
-	if (now() - visit.at > DAY) begin();
-	take();
-	// fields may change
-	if (!visit.isNew) tell();
-	const isClick = type === "click" || type === "auxclick" && event.button === 1;
+const startEvent = (it) => {
+	const { type } = it;
+	if (!it.isTrusted) return type === "click" && noteCall(linkTo(acting(chainOf(it)), it), true);
+	const isClick = type === "click" || type === "auxclick" && it.button === 1;
 	if (isClick) settle();
-	if (!turn) setTimeout(safely(settle));
-	turn ??= { event, isClick, chain };
-	if (event.key === "Enter") turn.enter = event;
-	if (type === "input" && kindOf(el) === "text") turn.field = [el, chain];
+	if (!turn) {
+		if (type === "input" && it.inputType) return;
+		if (now() - visit.at > DAY) begin();
+		take();
+		if (!visit.isNew) tell();
+		setTimeout(settle);
+		turn = { event: it, isClick, chain: chainOf(it) };
+	}
+	if (it.key === "Enter") turn.enter = it;
+	if (type === "input") turn.field = chainOf(it);
 };
-const noteSubmit = (event) => {
-	const { submitter, target: form, isTrusted } = event, { enter, isClick, chain } = turn ?? {};
-	if (!isTrusted) return;
-	const isPressed = isClick && acting(chain) === submitter && !turn.event.defaultPrevented;
+const noteSubmit = (it) => {
+	const { submitter, target: form } = it, { event, enter, isClick, chain } = turn ?? {};
+	if (!it.isTrusted) return;
+	const isPressed = isClick && acting(chain) === submitter && !event.defaultPrevented;
 	const isEntered = enter?.target.form === form && !enter.defaultPrevented;
-	if (isPressed || isEntered) turn.submit = { form, submitter, event };
+	if (isPressed || isEntered) turn.submit = { form, submitter, event: it };
 	else noteCall(submitTo({ form, submitter }), true);
 };
 
@@ -435,18 +435,17 @@ const start = () => {
 	});
 	on("navigate", ({ destination: { url, sameDocument }, navigationType, userInitiated }) => {
 		const { way } = visit, at = now();
-		if (url === way?.url && at - way.at < 3000) fail();
+		if (url === way?.url && at - way.at < 3e3) fail();
 		visit.way = !sameDocument && navigationType !== "traverse" && /^http/.test(url) && { url, at };
 		if (!visit.way) return;
 		if (!userInitiated) noteCall(url, true);
 		else if (turn) turn.went = url;
 		else leave(url);
-	}, window.navigation);
-	// the page is kept
+	}, navigation);
 	for (const it of ["success", "error"]) on(`navigate${it}`, () => {
 		const { way } = visit;
 		setTimeout(safely(() => way && way === visit.way && fail()));
-	}, window.navigation);
+	}, navigation);
 	on("securitypolicyviolation", (it) => it.effectiveDirective === "form-action" && fail());
 	on("pageshow", ({ persisted }) => {
 		if (persisted) begin();

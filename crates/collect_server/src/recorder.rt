@@ -21,10 +21,9 @@ pub(crate) const RECORDER: &[u8] = b"\
     return !isField || /^(image|file|reset|button)$/.test(type) ? \"\" : /^(check|rad|sub)/.test(type) ? type : \"text\";\n\
     };\n\
     const startOf = (el) => {\n\
-    const form = document.createElement(\"form\");\n\
-    form.append(el.cloneNode(true));\n\
-    HTMLFormElement.prototype.reset.call(form);\n\
-    return asSent(form[0]?.value ?? \"\");\n\
+    const it = el.cloneNode(true);\n\
+    it.value = it.defaultValue ?? it.value;\n\
+    return asSent(it.value ?? \"\");\n\
     };\n\
     const attrsOf = (el, n, step) => {\n\
     const a = {};\n\
@@ -77,7 +76,7 @@ pub(crate) const RECORDER: &[u8] = b"\
     const bare = (address) => address.split(\"#\")[0];\n\
     const unasked = (address) => address.split(/[?#]/)[0];\n\
     const script = document.currentScript?.src, UPLOAD = new URL(\"upload\", script || location.origin);\n\
-    const MARK = Symbol.for(\"yugdemor\"), DAY = 864e5, { fetch, Date: { now } } = window;\n\
+    const MARK = Symbol.for(\"yugdemor\"), DAY = 864e5, { fetch, navigation, Date: { now } } = window;\n\
     const LINE = \"yugdemor line \", OPEN = \"yugdemor open \", TO = \"yugdemor to \", KNOWN = \"yugdemor known\";\n\
     const memory = {}, store = (where, key, text) => safely(() => where[key] = text)();\n\
     const stored = (kind) => [local ?? {}, memory].flatMap((where) => Object.keys(where).sort()\n\
@@ -115,8 +114,7 @@ pub(crate) const RECORDER: &[u8] = b"\
     return answer.json();\n\
     };\n\
     const flush = async () => {\n\
-    clearTimeout(timer);\n\
-    timer = null;\n\
+    timer = clearTimeout(timer);\n\
     const lines = isBusy ? [] : nextLines(LINE, 12e4);\n\
     if (!lines.length) return;\n\
     let went;\n\
@@ -229,9 +227,9 @@ pub(crate) const RECORDER: &[u8] = b"\
     const handOn = (to, n) => {\n\
     if (!to) return;\n\
     enter();\n\
-    const id = TO + [visit.v, n, bare(to)], opened = { opener: visit.v, from: n };\n\
+    const { v } = visit, url = bare(document.URL), id = TO + [v, n, to = bare(to)];\n\
     store(session, TO, id);\n\
-    store(local, id, json({ id, opened, url: bare(document.URL), to: bare(to), at: now() }));\n\
+    store(local, id, json({ id, opened: { opener: v, from: n }, url, to, at: now() }));\n\
     };\n\
     const openerOf = ({ isNew, handed }) => {\n\
     const fit = ({ id, url, to }) => {\n\
@@ -248,18 +246,21 @@ pub(crate) const RECORDER: &[u8] = b"\
     const valueOf = (el) => el.type === \"checkbox\" ? el.checked : el.value;\n\
     const isOn = (it) => it.held ?? it.copy.defaultChecked;\n\
     const heldBy = (it) => it.held ?? startOf(it.copy);\n\
-    const sayInput = (el, chain, text) => {\n\
-    const value = asSent(text), it = placeOf(el);\n\
+    const sayInput = (chain, text) => {\n\
+    const [el] = chain, value = asSent(text), it = placeOf(el);\n\
     if (el.type === \"password\" || it && (it.copy.type === \"password\" || heldBy(it) === value)) return;\n\
     if (bytesOf(json(value)) > 6e4) return conflict(chain);\n\
     if (it) it.held = value;\n\
     sayEvent(\"input\", chain, { value });\n\
     };\n\
-    const sayTyped = (next = null) => {\n\
-    if (typed && typed[0] !== next?.[0]) sayInput(...typed);\n\
-    typed = next;\n\
-    clearTimeout(idle);\n\
-    if (next) idle = setTimeout(safely(sayTyped), 1000);\n\
+    const sayTyped = (chain) => {\n\
+    if (typed && typed.chain[0] !== chain?.[0]) sayInput(typed.chain, typed.text);\n\
+    typed = chain && { chain, text: chain[0].value, at: now() };\n\
+    if (chain) idle ??= setTimeout(sayIdle, 1e3);\n\
+    };\n\
+    const sayIdle = () => {\n\
+    const left = typed?.at + 1e3 - now();\n\
+    idle = left > 0 ? setTimeout(sayIdle, left) : safely(sayTyped)();\n\
     };\n\
     const toggle = (it) => {\n\
     it.held = !isOn(it);\n\
@@ -270,7 +271,7 @@ pub(crate) const RECORDER: &[u8] = b"\
     for (const it of under(form)) {\n\
     const { el, filled } = it, kind = kindOf(it.copy);\n\
     if (filled !== valueOf(el) && !el.matches(\":autofill\")) continue;\n\
-    if (kind === \"text\") sayInput(el, [el], el.value);\n\
+    if (kind === \"text\") sayInput([el], el.value);\n\
     if (kind === \"checkbox\" && isOn(it) !== el.checked) toggle(it);\n\
     }\n\
     };\n\
@@ -300,27 +301,29 @@ pub(crate) const RECORDER: &[u8] = b"\
     const request = (isSaid, t, chain, rest, to, here) => {\n\
     if (isSaid) sayEvent(t, chain, { ...rest, req: ++visit.sent });\n\
     else conflict(chain);\n\
-    asked = { to: unasked(to), isHere: here && window.navigation };\n\
+    asked = { to: unasked(to), isHere: here && navigation };\n\
     handOn(to, visit.sent);\n\
     };\n\
     let turn, cause;\n\
     const acting = (chain) => chain.find((el) => matches.call(el, ACTING));\n\
+    const chainOf = (it) => typed?.chain[0] === it.target ? typed.chain\n\
+    : it.composedPath().filter((el) => el instanceof Element);\n\
     const isHere = (target) => {\n\
     const name = target ?? attr(document.querySelector(\"base[target]\"), \"target\") ?? \"\";\n\
     return /^(_self)?$/i.test(name) || name === window.name || window === parent && /^_(top|parent)$/i.test(name);\n\
     };\n\
     const staysHere = (link, it) => isHere(attr(link, \"target\"))\n\
     && !(it.button || it.ctrlKey || it.metaKey || it.shiftKey || it.altKey || matches.call(link, \"[download]\"));\n\
-    const linkTo = (link, event) => {\n\
-    if (!isLink(link) || event.defaultPrevented) return null;\n\
+    const linkTo = (link, it) => {\n\
+    if (!isLink(link) || it.defaultPrevented) return null;\n\
     const to = urlOf(link.href?.baseVal ?? link.href), isInside = to.includes(\"#\") && bare(to) === bare(document.URL);\n\
-    return /^http/.test(to) && !(isInside && staysHere(link, event)) ? to : null;\n\
+    return /^http/.test(to) && !(isInside && staysHere(link, it)) ? to : null;\n\
     };\n\
     const settleClick = (el, chain, event, made) => {\n\
     const it = placeOf(el), kind = it && kindOf(it.copy), to = linkTo(el, event);\n\
-    const isOdd = event.altKey || [el, event.target].some((it) => matches.call(it, \"[ping],[ismap]\"));\n\
-    const isSaid = !isOdd && replayed(attr(it?.copy, \"href\")) === to;\n\
-    if (to) request(isSaid, \"click\", chain, {}, to, staysHere(el, event));\n\
+    const isSaid = () => !event.altKey && replayed(attr(it?.copy, \"href\")) === to\n\
+    && ![el, event.target].some((it) => matches.call(it, \"[ping],[ismap]\"));\n\
+    if (to) request(isSaid(), \"click\", chain, {}, to, staysHere(el, event));\n\
     else if (event.type !== \"click\" || kind === \"text\" || event.defaultPrevented && /^[cr]/.test(kind)) return;\n\
     else if (kind === \"checkbox\") toggle(it);\n\
     else if (!made) sayEvent(\"click\", chain);\n\
@@ -333,20 +336,20 @@ pub(crate) const RECORDER: &[u8] = b"\
     request(isFormSaid(submit, to), \"submit\", [form], by, to, isHere(stated(submit, \"target\") || undefined));\n\
     else if (!made) sayEvent(\"submit\", [form], by);\n\
     };\n\
-    const settle = () => {\n\
+    const settle = safely(() => {\n\
     if (!turn) return;\n\
-    tell();\n\
+    visit.places ?? tell();\n\
     const { event, chain, isClick, field, submit, made, went } = turn, el = isClick && acting(chain);\n\
     turn = null;\n\
     checkLeft();\n\
-    if (field) sayTyped([...field, field[0].value]);\n\
+    if (field && (field === typed?.chain || kindOf(field[0]) === \"text\")) sayTyped(field);\n\
     if (isClick || submit || made) sayTyped();\n\
     if (submit) settleForm(submit, made);\n\
     else if (el) settleClick(el, chain.slice(chain.indexOf(el)), event, made);\n\
     cause = { at: now(), chain };\n\
     if (went) leave(went);\n\
     made?.forEach(answer);\n\
-    };\n\
+    });\n\
     const answer = (to) => {\n\
     if (!cause.n) conflict(cause.chain);\n\
     cause.n ??= visit.sent;\n\
@@ -361,7 +364,7 @@ pub(crate) const RECORDER: &[u8] = b"\
     const alone = new Set();\n\
     const noteCall = (address, opens, target) => {\n\
     const to = address === null ? \"\" : urlOf(address), led = opens && to;\n\
-    if (!/^(http|about)/.test(to) || target !== undefined && window.navigation && isHere(target)) return;\n\
+    if (!/^(http|about)/.test(to) || target !== undefined && navigation && isHere(target)) return;\n\
     if (turn) (turn.made ??= []).push(led);\n\
     else if (now() - cause?.at < 500 && !alone.has(unasked(to))) answer(led);\n\
     else {\n\
@@ -369,26 +372,28 @@ pub(crate) const RECORDER: &[u8] = b"\
     handOn(led, 0);\n\
     }\n\
     };\n\
-    const startEvent = (event) => {\n\
-    const { type } = event, chain = event.composedPath().filter((it) => it instanceof Element), [el] = chain;\n\
-    if (!event.isTrusted) return type === \"click\" && noteCall(linkTo(acting(chain), event), true);\n\
-    if (type === \"input\" && event.inputType && !turn) return;\n\
+    const startEvent = (it) => {\n\
+    const { type } = it;\n\
+    if (!it.isTrusted) return type === \"click\" && noteCall(linkTo(acting(chainOf(it)), it), true);\n\
+    const isClick = type === \"click\" || type === \"auxclick\" && it.button === 1;\n\
+    if (isClick) settle();\n\
+    if (!turn) {\n\
+    if (type === \"input\" && it.inputType) return;\n\
     if (now() - visit.at > DAY) begin();\n\
     take();\n\
     if (!visit.isNew) tell();\n\
-    const isClick = type === \"click\" || type === \"auxclick\" && event.button === 1;\n\
-    if (isClick) settle();\n\
-    if (!turn) setTimeout(safely(settle));\n\
-    turn ??= { event, isClick, chain };\n\
-    if (event.key === \"Enter\") turn.enter = event;\n\
-    if (type === \"input\" && kindOf(el) === \"text\") turn.field = [el, chain];\n\
+    setTimeout(settle);\n\
+    turn = { event: it, isClick, chain: chainOf(it) };\n\
+    }\n\
+    if (it.key === \"Enter\") turn.enter = it;\n\
+    if (type === \"input\") turn.field = chainOf(it);\n\
     };\n\
-    const noteSubmit = (event) => {\n\
-    const { submitter, target: form, isTrusted } = event, { enter, isClick, chain } = turn ?? {};\n\
-    if (!isTrusted) return;\n\
-    const isPressed = isClick && acting(chain) === submitter && !turn.event.defaultPrevented;\n\
+    const noteSubmit = (it) => {\n\
+    const { submitter, target: form } = it, { event, enter, isClick, chain } = turn ?? {};\n\
+    if (!it.isTrusted) return;\n\
+    const isPressed = isClick && acting(chain) === submitter && !event.defaultPrevented;\n\
     const isEntered = enter?.target.form === form && !enter.defaultPrevented;\n\
-    if (isPressed || isEntered) turn.submit = { form, submitter, event };\n\
+    if (isPressed || isEntered) turn.submit = { form, submitter, event: it };\n\
     else noteCall(submitTo({ form, submitter }), true);\n\
     };\n\
     const watchCalls = (note) => {\n\
@@ -416,17 +421,17 @@ pub(crate) const RECORDER: &[u8] = b"\
     });\n\
     on(\"navigate\", ({ destination: { url, sameDocument }, navigationType, userInitiated }) => {\n\
     const { way } = visit, at = now();\n\
-    if (url === way?.url && at - way.at < 3000) fail();\n\
+    if (url === way?.url && at - way.at < 3e3) fail();\n\
     visit.way = !sameDocument && navigationType !== \"traverse\" && /^http/.test(url) && { url, at };\n\
     if (!visit.way) return;\n\
     if (!userInitiated) noteCall(url, true);\n\
     else if (turn) turn.went = url;\n\
     else leave(url);\n\
-    }, window.navigation);\n\
+    }, navigation);\n\
     for (const it of [\"success\", \"error\"]) on(`navigate${it}`, () => {\n\
     const { way } = visit;\n\
     setTimeout(safely(() => way && way === visit.way && fail()));\n\
-    }, window.navigation);\n\
+    }, navigation);\n\
     on(\"securitypolicyviolation\", (it) => it.effectiveDirective === \"form-action\" && fail());\n\
     on(\"pageshow\", ({ persisted }) => {\n\
     if (persisted) begin();\n\
