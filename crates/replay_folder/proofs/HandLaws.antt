@@ -1,14 +1,13 @@
 -- Lanes that one thread takes one behind another, and the hands of all threads.
 use Rattle.std.proofs.Common.{◌≡◌, ℕ, zero, suc, ◌+◌, ◌≤◌, ◌<◌, List, [], ◌∷◌, ◌++◌, length, map, slice_get, slice_set, slice_index_or, Bool, true, false, ◌&&◌, is_some, Some, refl, sym, ap, ap₂, subst, ◌∙◌, arith, append_assoc, append-nil, true≢false}
 use Rattle.std.specs.List.{AllByRecursion, AllZip}
-use Rattle.std.proofs.lemmas.List.{length-append, length-map}
+use Rattle.std.proofs.lemmas.List.{length-append}
 use Rattle.std.proofs.lemmas.Option.{get_or_from_slice_get, slice_get_within}
 use Rattle.lanes_in_turn.specs.Round.{have_ended}
 use Rattle.lanes_in_turn.specs.Taking.{GaveMore, IsFreshLane, Stops, TakesLane, is_ended, never, refused_by}
 use Rattle.lanes_in_turn.specs.declared.gathered.LaneResult.{LaneResult}
 use Rattle.lanes_in_turn.specs.declared.gathered.Stop.{Stop}
 use Rattle.lanes_in_turn.specs.declared.gathered.Stop.TheVariants as stops
-use Rattle.lanes_in_turn.proofs.RoundLaws.{in_map}
 use Rattle.upload_lanes.specs.Threads.{both_stops, stop_of, AreTaken}
 use Rattle.upload_lanes.specs.inside.Party.{Hand, TakeEach, TakesByOne}
 use Rattle.upload_lanes.proofs.Zips.{zip_at, zip_push}
@@ -214,27 +213,51 @@ module _ {R : Type 0} where
   stops_made [] = refl
   stops_made (one ∷ taken) = ap (λ stops. one.stop ∷ stops) (stops_made taken)
 
-  -- each thread took a hand of its own
-  pub hands_taken : (hands : List (Hand R)) (taken : List (TakenHand R)) → length taken ≡ length hands
-      → ((k : ℕ) (one : TakenHand R) → k < length hands →
-      (hand : Hand R) × ((d : Hand R) → slice_index_or hands k d ≡ hand) × TakesByOne never 0 hand.items (slice_index_or taken k one).lanes.items (slice_index_or taken k one).stop)
-      → (back : List (Hand R)) (stop : Stop) → back ≡ map (λ one. one.lanes) taken → stop ≡ stop_of (map (λ one. one.stop) taken)
-      → TakeEach (λ hand. TakesByOne never 0 hand.items) hands back stop
-  hands_taken hands taken size each back stop back_is stop_is = record {
-    made = made_of taken;
-    each = zip_at (λ hand one. TakesByOne never 0 hand.items one.0.items one.1) hands (made_of taken) (sym size ∙ sym (length-map taken (λ one. (one.lanes, one.stop)))) by_place;
-    taken_is = back_is ∙ lanes_made taken;
-    stop_is = stop_is ∙ ap stop_of (stops_made taken);
-  }
+  abbrev pub IsTakenHand : Hand R → TakenHand R → Type 0
+  IsTakenHand hand taken = TakesByOne never 0 hand.items taken.lanes.items taken.stop
+
+  -- each call took a hand of its own
+  pub hands_at_once : (hands : List (Hand R)) (taken : List (TakenHand R)) → length taken ≡ length hands
+      → ((k : ℕ) (one : TakenHand R) → k < length hands → (hand : Hand R) × ((d : Hand R) → slice_index_or hands k d ≡ hand) × IsTakenHand hand (slice_index_or taken k one))
+      → AllZip IsTakenHand hands taken
+  hands_at_once hands taken size each = zip_at IsTakenHand hands taken (sym size) by_place
     where
-      by_place : (k : ℕ) (hand : Hand R) (made : Hand R × Stop) → slice_get hands k ≡ Some hand → slice_get (made_of taken) k ≡ Some made → TakesByOne never 0 hand.items made.0.items made.1
-      by_place k hand made hand_at made_at =
-          let (one, one_at, is) = in_map (λ o. (o.lanes, o.stop)) taken k made made_at in
+      by_place : (k : ℕ) (hand : Hand R) (one : TakenHand R) → slice_get hands k ≡ Some hand → slice_get taken k ≡ Some one → IsTakenHand hand one
+      by_place k hand one hand_at one_at =
           let call = each k one (slice_get_within hands k hand hand_at) in
           let is_hand : call.0 ≡ hand = sym (call.1 hand) ∙ get_or_from_slice_get hands k hand hand hand_at in
           let is_one : slice_index_or taken k one ≡ one = get_or_from_slice_get taken k one one one_at in
-          subst (λ o. TakesByOne never 0 hand.items o.0.items o.1) is
-          (subst (λ o. TakesByOne never 0 hand.items o.lanes.items o.stop) is_one (subst (λ h. TakesByOne never 0 h.items (slice_index_or taken k one).lanes.items (slice_index_or taken k one).stop) is_hand call.2))
+          subst (λ o. IsTakenHand hand o) is_one (subst (λ h. IsTakenHand h (slice_index_or taken k one)) is_hand call.2)
+
+  -- with whatever is taken of the rest, all of them have been taken
+  abbrev pub TakesRest : List (Hand R) → List (TakenHand R) → List (Hand R) → Type 0
+  TakesRest all taken rest = (more : List (TakenHand R)) → AllZip IsTakenHand rest more → AllZip IsTakenHand all (taken ++ more)
+
+  pub rest_taken : (all : List (Hand R)) (taken : List (TakenHand R)) (hand : Hand R) (rest old : List (Hand R)) (one : TakenHand R) → old ≡ hand ∷ rest → IsTakenHand hand one
+      → TakesRest all taken old → TakesRest all (taken ++ one ∷ []) rest
+  rest_taken all taken hand rest old one is here goes more zip =
+      subst (λ l. AllZip IsTakenHand all l) (sym (append_assoc taken (one ∷ []) more)) (goes (one ∷ more) (subst (λ l. AllZip IsTakenHand l (one ∷ more)) (sym is) (here, zip)))
+
+  pub all_hands_taken : (all : List (Hand R)) (taken : List (TakenHand R)) (rest : List (Hand R)) → rest ≡ [] → TakesRest all taken rest → AllZip IsTakenHand all taken
+  all_hands_taken all taken rest none goes =
+      subst (λ l. AllZip IsTakenHand all l) (append-nil taken) (goes [] (subst (λ l. AllZip IsTakenHand l []) (sym none) tt))
+
+  zip_made : (hands : List (Hand R)) (taken : List (TakenHand R)) → AllZip IsTakenHand hands taken
+      → AllZip (λ (hand : Hand R) (one : Hand R × Stop). TakesByOne never 0 hand.items one.0.items one.1) hands (made_of taken)
+  zip_made [] [] all = tt
+  zip_made [] (one ∷ taken) all = absurd all
+  zip_made (hand ∷ hands) [] all = absurd all
+  zip_made (hand ∷ hands) (one ∷ taken) all = (all.0, zip_made hands taken all.1)
+
+  pub hands_taken : (hands : List (Hand R)) (taken : List (TakenHand R)) → AllZip IsTakenHand hands taken
+      → (back : List (Hand R)) (stop : Stop) → back ≡ map (λ one. one.lanes) taken → stop ≡ stop_of (map (λ one. one.stop) taken)
+      → TakeEach (λ hand. TakesByOne never 0 hand.items) hands back stop
+  hands_taken hands taken each back stop back_is stop_is = record {
+    made = made_of taken;
+    each = zip_made hands taken each;
+    taken_is = back_is ∙ lanes_made taken;
+    stop_is = stop_is ∙ ap stop_of (stops_made taken);
+  }
 
   -- that none was given beyond those that were taken is more than that few were
   pub taken_ahead : (more : ℕ) (fresh lanes : Lanes R) (stop : Stop) → AreTaken never 0 fresh lanes stop → AreTaken never more fresh lanes stop

@@ -1,7 +1,7 @@
 //! The lanes of a round are dealt to a few threads. Each takes its lanes one behind another, and records what it reads: what is read of a file is at hand, so
-//! nothing is gained by another thread that records it.
+//! nothing is gained by another thread that records it; and on one processor nothing by a thread beside the one that calls.
 ghost use Rattle.std.specs.Prelude.{◌≡◌, ◌≤◌, [], length, map, IfOk};
-ghost use Rattle.std.specs.List.{All, AllByRecursion};
+ghost use Rattle.std.specs.List.{All, AllByRecursion, AllZip};
 ghost use Rattle.std.specs.Vec.{vec_capacity};
 ghost use Rattle.lanes_in_turn.specs.Round.{AreRoundLanes};
 ghost use Rattle.lanes_in_turn.specs.Taking.{IsFreshLane, never};
@@ -55,7 +55,7 @@ fn threads_of(lanes: usize) -> usize
     }
 }
 
-// Each hand by a thread of its own.
+// What was taken of all hands, and why that stopped.
 fn take_hands<F: Source + Drop + Send, T: AllocGlobal + Threads + Wait + Sync>(
     rt: &T,
     hands: Vec<Vec<(Client, LaneResult<F>)>>,
@@ -64,6 +64,43 @@ fn take_hands<F: Source + Drop + Send, T: AllocGlobal + Threads + Wait + Sync>(
     ensures { IfOk result (λ all. TakeEach (λ hand. TakesByOne never 0 hand.items) hands.items all.0.items all.1) }
 {
     let back = Vec::with_capacity(rt.alloc(), hands.len())?;
+    let taken = take_each(rt, hands)?;
+    Ok(all_taken(taken, back))
+}
+
+// What was taken of each hand: by a thread of its own, where threads can run beside one another.
+fn take_each<F: Source + Drop + Send, T: AllocGlobal + Threads + Wait + Sync>(
+    rt: &T,
+    hands: Vec<Vec<(Client, LaneResult<F>)>>,
+) -> Result<Vec<TakenHand<F>>, NoMemory>
+    requires fresh { All IsFreshHand hands.items }
+    ensures { IfOk result (λ taken.
+        AllZip (λ hand one. TakesByOne never 0 hand.items one.lanes.items one.stop) hands.items taken.items) }
+{
+    if has_processors(rt) {
+        take_at_once(rt, hands)
+    } else {
+        take_in_turn(rt, hands)
+    }
+}
+
+// Whether threads can run beside one another here.
+fn has_processors(rt: &impl Threads) -> bool {
+    match thread::available_parallelism(rt) {
+        Ok(count) => count.get() > 1,
+        Err(_) => true,
+    }
+}
+
+// Each hand by a thread of its own.
+fn take_at_once<F: Source + Drop + Send, T: AllocGlobal + Threads + Wait + Sync>(
+    rt: &T,
+    hands: Vec<Vec<(Client, LaneResult<F>)>>,
+) -> Result<Vec<TakenHand<F>>, NoMemory>
+    requires fresh { All IsFreshHand hands.items }
+    ensures { IfOk result (λ taken.
+        AllZip (λ hand one. TakesByOne never 0 hand.items one.lanes.items one.stop) hands.items taken.items) }
+{
     let taken = thread::map_vec(
         rt,
         hands,
@@ -72,7 +109,23 @@ fn take_hands<F: Source + Drop + Send, T: AllocGlobal + Threads + Wait + Sync>(
             ensures { TakesByOne never 0 hand.items result.lanes.items result.stop }
         { take_hand(rt, hand) },
     )?;
-    Ok(all_taken(taken, back))
+    Ok(taken)
+}
+
+// One hand behind another, by the thread that calls.
+fn take_in_turn<F: Source + Drop, T: AllocGlobal + Wait>(
+    rt: &T,
+    hands: Vec<Vec<(Client, LaneResult<F>)>>,
+) -> Result<Vec<TakenHand<F>>, NoMemory>
+    requires fresh { All IsFreshHand hands.items }
+    ensures { IfOk result (λ taken.
+        AllZip (λ hand one. TakesByOne never 0 hand.items one.lanes.items one.stop) hands.items taken.items) }
+{
+    let mut taken = Vec::with_capacity(rt.alloc(), hands.len())?;
+    for hand in hands {
+        taken.push_reserved(take_hand(rt, hand));
+    }
+    Ok(taken)
 }
 
 // One lane behind another. Where memory is refused at one, the others go on.
