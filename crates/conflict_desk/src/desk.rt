@@ -15,7 +15,7 @@ use indexmap::IndexMap;
 use std::alloc::Global;
 use std::marker::Model;
 use upload_reader::Client;
-use visit_replay::{Outcome, Request};
+use visit_replay::{Outcome, Requests};
 
 /// What waits for decisions, by client. Contracts see each client's cases as they were opened, and the decisions that were made on them.
 #[derive(Drop)]
@@ -97,7 +97,7 @@ impl Desk {
     }
 
     /// The requests of a client's visit: those of its outcome, and none where it is cancelled.
-    pub fn requests(&self, client: &Client, visit: u64) -> Option<&[Request]>
+    pub fn requests(&self, client: &Client, visit: u64) -> Option<&Requests>
         ensures { option_map (λ requests. requests.now) result ≡ by_case standing_requests client.now visit self.now }
     {
         self.dockets.get(client)?.requests(visit)

@@ -9,7 +9,7 @@ use page_tree::NoMemory;
 use std::alloc::Global;
 use std::marker::Model;
 use upload_reader::Client;
-use visit_replay::{Difference, Outcome, Request};
+use visit_replay::{Difference, Outcome, Requests};
 
 /// A visit and what became of it: the visit's number and its parent's stand in the client's log, and `visit_replay` gives the outcome.
 #[derive(Debug, Drop)]
@@ -33,13 +33,15 @@ impl Case {
         }
     }
 
-    pub(crate) fn requests(&self) -> &[Request]
+    /// Those of its outcome; these, which are none, where it has none.
+    pub(crate) fn requests<'c>(&'c self, none: &'c Requests) -> &'c Requests
+        requires { none.now ≡ [] }
         ensures { result.now ≡ requests_of self.now.outcome }
     {
         match &self.outcome {
-            Outcome::Untouched => &[],
-            Outcome::Done { requests } => requests.as_slice(),
-            Outcome::Conflict { requests, .. } => requests.as_slice(),
+            Outcome::Untouched => none,
+            Outcome::Done { requests } => requests,
+            Outcome::Conflict { requests, .. } => requests,
         }
     }
 }

@@ -14,7 +14,7 @@ use crate::links::{Link, is_gone, links_of};
 use page_tree::NoMemory;
 use std::alloc::Global;
 use std::marker::Model;
-use visit_replay::{Outcome, Request};
+use visit_replay::{Outcome, Requests};
 
 /// A client's docket with the decisions made on it. Contracts see it as a book. Its cases stand in the order of their visits' numbers, and by a case's
 /// place among them it tells how it stands.
@@ -28,6 +28,8 @@ pub struct OpenDocket {
     gone: Vec<bool>,
     // where the front stands, or the number of cases
     next: usize,
+    // those of a visit that has none
+    none: Requests,
 }
 
 impl Model for OpenDocket {
@@ -59,6 +61,7 @@ impl OpenDocket {
             links,
             gone,
             next,
+            none: Requests::none(),
         })
     }
 
@@ -124,7 +127,7 @@ impl OpenDocket {
     }
 
     /// The requests of the visit of that number: none where it is cancelled.
-    pub(crate) fn requests(&self, visit: u64) -> Option<&[Request]>
+    pub(crate) fn requests(&self, visit: u64) -> Option<&Requests>
         ensures { option_map (λ requests. requests.now) result ≡ at_visit standing_requests self.now visit }
     {
         let place = place_of(self.cases.as_slice(), visit)?;
@@ -155,14 +158,14 @@ impl OpenDocket {
     }
 
     /// The requests of the visit of the case at that place: none where it is cancelled.
-    pub fn requests_at(&self, place: usize) -> &[Request]
+    pub fn requests_at(&self, place: usize) -> &Requests
         requires { place < length self.now.cases }
         ensures { (case : OneCase) → slice_get self.now.cases place ≡ Some case → result.now ≡ standing_requests self.now case }
     {
         if self.is_cancelled_at(place) {
-            return &[];
+            return &self.none;
         }
-        self.cases.as_slice()[place].requests()
+        self.cases.as_slice()[place].requests(&self.none)
     }
 }
 

@@ -2,12 +2,16 @@
 use Rattle.std.proofs.Common.{◌≡◌, ℕ, zero, suc, ◌<◌, List, [], ◌∷◌, ◌++◌, true, false, ◌&&◌, Option, Some, None, option_and_then, refl}
 use Rattle.std.proofs.Common.{◌∙◌, ap, arith}
 use Rattle.std.specs.Prelude.{is_some, codes}
+use Rattle.std.specs.List.{flat_map}
 use Rattle.std.specs.Option.{option_map_or}
 use Rattle.page_tree.specs.Tree.{Tree, element, words, Trees, no_trees, tree}
 use Rattle.page_tree.specs.Look.{children_of, nth_child, count, child_count_at, node_at, name_of, attributes_of, value_of, words_of}
 use Rattle.page_tree.specs.Control.{element_control, child_texts, control_of, is_text, start_text, start_text_of}
 use Rattle.page_tree.specs.Control.{is_switch, start_checked_of}
 use Rattle.page_tree.specs.declared.control.Control.TheVariants.{Other}
+use Rattle.page_tree.specs.Number.{place_numbered}
+use Rattle.page_tree.specs.Started.{words_in, texts_below}
+use Rattle.page_tree.specs.inside.Coming.{texts_coming}
 use Rattle.page_tree.specs.inside.Table.{trees_behind}
 use Rattle.page_tree.specs.inside.Kept.{children_at, words_at}
 use Rattle.page_tree.proofs.Numbers.{parent_there, node_at_child}
@@ -94,3 +98,35 @@ text_step p t i less =
 
 pub text_end : (p : List ℕ) (t : Tree) → child_texts (trees_behind (child_count_at p t) (children_at p t)) ≡ []
 text_end p t = ap (λ k. child_texts (trees_behind k (children_at p t))) (count_is (node_at p t)) ∙ ap child_texts (none_behind (children_at p t))
+
+-- ---- the texts among children, as a list
+
+joined_words : (ts : Trees) → child_texts ts ≡ flat_map (λ w. w) (words_in ts)
+joined_words no_trees = refl
+joined_words (tree t ts) = ap (λ rest. words_of t ++ rest) (joined_words ts)
+
+pub words_joined : (page : Tree) (number : ℕ) → child_texts (children_at (place_numbered number page) page) ≡ flat_map (λ w. w) (texts_below page number)
+words_joined page number = go (node_at (place_numbered number page) page)
+  where
+    go : (o : Option Tree) → child_texts (option_map_or children_of o no_trees) ≡ flat_map (λ w. w) (option_map_or (λ t. words_in (children_of t)) o [])
+    go None = refl
+    go (Some t) = joined_words (children_of t)
+
+pub words_all : (page : Tree) (number : ℕ) → texts_coming page number 0 ≡ texts_below page number
+words_all page number = go (node_at (place_numbered number page) page)
+  where
+    go : (o : Option Tree) → words_in (trees_behind 0 (option_map_or children_of o no_trees)) ≡ option_map_or (λ t. words_in (children_of t)) o []
+    go None = refl
+    go (Some t) = refl
+
+pub words_step : (p : List ℕ) (t : Tree) (i : ℕ) → i < child_count_at p t
+    → words_in (trees_behind i (children_at p t)) ≡ words_at (p ++ i ∷ []) t ∷ words_in (trees_behind (suc i) (children_at p t))
+words_step p t i less =
+    let (m, here, few) = parent_there (node_at p t) i less in
+    let (c, behind, child) = one_behind i (children_of m) few in
+    let children : children_at p t ≡ children_of m = ap (λ o. option_map_or children_of o no_trees) here in
+    let own : words_at (p ++ i ∷ []) t ≡ words_of c = ap (λ o. option_map_or words_of o []) (node_at_child p t m i here ∙ child) in
+    rw (children, own) (ap words_in behind)
+
+pub words_end : (p : List ℕ) (t : Tree) → words_in (trees_behind (child_count_at p t) (children_at p t)) ≡ []
+words_end p t = ap (λ k. words_in (trees_behind k (children_at p t))) (count_is (node_at p t)) ∙ ap words_in (none_behind (children_at p t))

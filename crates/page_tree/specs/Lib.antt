@@ -6,6 +6,7 @@ pub mod Look
 pub mod Number
 pub mod Under
 pub mod Control
+pub mod Started
 pub mod Value
 pub mod FirstFault
 pub mod Fault

@@ -1,4 +1,5 @@
 pub mod Building
+pub mod Coming
 pub mod Cuts
 pub mod Kept
 pub mod Reading

@@ -6,6 +6,7 @@
 #![tactic(auto)]
 
 mod building;
+mod child_texts;
 mod control;
 mod fault;
 mod inspection;
@@ -26,11 +27,13 @@ mod texts;
 mod tree;
 mod walking;
 
+pub use child_texts::ChildTexts;
 pub use control::Control;
 pub use fault::PageFault;
 pub use limits::{MAX_DEPTH, MAX_NAME_BYTES, MAX_NODES};
 pub use memory::NoMemory;
 pub use page::Page;
 pub use place::Place;
+pub use starting::StartText;
 pub use text::{Text, is_name};
 pub use tree::{Attributes, Tree};

@@ -3,6 +3,7 @@ ghost use Rattle.std.specs.Prelude.{ℕ, ◌≡◌, ◌++◌, List, [], IfOk, op
 ghost use Rattle.std.specs.Cow.{cow_str_bytes};
 ghost use Rattle.page_tree.specs.Number.{place_numbered};
 ghost use Rattle.page_tree.specs.Control.{child_texts, start_text_at, start_checked_at};
+ghost use Rattle.page_tree.specs.Started.{text_started};
 ghost use Rattle.page_tree.specs.inside.Kept.{children_at, named_start_text, words_at};
 
 use crate::memory::NoMemory;
@@ -10,7 +11,29 @@ use crate::page::Page;
 use std::alloc::Global;
 use std::borrow::CowStr;
 
+/// The text that a Text control starts with: as it stands in an attribute, or the texts among the children of a `textarea` (`child_texts_of`).
+#[derive(Clone, Copy, Debug)]
+pub enum StartText<'p> {
+    Whole(&'p str),
+    OfChildren,
+}
+
 impl Page {
+    /// The text that a Text control starts with, without a copy of it; none for every other node. It takes no memory.
+    #[tactic(auto, using(crate::proofs::ControlLaws::start_named, crate::proofs::ControlLaws::start_other, crate::proofs::ControlLaws::start_unnamed, crate::proofs::ControlLaws::words_joined))]
+    pub fn start_of(&self, number: u32) -> Option<StartText<'_>>
+        ensures { option_map (text_started self.now number) result ≡ start_text_at (place_numbered number self.now) self.now }
+    {
+        let name = self.name_of(number)?;
+        if !self.element_control(number, name).is_text() {
+            return None;
+        }
+        if name != "textarea" {
+            return Some(StartText::Whole(self.value_of(number, "value").unwrap_or("")));
+        }
+        Some(StartText::OfChildren)
+    }
+
     /// The text that a Text control starts with; none for every other node. It is borrowed from the page but for a `textarea` with several
     /// texts that aren't empty.
     #[tactic(auto, using(crate::proofs::ControlLaws::start_named, crate::proofs::ControlLaws::start_other, crate::proofs::ControlLaws::start_unnamed))]

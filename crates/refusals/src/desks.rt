@@ -47,17 +47,17 @@ fn dockets(alloc: Global) -> Option<Vec<Docket>> {
 
 fn cases(alloc: Global) -> Option<Cases> {
     let mut cases = Cases::new(alloc);
-    cases.push(conflict(alloc, 2)).ok()?;
-    cases.push(conflict(alloc, 3)).ok()?;
+    cases.push(conflict(2)).ok()?;
+    cases.push(conflict(3)).ok()?;
     Some(cases)
 }
 
-fn conflict(alloc: Global, visit: u64) -> Case {
+fn conflict(visit: u64) -> Case {
     Case {
         visit,
         parent: 0,
         outcome: Outcome::Conflict {
-            requests: Requests::new(alloc),
+            requests: Requests::none(),
             at: 1,
             kind: ConflictKind::NoTarget,
         },

@@ -12,8 +12,8 @@ use byte_streams::Sink;
 use std::alloc::Global;
 use upload_reader::HelloFault;
 use warp_run::{
-    Repaired, ReportBuffer, ReportFault, add_end, add_lane_fault, add_quoted, add_repaired,
-    add_stop,
+    Repaired, ReportBuffer, ReportFault, ReportRoom, add_end, add_lane_fault, add_quoted,
+    add_repaired, add_stop,
 };
 
 /// Writes the report of a run, with the lines of the uploads behind the first.
@@ -29,9 +29,10 @@ pub(crate) fn report_folder<W: Sink>(
         (report_with (upload_lines named.now ends.now) repaired.now) result }
 {
     let mut buffer = ReportBuffer::new(alloc)?;
+    let mut room = ReportRoom::new(alloc)?;
     add_stop(&mut buffer, writer, repaired.stop);
     add_uploads(&mut buffer, writer, named, ends);
-    add_repaired(&mut buffer, writer, repaired);
+    add_repaired(&mut buffer, &mut room, writer, repaired);
     buffer.finish(writer)
 }
 

@@ -24,7 +24,7 @@ use Rattle.visit_replay.specs.Difference.{was_asked, asks_now, passing_over}
 use Rattle.visit_replay.specs.Form.{form_request}
 use Rattle.visit_replay.specs.Requests.{link_request, request_at, event_request}
 use Rattle.visit_replay.specs.declared.requests.Request.{Request}
-use Rattle.visit_replay.specs.inside.Differing.{IsTargetOf, Selects, asked_there}
+use Rattle.visit_replay.specs.inside.Differing.{IsTargetOf, Selects}
 use Rattle.visit_replay.specs.inside.OneEvent.{places_numbered}
 use Rattle.visit_replay.proofs.FirstOfNumber.{next_if, find_one, stays, comes}
 use Rattle.visit_replay.proofs.Stepping.{range_more}
@@ -71,30 +71,50 @@ asked_nothing visit k event at none =
     ap (option_and_then (event_request (by_path visit.page) visit.address visit.page (take k visit.events))) at
     ∙ ap (option_and_then (request_at (by_path visit.page) visit.address visit.page (take k visit.events) event (button_of_aim (by_path visit.page event)))) none
 
-pub asked_here : (visit : Visit) (k : ℕ) (event : Event) → slice_get visit.events k ≡ Some event
-    → asked_there (by_path visit.page) visit visit.page k (by_path visit.page event) ≡ was_asked visit k
-asked_here visit k event at =
-    let here = by_path visit.page event in
-    ap (option_and_then (λ e. option_and_then (request_at (by_path visit.page) visit.address visit.page (take k visit.events) e (button_of_aim here)) (place_of_aim here))) at
-    ∙ sym (ap (option_and_then (event_request (by_path visit.page) visit.address visit.page (take k visit.events))) at)
+none_of : {A B : Type 0} (f : A → Option B) (o : Option A) → ((a : A) → f a ≡ None) → option_and_then f o ≡ None
+none_of f None all = refl
+none_of f (Some a) all = all a
 
-pub asked_now : (fresh : List (List ℕ)) (visit : Visit) (new : Tree) (k : ℕ) (event : Event) → slice_get visit.events k ≡ Some event
-    → asked_there (by_element fresh visit.page new) visit new k (passing_over visit.page new event) ≡ asks_now fresh visit new k
-asked_now fresh visit new k event at = rw at refl
+none_at : (aim : Event → Aim) (address : List ℕ) (new : Tree) (earlier : List Event) (event : Event) (button : Option (List ℕ)) (place : List ℕ)
+    → request_of event ≡ 0 → request_at aim address new earlier event button place ≡ None
+none_at aim address new earlier (Input at target value) button place none = refl
+none_at aim address new earlier (Click at target req) button place none = ap (λ n. if n == 0 then None else link_request n place new) none
+none_at aim address new earlier (Submit at target by req) button place none =
+    ap (λ n. if n == 0 then None else Some (form_request aim address new earlier button place n)) none
 
-pub asked_lost : (aim : Event → Aim) (visit : Visit) (page : Tree) (k : ℕ) (here : Aim) → place_of_aim here ≡ None → asked_there aim visit page k here ≡ None
-asked_lost aim visit page k here none = go (slice_get visit.events k)
-  where
-    go : (o : Option Event) → option_and_then (λ event. option_and_then (request_at aim visit.address page (take k visit.events) event (button_of_aim here)) (place_of_aim here)) o ≡ None
-    go None = refl
-    go (Some event) = ap (option_and_then (request_at aim visit.address page (take k visit.events) event (button_of_aim here))) none
+-- where its path leads to one node
+pub asked_where : (visit : Visit) (k : ℕ) (event : Event) (number : ℕ) (button : Option ℕ) → slice_get visit.events k ≡ Some event
+    → by_path visit.page event ≡ acts (place_numbered number visit.page) (places_numbered button visit.page)
+    → request_at (by_path visit.page) visit.address visit.page (take k visit.events) event (places_numbered button visit.page) (place_numbered number visit.page) ≡ was_asked visit k
+asked_where visit k event number button at is =
+    let aim = by_path visit.page in
+    sym (ap (option_and_then (event_request aim visit.address visit.page (take k visit.events))) at
+    ∙ ap (λ a. option_and_then (request_at aim visit.address visit.page (take k visit.events) event (button_of_aim a)) (place_of_aim a)) is)
 
-pub asked_acting : (aim : Event → Aim) (visit : Visit) (page : Tree) (k : ℕ) (here : Aim) (event : Event) (place : List ℕ) (button : Option (List ℕ))
-    → slice_get visit.events k ≡ Some event → here ≡ acts place button
-    → request_at aim visit.address page (take k visit.events) event button place ≡ asked_there aim visit page k here
-asked_acting aim visit page k here event place button at is =
-    sym (ap (option_and_then (λ e. option_and_then (request_at aim visit.address page (take k visit.events) e (button_of_aim here)) (place_of_aim here))) at
-    ∙ ap (λ a. option_and_then (request_at aim visit.address page (take k visit.events) event (button_of_aim a)) (place_of_aim a)) is)
+-- the same of what it asks for now, where what has changed is passed over
+abbrev asks_by : List (List ℕ) → Visit → Tree → ℕ → Event → Aim → Option Request
+asks_by fresh visit new k event aim =
+    option_and_then (request_at (by_element fresh visit.page new) visit.address new (take k visit.events) event (button_of_aim aim)) (place_of_aim aim)
+
+pub asks_where : (fresh : List (List ℕ)) (visit : Visit) (new : Tree) (k : ℕ) (event : Event) (number : ℕ) (button : Option ℕ) → slice_get visit.events k ≡ Some event
+    → passing_over visit.page new event ≡ acts (place_numbered number new) (places_numbered button new)
+    → request_at (by_element fresh visit.page new) visit.address new (take k visit.events) event (places_numbered button new) (place_numbered number new) ≡ asks_now fresh visit new k
+asks_where fresh visit new k event number button at is =
+    sym (ap (option_and_then (λ e. asks_by fresh visit new k e (passing_over visit.page new e))) at ∙ ap (asks_by fresh visit new k event) is)
+
+pub asks_nowhere : (fresh : List (List ℕ)) (visit : Visit) (new : Tree) (k : ℕ) (event : Event) → slice_get visit.events k ≡ Some event → place_of_aim (passing_over visit.page new event) ≡ None
+    → None ≡ asks_now fresh visit new k
+asks_nowhere fresh visit new k event at none =
+    sym (ap (option_and_then (λ e. asks_by fresh visit new k e (passing_over visit.page new e))) at
+    ∙ ap (option_and_then (request_at (by_element fresh visit.page new) visit.address new (take k visit.events) event (button_of_aim (passing_over visit.page new event)))) none)
+
+-- an event without a request asks for nothing there
+pub asks_nothing : (fresh : List (List ℕ)) (visit : Visit) (new : Tree) (k : ℕ) (event : Event) → slice_get visit.events k ≡ Some event → request_of event ≡ 0 → None ≡ asks_now fresh visit new k
+asks_nothing fresh visit new k event at none =
+    let aim = passing_over visit.page new event in
+    sym (ap (option_and_then (λ e. asks_by fresh visit new k e (passing_over visit.page new e))) at
+    ∙ none_of (request_at (by_element fresh visit.page new) visit.address new (take k visit.events) event (button_of_aim aim)) (place_of_aim aim)
+    (λ place. none_at (by_element fresh visit.page new) visit.address new (take k visit.events) event (button_of_aim aim) place none))
 
 -- a recorded page beside one whose looks were made
 abbrev pub beside_looks : Tree → Tree × List (List ℕ) → PagePair
@@ -102,16 +122,12 @@ beside_looks old looks = record { old = old; new = looks.0; fresh = looks.1 }
 
 -- ---- by its number
 
-pub asked_more : (visit : Visit) (k : ℕ)
-    → filter_map (was_asked visit) (range_with_len 0 (k + 1)) ≡ filter_map (was_asked visit) (range_with_len 0 k) ++ cons_option (was_asked visit k) []
-asked_more visit k =
-    let next : k + 1 ≡ suc k = omega arith in
-    rw next (ap (filter_map (was_asked visit)) (range_more 0 k k (omega arith)) ∙ filter_map-append (was_asked visit) (range_with_len 0 k) (k ∷ []))
-
 numbered_more : (visit : Visit) (k number : ℕ)
     → find (λ r. r.number == number) (filter_map (was_asked visit) (range_with_len 0 (k + 1)))
     ≡ find (λ r. r.number == number) (filter_map (was_asked visit) (range_with_len 0 k) ++ cons_option (was_asked visit k) [])
-numbered_more visit k number = ap (find (λ r. r.number == number)) (asked_more visit k)
+numbered_more visit k number =
+    let next : k + 1 ≡ suc k = omega arith in
+    ap (find (λ r. r.number == number)) (rw next (ap (filter_map (was_asked visit)) (range_more 0 k k (omega arith)) ∙ filter_map-append (was_asked visit) (range_with_len 0 k) (k ∷ [])))
 
 pub numbered_none : (visit : Visit) (k number : ℕ) → was_asked visit k ≡ None
     → find (λ r. r.number == number) (filter_map (was_asked visit) (range_with_len 0 (k + 1)))
@@ -120,7 +136,7 @@ numbered_none visit k number none =
     numbered_more visit k number ∙ ap (λ o. find (λ r. r.number == number) (filter_map (was_asked visit) (range_with_len 0 k) ++ cons_option o [])) none
     ∙ ap (find (λ r. r.number == number)) (append-nil (filter_map (was_asked visit) (range_with_len 0 k)))
 
-pub numbered_next : (visit : Visit) (k number : ℕ) (request : Request) → was_asked visit k ≡ Some request
+numbered_next : (visit : Visit) (k number : ℕ) (request : Request) → was_asked visit k ≡ Some request
     → find (λ r. r.number == number) (filter_map (was_asked visit) (range_with_len 0 (k + 1)))
     ≡ option_or (find (λ r. r.number == number) (filter_map (was_asked visit) (range_with_len 0 k))) (next_if (request.number == number) request)
 numbered_next visit k number request is =
@@ -144,17 +160,6 @@ module _ {Y : Type 0} (g : Request → Y) (visit : Visit) (k number : ℕ) (requ
       comes g before request kept request.number number are y new none value updated ∙ ap (option_map g) (sym (numbered_next visit k number request is))
 
 -- ---- what has no request asks for nothing
-
-none_of : {A B : Type 0} (f : A → Option B) (o : Option A) → ((a : A) → f a ≡ None) → option_and_then f o ≡ None
-none_of f None all = refl
-none_of f (Some a) all = all a
-
-none_at : (aim : Event → Aim) (address : List ℕ) (new : Tree) (earlier : List Event) (event : Event) (button : Option (List ℕ)) (place : List ℕ)
-    → request_of event ≡ 0 → request_at aim address new earlier event button place ≡ None
-none_at aim address new earlier (Input at target value) button place none = refl
-none_at aim address new earlier (Click at target req) button place none = ap (λ n. if n == 0 then None else link_request n place new) none
-none_at aim address new earlier (Submit at target by req) button place none =
-    ap (λ n. if n == 0 then None else Some (form_request aim address new earlier button place n)) none
 
 pub none_asked : (visit : Visit) (k : ℕ) → IfSome (slice_get visit.events k) (λ event. request_of event ≡ 0) → was_asked visit k ≡ None
 none_asked visit k none = go (slice_get visit.events k) none

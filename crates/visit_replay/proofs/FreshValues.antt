@@ -1,6 +1,6 @@
 -- Where the values of fresh names are left out, what counts of a request stays.
 use Rattle.std.proofs.Common.{◌≡◌, ◌≢◌, ℕ, ◌<◌, ◌==◌, List, [], ◌∷◌, ◌++◌, map, filter, drop, not, Bool, true, false, cond, ◌||◌, ◌&&◌, if◌then◌else◌, All, Option, Some, None, option_map, unwrap_or, is_some, ◌+◌, IsUtf8, codes, refl, sym, ap, ap₂, ◌∙◌, subst, ⊎_elim, append_assoc, append-nil, one-add, arith}
-use Rattle.std.specs.List.{before_first, filter_map, find, list_any, position_or_len, range_with_len, slice_split}
+use Rattle.std.specs.List.{before_first, list_any, position_or_len, slice_split}
 use Rattle.std.specs.Str.{bytes_eq}
 use Rattle.std.specs.Str.Lossy.{utf8_lossy}
 use Rattle.std.proofs.lemmas.Bool.{ne_eqb}
@@ -12,15 +12,17 @@ use Rattle.form_urlencoded.specs.Form.{byte_serialize, decode, extend_pairs, ser
 use Rattle.form_urlencoded.proofs.FormLemmas.{IsSerializedByte, All-byte_serialize, decode-byte_serialize, split_once_before_at, split_once_after_at, split_once_before_none}
 use Rattle.page_looks.specs.Outline.{is_one_of}
 use Rattle.page_looks.specs.Sending.{is_passed_over, kept_pairs, query_text, unmarked_without, without_fresh}
-use Rattle.client_log.specs.declared.visit.Visit.{Visit}
-use Rattle.visit_replay.specs.Difference.{are_alike, was_asked}
+use Rattle.visit_replay.specs.Difference.{are_alike}
 use Rattle.visit_replay.specs.Form.{Pair, bare, sent_to}
-use Rattle.visit_replay.specs.inside.Differing.{kept_beside, only_numbered}
-use Rattle.visit_replay.specs.inside.FieldsNow.{IsButFor, is_of_one, told, without_those}
+use Rattle.visit_replay.specs.inside.FieldsNow.{is_of_one, told}
+use Rattle.visit_replay.specs.inside.Tellings.{pairs_told, told_counted, told_request}
+use Rattle.visit_replay.specs.declared.told.ToldRequest.{ToldRequest}
+use Rattle.visit_replay.specs.declared.told.ToldRequest.TheVariants.{Load, Link, Form}
+use Rattle.visit_replay.specs.declared.told.ToldForm.{ToldForm}
 use Rattle.visit_replay.specs.declared.requests.Method.{Method}
 use Rattle.visit_replay.specs.declared.requests.Method.TheVariants.{Get, Post}
 use Rattle.visit_replay.specs.declared.requests.Request.{Request}
-use Rattle.visit_replay.proofs.Asking.{numbered_stays, numbered_comes}
+use Rattle.page_looks.proofs.CounterpartLaws.{bytes_same}
 use Rattle.visit_replay.proofs.Cut.{before_first-cons}
 use Rattle.visit_replay.proofs.LeftBehind.{joined, joined_first}
 
@@ -195,6 +197,13 @@ same_sent_pairs : (fresh : List (List ℕ)) (pairs : List Pair)
     → without_fresh fresh (codes "?" ++ extend_pairs [] (told true fresh pairs)) ≡ without_fresh fresh (codes "?" ++ extend_pairs [] pairs)
 same_sent_pairs fresh pairs = same_address fresh [] pairs
 
+-- a request without the pairs of these names
+abbrev without_those : List (List ℕ) → Request → Request
+without_those names r = record r {
+  address = without_fresh names r.address;
+  pairs = without_fresh names (codes "?" ++ r.pairs);
+}
+
 abbrev made : ℕ → Method → List ℕ → List ℕ → Request
 made number method address pairs = record { number = number; method = method; address = address; pairs = pairs }
 
@@ -207,75 +216,36 @@ pub sent_number : (post : Bool) (number : ℕ) (action pairs : List ℕ) → (se
 sent_number true number action pairs = refl
 sent_number false number action pairs = refl
 
-pub is_but_for_none : (names : List (List ℕ)) (it request : Option Request) → it ≡ request → IsButFor names it request
-is_but_for_none names it request same = (λ none. same, ap (λ (o : Option Request). option_map (without_those names) o) same)
+-- ---- what is told without those values counts as what is told with them
 
-pub form_is : (counted : Bool) (names : List (List ℕ)) (post : Bool) (number : ℕ) (action : List ℕ) (pairs : List Pair)
-    → IsButFor (if counted then names else []) (Some (sent_to post number action (extend_pairs [] (told counted names pairs)))) (Some (sent_to post number action (extend_pairs [] pairs)))
-form_is false names post number action pairs = is_but_for_none [] (Some (sent_to post number action (extend_pairs [] pairs))) (Some (sent_to post number action (extend_pairs [] pairs))) refl
-form_is true names post number action pairs = (
-  λ none. ap (λ them. Some (sent_to post number action (extend_pairs [] them))) (ap (λ n. told true n pairs) none ∙ none_left_out pairs),
-  ap Some (same_request names post number action pairs),
-)
+same_counts : (fresh : List (List ℕ)) (told : ToldRequest) → without_those fresh (told_counted fresh told) ≡ without_those fresh (told_request told)
+same_counts fresh (Load text) = refl
+same_counts fresh (Link number text) = refl
+same_counts fresh (Form form) = same_request fresh form.post form.number form.action.now (pairs_told form.pairs)
 
-pub alike_for : (fresh : List (List ℕ)) (a b is : Request) → without_those fresh a ≡ without_those fresh b → are_alike fresh a is ≡ are_alike fresh b is
-alike_for fresh a b is same =
-    ap (λ (r : Request). bytes_eq r.address (without_fresh fresh is.address) && bytes_eq r.pairs (without_fresh fresh (codes "?" ++ is.pairs))) same
+pub alike_counted : (fresh : List (List ℕ)) (was is : ToldRequest) → are_alike fresh (told_counted fresh was) (told_counted fresh is) ≡ are_alike fresh (told_request was) (told_request is)
+alike_counted fresh was is =
+    ap₂ (λ (a b : Request). bytes_eq a.address b.address && bytes_eq a.pairs b.pairs) (same_counts fresh was) (same_counts fresh is)
 
--- ---- what is asked without those values stands for what is asked with them
+-- two forms that send the same that counts, to one place
+same_text : (text : List ℕ) → bytes_eq text text ≡ true
+same_text text = bytes_same text text refl
 
-pub none_for : (names : List (List ℕ)) (o : Option Request) → IsButFor names None o → o ≡ None
-none_for names None is = refl
-none_for names (Some whole) is = let apart : None ≡ Some (without_those names whole) = is.1 in cc
+both_same : (fresh : List (List ℕ)) (a b : Request) → a.address ≡ b.address → a.pairs ≡ b.pairs → are_alike fresh a b ≡ true
+both_same fresh a b addresses pairs =
+    ap₂ (λ (x y : List ℕ). bytes_eq (without_fresh fresh x) (without_fresh fresh b.address) && bytes_eq (without_fresh fresh (codes "?" ++ y)) (without_fresh fresh (codes "?" ++ b.pairs))) addresses pairs
+    ∙ ap₂ (λ (x y : Bool). x && y) (same_text (without_fresh fresh b.address)) (same_text (without_fresh fresh (codes "?" ++ b.pairs)))
 
-pub whole_is : (names : List (List ℕ)) (was : Request) (o : Option Request) → IsButFor names (Some was) o → o ≡ Some (unwrap_or o was)
-whole_is names was None is = let apart : Some (without_those names was) ≡ None = is.1 in cc
-whole_is names was (Some whole) is = refl
+sent_alike : (fresh : List (List ℕ)) (post : Bool) (number number' : ℕ) (action action' pairs : List ℕ) → (if post then action else bare action) ≡ (if post then action' else bare action')
+    → are_alike fresh (sent_to post number action pairs) (sent_to post number' action' pairs) ≡ true
+sent_alike fresh true number number' action action' pairs same = both_same fresh (sent_to true number action pairs) (sent_to true number' action' pairs) same refl
+sent_alike fresh false number number' action action' pairs same =
+    both_same fresh (sent_to false number action pairs) (sent_to false number' action' pairs) (ap (λ start. start ++ codes "?" ++ pairs) same) refl
 
-pub whole_counts : (names : List (List ℕ)) (was : Request) (o : Option Request) → IsButFor names (Some was) o → without_those names was ≡ without_those names (unwrap_or o was)
-whole_counts names was None is = refl
-whole_counts names was (Some whole) is = let same : Some (without_those names was) ≡ Some (without_those names whole) = is.1 in cc
-
-pub whole_number : (names : List (List ℕ)) (was : Request) (o : Option Request) → IsButFor names (Some was) o → was.number ≡ (unwrap_or o was).number
-whole_number names was o is = ap (λ (r : Request). r.number) (whole_counts names was o is)
-
-kept_whole : (fresh : List (List ℕ)) (only : Option (Option Request)) (was whole : Request) (b : Bool) → without_those fresh was ≡ without_those fresh whole
-    → kept_beside fresh only was ≡ (if b then Some was else None) → kept_beside fresh only whole ≡ (if b then Some whole else None)
-kept_whole fresh None was whole true same is = let apart : None ≡ Some was = is in cc
-kept_whole fresh None was whole false same is = refl
-kept_whole fresh (Some None) was whole true same is = refl
-kept_whole fresh (Some None) was whole false same is = let apart : Some was ≡ None = is in cc
-kept_whole fresh (Some (Some now)) was whole b same is = go (are_alike fresh was now) b (sym (alike_for fresh was whole now same)) is
-  where
-    go : (a b : Bool) → are_alike fresh whole now ≡ a → (if a then None else Some was) ≡ (if b then Some was else None)
-        → (if are_alike fresh whole now then None else Some whole) ≡ (if b then Some whole else None)
-    go true true alike is = let apart : None ≡ Some was = is in cc
-    go true false alike is = ap (λ (t : Bool). if t then None else Some whole) alike
-    go false true alike is = ap (λ (t : Bool). if t then None else Some whole) alike
-    go false false alike is = let apart : Some was ≡ None = is in cc
-
-module _ (fresh : List (List ℕ)) (requests : List Request) (visit : Visit) (k number : ℕ) (was : Request) (is : IsButFor fresh (Some was) (was_asked visit k))
-    (kept : ℕ → Option (Option Request))
-    (are : kept number ≡ option_map (kept_beside fresh (only_numbered requests number)) (find (λ r. r.number == number) (filter_map (was_asked visit) (range_with_len 0 k)))) where
-  abbrev whole : Request
-  whole = unwrap_or (was_asked visit k) was
-
-  pub whole_stays : is_some (kept was.number) ≡ true
-      → kept number ≡ option_map (kept_beside fresh (only_numbered requests number)) (find (λ r. r.number == number) (filter_map (was_asked visit) (range_with_len 0 (k + 1))))
-  whole_stays there =
-      numbered_stays (kept_beside fresh (only_numbered requests number)) visit k number whole (whole_is fresh was (was_asked visit k) is) kept are
-      (ap (λ n. is_some (kept n)) (sym (whole_number fresh was (was_asked visit k) is)) ∙ there)
-
-  pub whole_comes : (b : Bool) → kept_beside fresh (only_numbered requests was.number) was ≡ (if b then Some was else None)
-      → (y : Option Request) → y ≡ (if b then was_asked visit k else None) → (new : Option (Option Request)) → is_some (kept was.number) ≡ false
-      → new ≡ (if was.number == number then Some y else kept number)
-      → new ≡ option_map (kept_beside fresh (only_numbered requests number)) (find (λ r. r.number == number) (filter_map (was_asked visit) (range_with_len 0 (k + 1))))
-  whole_comes b told y value new none updated =
-      let same = whole_number fresh was (was_asked visit k) is in
-      let told_whole : kept_beside fresh (only_numbered requests was.number) whole ≡ (if b then Some whole else None) =
-      kept_whole fresh (only_numbered requests was.number) was whole b (whole_counts fresh was (was_asked visit k) is) told in
-      let y_is : y ≡ (if b then Some whole else None) = value ∙ ap (λ o. if b then o else None) (whole_is fresh was (was_asked visit k) is) in
-      numbered_comes (kept_beside fresh (only_numbered requests number)) visit k number whole (whole_is fresh was (was_asked visit k) is) kept are y new
-      (ap (λ n. is_some (kept n)) (sym same) ∙ none)
-      (λ here. y_is ∙ sym told_whole ∙ ap (λ n. kept_beside fresh (only_numbered requests n) whole) (same ∙ here))
-      (updated ∙ ap (λ n. if n == number then Some y else kept number) same)
+pub forms_alike : (fresh : List (List ℕ)) (was is : ToldForm) → was.post ≡ is.post → (if was.post then was.action.now else bare was.action.now) ≡ (if is.post then is.action.now else bare is.action.now)
+    → told true fresh (pairs_told was.pairs) ≡ told true fresh (pairs_told is.pairs) → are_alike fresh (told_request (Form was)) (told_request (Form is)) ≡ true
+forms_alike fresh was is post start pairs =
+    sym (alike_counted fresh (Form was) (Form is))
+    ∙ ap₂ (λ (p : Bool) (them : List Pair). are_alike fresh (sent_to p was.number was.action.now (extend_pairs [] them)) (sent_to is.post is.number is.action.now (extend_pairs [] (told true fresh (pairs_told is.pairs))))) post pairs
+    ∙ sent_alike fresh is.post was.number is.number was.action.now is.action.now (extend_pairs [] (told true fresh (pairs_told is.pairs)))
+    (ap (λ p. if p then was.action.now else bare was.action.now) (sym post) ∙ start)

@@ -117,7 +117,7 @@ module _ (finding : Option (List (List ℕ))) (visit : Visit) (outcome : Outcome
     ];
   }
 
-  module _ (new : Numbers) (apart : Bool) (pending : is_pending (get nat_cmp old n) ≡ true) (answer_is : apart ≡ are_apart finding (own_request visit k) (address_now outcome n))
+  module _ (new : Numbers) (apart : Bool) (pending : is_pending (get nat_cmp old n) ≡ true) (answer_is : n ≢ 0 → apart ≡ are_apart finding (own_request visit k) (address_now outcome n))
       (put : (m : ℕ) → get nat_cmp new m ≡ (if n == m then Some (Some apart) else get nat_cmp old m)) where
     here_now : (m : ℕ) → (n == m) ≡ true → get nat_cmp new m ≡ Some (Some apart)
     here_now m same = put m ∙ ap (λ b. if b then Some (Some apart) else get nat_cmp old m) same
@@ -133,7 +133,7 @@ module _ (finding : Option (List (List ℕ))) (visit : Visit) (outcome : Outcome
             let was : get nat_cmp old m ≡ Some None = ap (get nat_cmp old) (sym same.1) ∙ pending_is (get nat_cmp old n) pending in
             let moved = moved_at finding visit outcome m k some (comes_here m same.0 (met.pending m some was)) in
             let mine : answer ≡ apart = cc in
-            mine ∙ answer_is ∙ ap (λ x. are_apart finding (own_request visit k) (address_now outcome x)) same.1 ∙ sym moved
+            mine ∙ answer_is (λ none. some (sym same.1 ∙ none)) ∙ ap (λ x. are_apart finding (own_request visit k) (address_now outcome x)) same.1 ∙ sym moved
         | inr other ↦ met.found m answer some (sym (there_still m other.0) ∙ at)
       ];
       pending = λ m some at. elim (eqb_tells n m) [

@@ -15,14 +15,27 @@ use Rattle.visit_replay.specs.Form.{Pair, sent_name, sent_value}
 use Rattle.visit_replay.specs.inside.KeptFields.{text_now, is_on_now}
 use Rattle.visit_replay.specs.declared.forms.Filled.{Filled}
 use Rattle.visit_replay.specs.declared.senders.Sender.{Sender}
+use Rattle.visit_replay.specs.declared.senders.MaySend.TheVariants.{Text}
+use Rattle.page_tree.specs.declared.starting.StartText.TheVariants.{Whole}
 use Rattle.visit_replay.specs.inside.FieldsNow.{OfSent, is_of_one, pair_now, pairs_now, told}
 use Rattle.visit_replay.specs.inside.OneEvent.{IsWithin}
-use Rattle.visit_replay.specs.inside.Senders.{SaysFresh, IsSender, sent_all}
+use Rattle.visit_replay.specs.inside.Senders.{SaysCounted, SaysFresh, IsSender, sent_all}
 use Rattle.visit_replay.proofs.FieldsStandForEvents.{same_sent}
+use Rattle.visit_replay.proofs.Places.{read_here}
 
 -- those from the i-th on
 left_here : {A : Type 0} (xs : List A) (i : ℕ) (x : A) → i < length xs → x ≡ get_or xs i x → drop i xs ≡ x ∷ drop (i + 1) xs
 left_here xs i x below is = at_drop_more (λ l. l) xs i x below ∙ ap (λ y. y ∷ drop (i + 1) xs) (sym is)
+
+-- what a read past the end of senders would give, and the one there
+abbrev pub no_sender : Sender
+no_sender = record { number = 0; name = record { ref_ptr = (0, 0); now = [] }; is_fresh = false; sends = Text (Whole (record { ref_ptr = (0, 0); now = [] })) }
+
+abbrev pub sender_there : List Sender → ℕ → Sender
+sender_there senders i = get_or senders i no_sender
+
+pub sender_is : (senders : List Sender) (i : ℕ) → i < length senders → sender_there senders i ≡ get_or senders i (sender_there senders i)
+sender_is senders i below = read_here senders i no_sender below
 
 pub sent_from : (filled : Filled) (senders : List Sender) (i : ℕ) (sender : Sender) → i < length senders → sender ≡ get_or senders i sender
     → sent_all filled (drop i senders) ≡ cons_option (pair_now filled sender.number) (sent_all filled (drop (i + 1) senders))
@@ -77,10 +90,10 @@ told_here names filled sender is marked =
     let whole = sender_sends filled sender is in
     ap (λ o. told true names (cons_option o [])) whole ∙ told_of names sender.name.now (value_now filled sender.number) sender.is_fresh marked ∙ ap (λ (o : Option Pair). if sender.is_fresh then [] else cons_option o []) (sym whole)
 
-pub told_either : (counted : Bool) (names : List (List ℕ)) (filled : Filled) (sender : Sender) → IsSender filled.page.now sender → SaysFresh names sender
+pub told_either : (counted : Bool) (names : List (List ℕ)) (filled : Filled) (sender : Sender) → IsSender filled.page.now sender → SaysCounted counted names sender
     → told counted names (cons_option (pair_now filled sender.number) []) ≡ (if counted && sender.is_fresh then [] else cons_option (pair_now filled sender.number) [])
 told_either false names filled sender is marked = refl
-told_either true names filled sender is marked = told_here names filled sender is marked
+told_either true names filled sender is marked = told_here names filled sender is (marked refl)
 
 -- of the nodes up to one number, and of that one
 pub numbered_more : (filled : Filled) (start number : ℕ) → start ≤ number → pairs_now filled start (number + 1) ≡ pairs_now filled start number ++ cons_option (pair_now filled number) []
@@ -99,10 +112,10 @@ none_numbered filled start = let none : start - start ≡ 0 = omega arith in ap 
 pub sender_more : (filled : Filled) (senders : List Sender) (sender : Sender) → sent_all filled (senders ++ sender ∷ []) ≡ sent_all filled senders ++ cons_option (pair_now filled sender.number) []
 sender_more filled senders sender = filter_map-append (λ s. pair_now filled s.number) senders (sender ∷ [])
 
--- the nodes of a form send what it sends behind the events that its fields stand for
+-- the nodes of a form send what it sends, whatever the fields hold
 pub sent_under : (filled : Filled) (page : Tree) → filled.page.now ≡ page → (form start end : ℕ) → IsWithin filled.button page
     → places_under (place_numbered form page) page ≡ map (λ k. place_numbered k page) (range_with_len start (end - start)) → start ≤ end → end ≤ nodes page
     → OfSent filled form (λ pairs. pairs_now filled start end ≡ pairs)
-sent_under filled page on form start end within under some few = λ aim before kept.
-    same_sent filled aim before (place_numbered form filled.page.now) start end kept (subst (IsWithin filled.button) (sym on) within)
+sent_under filled page on form start end within under some few = λ text states held.
+    same_sent filled text states (place_numbered form filled.page.now) start end held (subst (IsWithin filled.button) (sym on) within)
     (subst (λ p. places_under (place_numbered form p) p ≡ map (λ k. place_numbered k p) (range_with_len start (end - start))) (sym on) under) some (subst (λ p. end ≤ nodes p) (sym on) few)

@@ -1,5 +1,5 @@
 -- A walk over events, as far as it has come.
-use Rattle.std.proofs.Common.{◌≡◌, ℕ, zero, suc, true, false, cond, if◌then◌else◌, ◌+◌, ◌<◌, List, [], ◌∷◌, ◌++◌, length, take, get_or, Bool, Option, Some, None, is_some, option_map, option_and_then, slice_get, refl, sym, ◌∙◌, ap, arith}
+use Rattle.std.proofs.Common.{◌≡◌, ℕ, zero, suc, true, false, cond, if◌then◌else◌, ◌+◌, ◌<◌, List, [], ◌∷◌, ◌++◌, length, take, get_or, Bool, Option, Some, None, is_some, option_map, option_and_then, slice_get, Result, Ok, Err, OnOk, refl, sym, ◌∙◌, ap, arith}
 use Rattle.std.specs.List.{filter_map, find, range_with_len, cons_option}
 use Rattle.std.specs.Option.{option_map_or}
 use Rattle.std.proofs.lemmas.List.Elements.{filter_map-append}
@@ -19,6 +19,11 @@ use Rattle.visit_replay.specs.declared.outcome.Outcome.{Outcome}
 use Rattle.visit_replay.specs.declared.outcome.Outcome.TheVariants.{Untouched}
 use Rattle.visit_replay.specs.Outcome.{is_affected, conflict_of, first_conflict, at_end, at_event, on_page, outcome}
 
+-- what holds in any case
+pub on_any : {T E P : Type 0} (r : Result T E) → P → OnOk r P
+on_any (Ok x) holds = holds
+on_any (Err e) holds = tt
+
 -- ---- requests
 
 pub range_more : (a n j : ℕ) → a + n ≡ j → range_with_len a (suc n) ≡ range_with_len a n ++ j ∷ []
@@ -37,7 +42,7 @@ requests_more aim address new events i event below is =
 
 -- ---- the first that can't be replayed
 
-first_in_range : (p : ℕ → Bool) (at n j : ℕ) → j < n → ((k : ℕ) → k < j → p (at + k) ≡ false) → p (at + j) ≡ true → find p (range_with_len at n) ≡ Some (at + j)
+pub first_in_range : (p : ℕ → Bool) (at n j : ℕ) → j < n → ((k : ℕ) → k < j → p (at + k) ≡ false) → p (at + j) ≡ true → find p (range_with_len at n) ≡ Some (at + j)
 first_in_range p at zero j below none is = absurd (omega (arith, below))
 first_in_range p at (suc n) zero below none is = let here : at + 0 ≡ at = omega arith in
     ap (λ b. cond b (Some at) (find p (range_with_len (at + 1) n))) (ap p (sym here) ∙ is) ∙ ap Some (sym here)

@@ -1,7 +1,7 @@
 -- What a visit asked for on the page that it was made on, where that differs from what its replay asks for: this
 -- project's own rule. It is told where events find their places by their elements, and the values of fresh names don't
 -- count.
-use Rattle.std.specs.Prelude.{ℕ, ◌-◌, List, map, take, length, Bool, ◌&&◌, ◌++◌, ◌==◌, if◌then◌else◌, Option, Some, None, option_and_then, slice_get, codes}
+use Rattle.std.specs.Prelude.{ℕ, ◌-◌, List, [], ◌∷◌, map, take, length, Bool, ◌&&◌, ◌++◌, ◌==◌, if◌then◌else◌, Option, Some, None, option_and_then, slice_get, codes}
 use Rattle.std.specs.List.{find, filter_map, range_with_len}
 use Rattle.std.specs.Option.{option_map_or}
 use Rattle.std.specs.Str.{bytes_eq}
@@ -69,3 +69,12 @@ difference_by fresh visit new other = None
 
 abbrev pub difference : Option (List (List ℕ)) → Visit → Option Tree → Outcome → Option Contrast
 difference same visit new given = option_and_then (λ fresh. difference_by fresh visit new given) same
+
+-- the first of what requests were, where it differs, and the others
+abbrev pub first_was : List (Option Request) → Option Request
+first_was [] = None
+first_was (was ∷ former) = was
+
+abbrev pub others_behind : List (Option Request) → List (Option Request)
+others_behind [] = []
+others_behind (was ∷ former) = former

@@ -51,11 +51,15 @@ sent_pair text on pressed new place =
     let value = sent_value (control_at place new) text on pressed new place in
     option_and_then (λ name. option_map (λ v. (name, v)) value) (sent_name place new)
 
--- of all nodes under the form, in document order, where `by` is the place of the pressed button
+-- of all nodes under the form, in document order, by what each field holds and which checkboxes are on, where `by` is
+-- the place of the pressed button
+abbrev pub pairs_held : (List ℕ → List ℕ) → (List ℕ → Bool) → Tree → Option (List ℕ) → List ℕ → List Pair
+pairs_held text on new by form = filter_map
+    (λ place. sent_pair (text place) (on place) (is_there place by) new place) (places_under form new)
+
+-- the same behind those events
 abbrev pub pairs_of : (Event → Aim) → Tree → List Event → Option (List ℕ) → List ℕ → List Pair
-pairs_of aim new before by form =
-    filter_map (λ place. sent_pair (value_before aim new before place) (is_on_before aim new before place)
-    (is_there place by) new place) (places_under form new)
+pairs_of aim new before by form = pairs_held (value_before aim new before) (is_on_before aim new before) new by form
 
 -- the pairs as `application/x-www-form-urlencoded` (section 17.13.4)
 abbrev pub encoded_pairs : (Event → Aim) → Tree → List Event → Option (List ℕ) → List ℕ → List ℕ

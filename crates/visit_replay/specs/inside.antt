@@ -2,8 +2,15 @@ pub mod FieldsNow
 pub mod KeptFields
 pub mod OneEvent
 pub mod Senders
+pub mod Deeds
+pub mod Trails
+pub mod Boards
+pub mod Tellings
+pub mod Told
+pub mod Marks
 pub mod Queries
 pub mod Moves
 pub mod Families
+pub mod FirstDeeds
 pub mod Differing
 pub mod TouchedFields

@@ -1,14 +1,16 @@
 //! Whether an address is the one that a form sends to. It is compared with the form's pairs as these come, up to the first byte that differs: no text of
 //! them is made.
 ghost use Rattle.std.specs.Prelude.{◌≡◌, [], ◌++◌, All, option_map, codes};
+ghost use Rattle.std.specs.List.{flat_map};
 ghost use Rattle.std.specs.Str.{bytes_eq};
 ghost use Rattle.form_urlencoded.specs.Form.{byte_serialize, extend_pairs, serialize_pair};
-ghost use Rattle.visit_replay.specs.inside.FieldsNow.{left_behind, pair_of};
+ghost use Rattle.visit_replay.specs.inside.FieldsNow.{left_behind, pair_of, value_sent};
 ghost use Rattle.visit_replay.specs.inside.Senders.{IsSender, sent_all};
 
 use crate::encoded_words::word_behind;
-use crate::forms::{Filled, SentPair, sent_by};
+use crate::forms::{Filled, SentPair, SentValue, sent_by};
 use crate::senders::Sender;
+use page_tree::ChildTexts;
 
 /// Whether the address is that start, a `?` and the pairs of a form whose senders these are.
 pub(crate) fn is_sent_to(
@@ -64,7 +66,28 @@ pub(crate) fn pair_behind<'t>(mark: &str, sent: &SentPair<'_>, text: &'t [u8]) -
     let name = behind(mark, text)?;
     let equals = word_behind(sent.name, name)?;
     let value = behind("=", equals)?;
-    word_behind(sent.value, value)
+    value_behind(sent.value, value)
+}
+
+// Behind the value as it is encoded.
+fn value_behind<'t>(value: SentValue<'_>, text: &'t [u8]) -> Option<&'t [u8]>
+    ensures { option_map (λ rest. rest.now) result ≡ left_behind (byte_serialize (value_sent value.entry)) text.now }
+{
+    match value {
+        SentValue::Text(word) => word_behind(word, text),
+        SentValue::Children { page, number } => words_behind(page.child_texts_of(number), text),
+    }
+}
+
+fn words_behind<'t>(words: ChildTexts<'_>, text: &'t [u8]) -> Option<&'t [u8]>
+    ensures { option_map (λ rest. rest.now) result ≡ left_behind (byte_serialize (flat_map (λ w. w) words.entry)) text.now }
+{
+    let mut words = words;
+    let mut rest = text;
+    while let Some(word) = words.next() {
+        rest = word_behind(word, rest)?;
+    }
+    Some(rest)
 }
 
 /// Behind that front.

@@ -1,51 +1,11 @@
 //! What is told of a visit's requests, where its replay asks for something else.
 ghost use Rattle.std.specs.Prelude.{◌≡◌, [], ◌∷◌, ◌++◌, None, Some, IfOk, OnOk, OnErr, option_map};
 
-use crate::requests::Request;
+use crate::former::Former;
+use crate::single::Single;
 use page_tree::NoMemory;
 use std::alloc::Global;
 use std::marker::Model;
-
-/// What requests were, each where it differs. Contracts see a list.
-#[derive(Debug, Drop)]
-pub struct Former {
-    items: Vec<Option<Request>>,
-}
-
-impl Model for Former {
-    ghost use Rattle.std.specs.Prelude.{List, Option};
-    ghost use Rattle.visit_replay.specs.declared.requests.Request.{Request};
-
-    ghost Value = { List (Option Request) };
-
-    ghost view = { λ f. f.items.items };
-}
-
-impl Former {
-    /// Of no requests. It takes no memory.
-    pub fn new(alloc: Global) -> Former
-        ensures { result ≡ [] }
-    {
-        Former {
-            items: Vec::new(alloc),
-        }
-    }
-
-    /// Of one request more, or nothing changed.
-    pub fn push(&mut self, was: Option<Request>) -> Result<(), NoMemory>
-        ensures ok { OnOk result (self.new ≡ self.old ++ was ∷ []) }
-        ensures err { OnErr result (self.new ≡ self.old) }
-    {
-        self.items.push(was)?;
-        Ok(())
-    }
-
-    pub fn as_slice(&self) -> &[Option<Request>]
-        ensures { result.now ≡ self.now }
-    {
-        self.items.as_slice()
-    }
-}
 
 /// What a visit asked for, where its replay asks for something else.
 #[derive(Debug, Drop)]
@@ -56,8 +16,8 @@ pub enum Contrast {
     },
     /// Of one that stops since an element has changed (K11): what its event asked for, and what it asks for now.
     Changed {
-        was: Option<Request>,
-        now: Option<Request>,
+        was: Option<Single>,
+        now: Option<Single>,
     },
 }
 

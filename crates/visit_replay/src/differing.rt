@@ -1,43 +1,42 @@
 //! What a visit asked for on the page that it was made on, where that differs from what its replay asks for.
-ghost use Rattle.std.specs.Prelude.{List, ◌≡◌, ◌+◌, ◌<◌, ◌≤◌, length, map, take, slice_get, Some, IfOk, IfSome, OnOk, option_and_then};
-ghost use Rattle.std.specs.List.{Contains};
-ghost use Rattle.upload_reader.specs.declared.message.Event.{Event as PlainEvent};
-ghost use Rattle.client_log.specs.declared.visit.Visit.{Visit as PlainVisit};
-ghost use Rattle.visit_replay.specs.Aim.{Aim, by_path};
-ghost use Rattle.visit_replay.specs.Difference.{difference, was_asked, was_other, asks_now};
+ghost use Rattle.std.specs.Prelude.{ℕ, List, ◌≡◌, ◌+◌, ◌<◌, ◌≤◌, [], ◌∷◌, All, length, map, slice_get, Some, None, IfOk, IfSome, IsFalse, OnOk, option_and_then};
+ghost use Rattle.upload_reader.specs.Session.{request_of};
+ghost use Rattle.visit_replay.specs.Aim.{by_path};
+ghost use Rattle.visit_replay.specs.Difference.{are_alike, difference, was_asked, was_other, asks_now};
 ghost use Rattle.visit_replay.specs.declared.difference.Contrast.TheVariants.{Changed};
-ghost use Rattle.visit_replay.specs.declared.requests.Request.{Request as PlainRequest};
-ghost use Rattle.visit_replay.specs.inside.Differing.{AreCompared, AreLookedUp, HasOnly, KnowsInputs, KnowsOwn, HasNumbered, IsTargetOf, asked_there};
-ghost use Rattle.visit_replay.specs.inside.FieldsNow.{IsButFor};
-ghost use Rattle.visit_replay.specs.inside.KeptFields.{Keeps, TakesIn};
-ghost use Rattle.visit_replay.specs.inside.OneEvent.{AimsAt, IsBetween, aimed};
-ghost use Rattle.visit_replay.specs.inside.Senders.{KnowsForms, names_left};
+ghost use Rattle.visit_replay.specs.inside.Boards.{IsOn};
+ghost use Rattle.visit_replay.specs.inside.Deeds.{requests_on};
+ghost use Rattle.visit_replay.specs.inside.Differing.{AreCompared, AreLookedUp, KnowsInputs, KnowsPaths, other_by};
+ghost use Rattle.visit_replay.specs.inside.FirstDeeds.{FindsFirst};
+ghost use Rattle.visit_replay.specs.inside.Marks.{AreMarks};
+ghost use Rattle.visit_replay.specs.inside.OneEvent.{IsBetween, aimed};
+ghost use Rattle.visit_replay.specs.inside.Tellings.{told_request, KnowsFresh};
+ghost use Rattle.visit_replay.specs.inside.Told.{told_marked};
+ghost use Rattle.visit_replay.specs.inside.Trails.{IsTrailOf, asked_at, asked_from};
 
 use crate::aims::{Aiming, aim_at};
-use crate::asked_alike::asking_end;
+use crate::board::Board;
 use crate::comparisons::Comparisons;
 use crate::conflicts::Located;
-use crate::difference::{Contrast, Difference, Former};
-use crate::fields::Fields;
+use crate::difference::{Contrast, Difference};
 use crate::finding::Finding;
-use crate::forms::Filled;
-use crate::in_order::former_in_order;
-use crate::kept_requests::{is_other, kept_of, only_by_number};
-use crate::known_forms::KnownForms;
+use crate::first_deeds::FirstDeeds;
+use crate::former::Former;
 use crate::known_inputs::KnownInputs;
+use crate::known_paths::KnownPaths;
 use crate::lookups::Lookups;
-use crate::moving::{fields_behind, note_at};
 use crate::outcome::{ConflictKind, Outcome};
-use crate::own_lookups::OwnLookups;
 use crate::passing::passing_over;
 use crate::repaired_page::RepairedPage;
-use crate::requests::{Request, request_at};
+use crate::requests::Requests;
+use crate::single::Single;
+use crate::told::{ToldRequest, are_sent_alike};
+use crate::trail::Trail;
 use client_log::Visit;
 use page_looks::{FreshNames, Looks};
 use page_tree::{NoMemory, Page, Text};
 use site_hooks::SiteHooks;
-use std::alloc::Global;
-use std::collections::BTreeMap;
+use std::alloc::{AllocError, Global};
 use upload_reader::Event;
 
 /// That of a visit with this outcome: where events find their places by their elements, of a visit that is done or stops at K11. A visit that is done is gone
@@ -58,7 +57,7 @@ pub fn told_difference<H: SiteHooks>(
     match outcome {
         Outcome::Untouched => Ok(Difference::none()),
         Outcome::Done { requests } => {
-            let was = all_former(alloc, fresh.as_slice(), visit, requests.as_slice())?;
+            let was = all_former(alloc, fresh.as_slice(), visit, requests)?;
             Difference::of(alloc, Contrast::Done { was })
         }
         Outcome::Conflict {
@@ -84,7 +83,7 @@ pub fn told_beside(
     match outcome {
         Outcome::Untouched => Ok(Difference::none()),
         Outcome::Done { requests } => {
-            let was = all_former(alloc, page.looks.fresh(), visit, requests.as_slice())?;
+            let was = all_former(alloc, page.looks.fresh(), visit, requests)?;
             Difference::of(alloc, Contrast::Done { was })
         }
         Outcome::Conflict {
@@ -106,199 +105,278 @@ fn all_former(
     alloc: Global,
     fresh: &[Text],
     visit: &Visit,
-    requests: &[Request],
+    requests: &Requests,
 ) -> Result<Former, NoMemory>
     ensures { IfOk result (λ all. all ≡ map (was_other fresh.now visit.now) requests.now) }
 {
-    if let Some(all) = former_in_order(alloc, fresh, visit, requests)? {
-        return Ok(all);
+    match &requests.trail {
+        None => Ok(Former::new(alloc)),
+        Some(trail) => former_of(alloc, fresh, visit, trail),
     }
-    let mut all = Former::new(alloc);
-    let mut compared = Comparisons::new(alloc);
-    let before = kept_by_number(alloc, fresh, visit, requests, &mut compared)?;
-    for request in requests {
-        let was = other_than(alloc, fresh, &before, request, &mut compared)?;
-        all.push(was)?;
-    }
-    Ok(all)
 }
 
-// What is kept of the visit's own requests beside these, which are made now, whatever numbers they have. What stands behind its last event with a request
-// isn't gone through.
-fn kept_by_number(
+// The same of those of a trail.
+fn former_of(
     alloc: Global,
     fresh: &[Text],
     visit: &Visit,
-    requests: &[Request],
-    compared: &mut Comparisons,
-) -> Result<BTreeMap<u64, Option<Request>>, NoMemory>
-    requires { AreCompared fresh.now compared.old.all.items }
-    ensures known { OnOk result (AreCompared fresh.now compared.new.all.items) }
-    ensures kept { IfOk result (HasNumbered fresh.now requests.now visit.now (length visit.now.events)) }
+    trail: &Trail,
+) -> Result<Former, NoMemory>
+    ensures { IfOk result (λ all. all ≡ map (was_other fresh.now visit.now)
+        (requests_on trail.now.address trail.now.page trail.now.deeds.items)) }
 {
-    let now = only_by_number(alloc, requests)?;
-    let mut all = BTreeMap::new(alloc);
-    let mut fields = Fields::new(alloc);
-    let mut own = OwnLookups::new(alloc, &visit.page, fresh);
-    let events = visit.events.as_slice();
-    for k in 0..asking_end(events) {
-        let event = &events[k];
-        let target = own.paths.target_of(&visit.page, event)?;
-        take_in(
-            alloc, fresh, visit, &fields, k, target, &now, compared, &mut own, &mut all,
-        )?;
-        note_at(&visit.page, event, target, &mut fields)?;
-    }
-    Ok(all)
+    let own = own_trail(alloc, visit, asking_end(visit.events.as_slice()))?;
+    let marks = marks_of(alloc, fresh, &own, trail)?;
+    let own = kept_for(own, marks.as_slice());
+    Ok(Former { own, marks })
 }
 
-// Takes in what one event more asked for, beside the requests that are made now. The whole of it is made only where it differs.
-fn take_in<'v>(
-    alloc: Global,
-    fresh: &[Text],
+// The trail, unless nothing on it is marked.
+#[tactic(auto, using(crate::proofs::FormerLaws::none_marked))]
+fn kept_for(own: Trail, marks: &[Option<u32>]) -> Option<Trail>
+    ensures within { AreMarks own marks.now → IfSome result (λ kept. AreMarks kept marks.now) }
+    ensures told { map (told_marked result) marks.now ≡ map (told_marked (Some own)) marks.now }
+{
+    if is_any_there(marks) { Some(own) } else { None }
+}
+
+fn is_any_there(marks: &[Option<u32>]) -> bool
+    ensures { IsFalse result → All (λ mark. mark ≡ None) marks.now }
+{
+    for mark in marks {
+        if mark.is_some() {
+            return true;
+        }
+    }
+    false
+}
+
+// What the first so many events did on the visit's own page, where their paths lead.
+fn own_trail(alloc: Global, visit: &Visit, count: usize) -> Result<Trail, NoMemory>
+    requires { count ≤ length visit.now.events }
+    ensures { IfOk result (IsTrailOf (by_path visit.now.page) visit.now visit.now.page count) }
+{
+    let page = &visit.page;
+    let mut trail = Trail::new(alloc, visit.address.as_str(), page)?;
+    let mut paths = KnownPaths::new(alloc);
+    for k in 0..count {
+        note_own(visit, k, &mut paths, &mut trail)?;
+    }
+    Ok(trail)
+}
+
+// Takes in one event more, if its path leads to one node.
+fn note_own<'v>(
     visit: &'v Visit,
-    fields: &Fields<'_>,
     k: usize,
-    target: Option<u32>,
-    now: &BTreeMap<u64, Option<&Request>>,
-    compared: &mut Comparisons,
-    own: &mut OwnLookups<'v>,
-    all: &mut BTreeMap<u64, Option<Request>>,
+    paths: &mut KnownPaths<'v>,
+    trail: &mut Trail,
 ) -> Result<(), NoMemory>
     requires there { k < length visit.now.events }
-    requires fields { Keeps (by_path visit.now.page) fields.now visit.now.page (take k visit.now.events) }
-    requires target { IfSome (slice_get visit.now.events k) (λ event. IsTargetOf visit.now.page event target) }
-    requires known { AreCompared fresh.now compared.old.all.items }
-    requires own { KnowsOwn fresh.now visit.now.page own.old }
-    ensures known { OnOk result (AreCompared fresh.now compared.new.all.items) }
-    ensures own { OnOk result (KnowsOwn fresh.now visit.now.page own.new) }
-    ensures kept { OnOk result ((requests : List PlainRequest) → HasOnly requests now.now
-        → HasNumbered fresh.now requests visit.now k all.old → HasNumbered fresh.now requests visit.now (k + 1) all.new) }
+    requires known { KnowsPaths visit.now.page paths.old.paths.items }
+    requires so_far { IsTrailOf (by_path visit.now.page) visit.now visit.now.page k trail.old }
+    ensures known { OnOk result (KnowsPaths visit.now.page paths.new.paths.items) }
+    ensures further { OnOk result (IsTrailOf (by_path visit.now.page) visit.now visit.now.page (k + 1) trail.new) }
 {
-    let Some(was) = own_request(alloc, visit, fields, k, target, true, own)? else {
+    let page = &visit.page;
+    let event = &visit.events.as_slice()[k];
+    let Some(target) = paths.target_of(page, event)? else {
         return Ok(());
     };
-    let number = was.number;
-    if all.contains_key(&number) {
-        return Ok(());
-    }
-    let other = is_other(alloc, fresh, now, &was, compared)?;
-    if other {
-        let whole = own_request(alloc, visit, fields, k, target, false, own)?;
-        all.insert(number, whole)?;
-        return Ok(());
-    }
-    all.insert(number, None)?;
+    let button = paths.button_of(page, event)?;
+    trail.note(event, target, button)?;
     Ok(())
 }
 
-/// What the event with k events before it asked for at its target, by the fields as these left them: whole, or without what doesn't count.
-pub(crate) fn own_request<'v>(
-    alloc: Global,
-    visit: &'v Visit,
-    fields: &Fields<'_>,
-    k: usize,
-    target: Option<u32>,
-    counted: bool,
-    own: &mut OwnLookups<'v>,
-) -> Result<Option<Request>, NoMemory>
-    requires there { k < length visit.now.events }
-    requires fields { Keeps (by_path visit.now.page) fields.now visit.now.page (take k visit.now.events) }
-    requires target { IfSome (slice_get visit.now.events k) (λ event. IsTargetOf visit.now.page event target) }
-    requires own { KnowsOwn own.old.forms.names.now visit.now.page own.old }
-    ensures request { IfOk result (λ request. IsButFor (names_left counted own.old.forms) request (was_asked visit.now k)) }
-    ensures own { OnOk result (KnowsOwn own.old.forms.names.now visit.now.page own.new) }
-{
-    let event = &visit.events.as_slice()[k];
-    if event.request() == 0 {
-        return Ok(None);
-    }
-    let Some(target) = target else {
-        return Ok(None);
-    };
-    let button = own.paths.button_of(&visit.page, event)?;
-    let located = Located::At { target, button };
-    let forms = &mut own.forms;
-    request_there(
-        alloc,
-        visit,
-        &visit.page,
-        fields,
-        k,
-        located,
-        counted,
-        forms,
-    )
-}
-
-// That of the event which acts there on a page as it is filled in.
-fn request_there(
-    alloc: Global,
-    visit: &Visit,
-    page: &Page,
-    fields: &Fields<'_>,
-    k: usize,
-    located: Located,
-    counted: bool,
-    forms: &mut KnownForms<'_>,
-) -> Result<Option<Request>, NoMemory>
-    requires there { k < length visit.now.events }
-    requires located { (here : Aim) × AimsAt page.now here located }
-    requires known { KnowsForms page.now forms.old }
-    ensures known { OnOk result (KnowsForms page.now forms.new) }
-    ensures names { forms.new.names ≡ forms.old.names }
-    ensures request { IfOk result (λ request. (aim : PlainEvent → Aim) (here : Aim) → AimsAt page.now here located
-        → Keeps aim fields.now page.now (take k visit.now.events)
-        → IsButFor (names_left counted forms.old) request (asked_there aim visit.now page.now k here)) }
-{
-    let (target, button) = match located {
-        Located::Bad(_kind) => return Ok(None),
-        Located::Idle => return Ok(None),
-        Located::At { target, button } => (target, button),
-    };
-    let filled = Filled {
-        page,
-        fields,
-        button,
-    };
-    let event = &visit.events.as_slice()[k];
-    let address = visit.address.as_str();
-    request_at(alloc, address, &filled, event, target, counted, forms)
-}
-
-// What the request was, if that differs.
-fn other_than(
+// Of each request of a trail, the load first, which deed of the visit's own asked for it, where that asked for something else. Both trails are gone along side by
+// side.
+fn marks_of(
     alloc: Global,
     fresh: &[Text],
-    before: &BTreeMap<u64, Option<Request>>,
-    is: &Request,
-    compared: &mut Comparisons,
-) -> Result<Option<Request>, NoMemory>
-    requires { AreCompared fresh.now compared.old.all.items }
-    ensures other { IfOk result (λ other. (requests : List PlainRequest) (visit : PlainVisit) → Contains requests is.now
-        → HasNumbered fresh.now requests visit (length visit.events) before.now → other ≡ was_other fresh.now visit is.now) }
-    ensures known { OnOk result (AreCompared fresh.now compared.new.all.items) }
+    own: &Trail,
+    trail: &Trail,
+) -> Result<Vec<Option<u32>>, NoMemory>
+    ensures within { IfOk result (λ marks. AreMarks own.now marks.items) }
+    ensures told { IfOk result (λ marks. map (told_marked (Some own.now)) marks.items
+        ≡ None ∷ map (other_by fresh.now own.now) (asked_from trail.now 0)) }
 {
-    let Some(was) = kept_of(before, is.number) else {
-        return Ok(None);
-    };
-    let alike = compared.are_alike(alloc, fresh, was, is)?;
-    if alike {
-        return Ok(None);
+    let mut firsts = FirstDeeds::new();
+    let mut was = Board::new(alloc, own.page.node_count(), fresh)?;
+    was.begin(own);
+    let mut is = Board::new(alloc, trail.page.node_count(), fresh)?;
+    is.begin(trail);
+    let mut compared = Comparisons::new(alloc);
+    let mut marks = mark_of_load(alloc)?;
+    let mut from = 0;
+    while let Some(place) = trail.asking_from(from) {
+        let mark = mark_at(
+            alloc,
+            own,
+            trail,
+            place,
+            &mut firsts,
+            &mut was,
+            &mut is,
+            &mut compared,
+        )?;
+        marks.push(mark)?;
+        from = place + 1;
     }
-    let copy = copy_of(alloc, was)?;
-    Ok(Some(copy))
+    Ok(marks)
 }
 
-fn copy_of(alloc: Global, request: &Request) -> Result<Request, NoMemory>
-    ensures { IfOk result (λ copy. copy ≡ request.now) }
+// Of the load alone, which nothing else asked for.
+fn mark_of_load(alloc: Global) -> Result<Vec<Option<u32>>, NoMemory>
+    ensures { IfOk result (λ marks. marks.items ≡ None ∷ []) }
 {
-    Ok(Request {
-        number: request.number,
-        method: request.method,
-        address: Text::from_str(alloc, request.address.as_str())?,
-        pairs: Text::from_str(alloc, request.pairs.as_str())?,
-    })
+    let mut marks = Vec::new(alloc);
+    marks.push(None)?;
+    Ok(marks)
+}
+
+// The same of what the deed at that place asks for, if it asks for anything.
+fn mark_at<'o, 't>(
+    alloc: Global,
+    own: &'o Trail,
+    trail: &'t Trail,
+    place: usize,
+    firsts: &mut FirstDeeds,
+    was: &mut Board<'o>,
+    is: &mut Board<'t>,
+    compared: &mut Comparisons,
+) -> Result<Option<u32>, NoMemory>
+    requires there { place < length trail.now.deeds.items }
+    requires firsts { FindsFirst own.now firsts.old }
+    requires was { IsOn own.now.page own.now.deeds.items was.old }
+    requires is { IsOn trail.now.page trail.now.deeds.items is.old }
+    requires names { is.old.names.now ≡ was.old.names.now }
+    requires known { AreCompared was.old.names.now compared.old.all.items }
+    ensures firsts { OnOk result (FindsFirst own.now firsts.new) }
+    ensures was { OnOk result (IsOn own.now.page own.now.deeds.items was.new) }
+    ensures is { OnOk result (IsOn trail.now.page trail.now.deeds.items is.new) }
+    ensures names { (was.new.names ≡ was.old.names) × (is.new.names ≡ is.old.names) }
+    ensures known { OnOk result (AreCompared was.old.names.now compared.new.all.items) }
+    ensures within { IfOk result (λ mark. IfSome mark (λ p. p < length own.now.deeds.items)) }
+    ensures told { IfOk result (λ mark. IfSome (asked_at trail.now place)
+        (λ now. told_marked (Some own.now) mark ≡ other_by was.old.names.now own.now now)) }
+{
+    is.go_to(trail, place);
+    match is.told(trail, place) {
+        Some(now) => mark_of(alloc, own, firsts, was, &now, compared),
+        None => Ok(None),
+    }
+}
+
+// Which deed asked for it, where that asked for something else but for the values of the names that are fresh on that board.
+fn mark_of<'o>(
+    alloc: Global,
+    own: &'o Trail,
+    firsts: &mut FirstDeeds,
+    was: &mut Board<'o>,
+    now: &ToldRequest<'_>,
+    compared: &mut Comparisons,
+) -> Result<Option<u32>, NoMemory>
+    requires firsts { FindsFirst own.now firsts.old }
+    requires on { IsOn own.now.page own.now.deeds.items was.old }
+    requires marked { KnowsFresh was.old.names.now now.now }
+    requires known { AreCompared was.old.names.now compared.old.all.items }
+    ensures firsts { OnOk result (FindsFirst own.now firsts.new) }
+    ensures on { OnOk result (IsOn own.now.page own.now.deeds.items was.new) }
+    ensures names { was.new.names ≡ was.old.names }
+    ensures known { OnOk result (AreCompared was.old.names.now compared.new.all.items) }
+    ensures within { IfOk result (λ mark. IfSome mark (λ place. place < length own.now.deeds.items)) }
+    ensures told { IfOk result (λ mark. told_marked (Some own.now) mark
+        ≡ other_by was.old.names.now own.now (told_request now.now)) }
+{
+    let Some(place) = firsts.place_of(alloc, own, now.number())? else {
+        return Ok(None);
+    };
+    was.go_to(own, place);
+    let Some(before) = was.told(own, place) else {
+        return Ok(None);
+    };
+    if is_alike(alloc, was.names, &before, now, compared)? {
+        return Ok(None);
+    }
+    let mark = as_mark(place)?;
+    Ok(Some(mark))
+}
+
+// A place that doesn't fit is refused as want of memory: so many deeds take more than there is.
+fn as_mark(place: usize) -> Result<u32, NoMemory>
+    ensures { IfOk result (λ mark. mark ≡ place) }
+{
+    match u32::try_from(place) {
+        Ok(mark) => Ok(mark),
+        Err(_) => Err(AllocError),
+    }
+}
+
+// Whether both ask for the same, but for the values of fresh names. Links are compared by their addresses, and what forms send pair by pair; only where that
+// differs both are made, without these values.
+fn is_alike(
+    alloc: Global,
+    fresh: &[Text],
+    was: &ToldRequest<'_>,
+    is: &ToldRequest<'_>,
+    compared: &mut Comparisons,
+) -> Result<bool, NoMemory>
+    requires was { KnowsFresh fresh.now was.now }
+    requires is { KnowsFresh fresh.now is.now }
+    requires known { AreCompared fresh.now compared.old.all.items }
+    ensures known { OnOk result (AreCompared fresh.now compared.new.all.items) }
+    ensures alike { IfOk result (λ alike. alike ≡ are_alike fresh.now (told_request was.now) (told_request is.now)) }
+{
+    match (was, is) {
+        (
+            ToldRequest::Link {
+                address: before,
+                ..
+            },
+            ToldRequest::Link { address: now, .. },
+        ) => {
+            let apart = compared.differ(alloc, fresh, before, now)?;
+            Ok(!apart)
+        }
+        (ToldRequest::Form(before), ToldRequest::Form(now)) => {
+            if are_sent_alike(alloc, before, now)? {
+                return Ok(true);
+            }
+            are_made_alike(alloc, fresh, was, is, compared)
+        }
+        _ => are_made_alike(alloc, fresh, was, is, compared),
+    }
+}
+
+// The same, where both are made without these values.
+fn are_made_alike(
+    alloc: Global,
+    fresh: &[Text],
+    was: &ToldRequest<'_>,
+    is: &ToldRequest<'_>,
+    compared: &mut Comparisons,
+) -> Result<bool, NoMemory>
+    requires was { KnowsFresh fresh.now was.now }
+    requires is { KnowsFresh fresh.now is.now }
+    requires known { AreCompared fresh.now compared.old.all.items }
+    ensures known { OnOk result (AreCompared fresh.now compared.new.all.items) }
+    ensures alike { IfOk result (λ alike. alike ≡ are_alike fresh.now (told_request was.now) (told_request is.now)) }
+{
+    let before = was.counted(alloc)?;
+    let now = is.counted(alloc)?;
+    compared.are_alike(alloc, fresh, &before, &now)
+}
+
+// How many events there are up to the last one with a request.
+fn asking_end(events: &[Event]) -> usize
+    ensures within { result ≤ length events.now }
+    ensures rest { (k : ℕ) → result ≤ k → IfSome (slice_get events.now k) (λ event. request_of event ≡ 0) }
+{
+    let mut end = events.len();
+    while end > 0 && events[end - 1].request() == 0 {
+        end -= 1;
+    }
+    end
 }
 
 // ---- of a visit that stops since an element has changed
@@ -345,17 +423,25 @@ fn changed_beside(
     Difference::of(alloc, Contrast::Changed { was, now })
 }
 
-fn asked_before(alloc: Global, visit: &Visit, k: usize) -> Result<Option<Request>, NoMemory>
+fn asked_before(alloc: Global, visit: &Visit, k: usize) -> Result<Option<Single>, NoMemory>
     ensures { IfOk result (λ request. request ≡ was_asked visit.now k) }
 {
     let events = visit.events.as_slice();
     if k >= events.len() {
         return Ok(None);
     }
-    let mut own = OwnLookups::new(alloc, &visit.page, &[]);
-    let fields = fields_behind(alloc, &visit.page, events, k, &mut own.paths)?;
-    let target = own.paths.target_of(&visit.page, &events[k])?;
-    own_request(alloc, visit, &fields, k, target, false, &mut own)
+    let event = &events[k];
+    if event.request() == 0 {
+        return Ok(None);
+    }
+    let mut paths = KnownPaths::new(alloc);
+    let Some(target) = paths.target_of(&visit.page, event)? else {
+        return Ok(None);
+    };
+    let button = paths.button_of(&visit.page, event)?;
+    let mut trail = own_trail(alloc, visit, k)?;
+    trail.note(event, target, button)?;
+    Ok(Single::of(trail))
 }
 
 fn asks_now(
@@ -364,7 +450,7 @@ fn asks_now(
     inputs: &mut KnownInputs<'_>,
     visit: &Visit,
     k: usize,
-) -> Result<Option<Request>, NoMemory>
+) -> Result<Option<Single>, NoMemory>
     requires { KnowsInputs looks.now.0 inputs.old }
     ensures known { KnowsInputs looks.now.0 inputs.new }
     ensures asks { IfOk result (λ request. request ≡ asks_now looks.now.1 visit.now looks.now.0 k) }
@@ -378,58 +464,66 @@ fn asks_now(
         return Ok(None);
     }
     let beside = looks.beside(alloc, &visit.page)?;
-    let located = passing_over(&beside, event);
+    let (target, button) = match passing_over(&beside, event) {
+        Located::Bad(_kind) => return Ok(None),
+        Located::Idle => return Ok(None),
+        Located::At { target, button } => (target, button),
+    };
     let aiming = Aiming::ByElement(beside);
     let new = looks.page();
     let mut lookups = Lookups::new(alloc, &visit.page, new, inputs.take(alloc));
-    let fields = fields_beside(alloc, &aiming, visit, new, k, &mut lookups)?;
+    let mut trail = trail_beside(alloc, &aiming, visit, new, k, &mut lookups)?;
     *inputs = lookups.repaired;
-    let mut forms = KnownForms::new(alloc, new, &[]);
-    request_there(alloc, visit, new, &fields, k, located, false, &mut forms)
+    trail.note(event, target, button)?;
+    Ok(Single::of(trail))
 }
 
-// The fields of the page that stands there now, as the first so many events left them.
-fn fields_beside<'v>(
+// What the first so many events did on the page that stands there now.
+fn trail_beside<'v>(
     alloc: Global,
     aiming: &Aiming<'_>,
     visit: &'v Visit,
     new: &'v Page,
     count: usize,
     lookups: &mut Lookups<'v, '_>,
-) -> Result<Fields<'v>, NoMemory>
+) -> Result<Trail, NoMemory>
     requires between { IsBetween aiming.now visit.now.page new.now }
     requires count { count ≤ length visit.now.events }
     requires known { AreLookedUp visit.now.page new.now lookups.old }
-    ensures fields { IfOk result (λ fields. Keeps (aimed aiming.now visit.now.page new.now) fields new.now
-        (take count visit.now.events)) }
+    ensures trail { IfOk result (IsTrailOf (aimed aiming.now visit.now.page new.now) visit.now new.now count) }
     ensures known { OnOk result (AreLookedUp visit.now.page new.now lookups.new) }
 {
-    let mut fields = Fields::new(alloc);
+    let mut trail = Trail::new(alloc, visit.address.as_str(), new)?;
     for k in 0..count {
-        let event = &visit.events.as_slice()[k];
-        note_beside(alloc, aiming, &visit.page, new, event, lookups, &mut fields)?;
+        note_beside(alloc, aiming, visit, new, k, lookups, &mut trail)?;
     }
-    Ok(fields)
+    Ok(trail)
 }
 
 // Takes in one event more, if it acts somewhere.
 fn note_beside<'v>(
     alloc: Global,
     aiming: &Aiming<'_>,
-    old: &Page,
+    visit: &'v Visit,
     new: &Page,
-    event: &'v Event,
+    k: usize,
     lookups: &mut Lookups<'v, '_>,
-    fields: &mut Fields<'v>,
+    trail: &mut Trail,
 ) -> Result<(), NoMemory>
-    requires between { IsBetween aiming.now old.now new.now }
-    requires known { AreLookedUp old.now new.now lookups.old }
-    ensures taken { OnOk result (TakesIn (aimed aiming.now old.now new.now) new.now event.now fields.old fields.new) }
-    ensures known { OnOk result (AreLookedUp old.now new.now lookups.new) }
+    requires there { k < length visit.now.events }
+    requires between { IsBetween aiming.now visit.now.page new.now }
+    requires known { AreLookedUp visit.now.page new.now lookups.old }
+    requires so_far { IsTrailOf (aimed aiming.now visit.now.page new.now) visit.now new.now k trail.old }
+    ensures known { OnOk result (AreLookedUp visit.now.page new.now lookups.new) }
+    ensures further { OnOk result
+        (IsTrailOf (aimed aiming.now visit.now.page new.now) visit.now new.now (k + 1) trail.new) }
 {
-    match aim_at(alloc, aiming, old, new, event, lookups)? {
-        Located::Bad(_kind) => Ok(()),
-        Located::Idle => Ok(()),
-        Located::At { target, .. } => fields.note(new, event, target),
-    }
+    let event = &visit.events.as_slice()[k];
+    let (target, button) = match aim_at(alloc, aiming, &visit.page, new, event, lookups)? {
+        Located::Bad(_kind) => return Ok(()),
+        Located::Idle => return Ok(()),
+        Located::At { target, button } => (target, button),
+    };
+    trail.note(event, target, button)?;
+    Ok(())
 }

@@ -1,6 +1,7 @@
 //! What is left of a text behind a word as `application/x-www-form-urlencoded` has it; none where it begins otherwise.
 ghost use Rattle.std.specs.Prelude.{◌≡◌, ◌≢◌, [], ◌∷◌, option_map};
 ghost use Rattle.form_urlencoded.specs.Form.{byte_serialize, serialize_byte};
+ghost use Rattle.form_urlencoded.specs.Percent.{percent_encode_byte};
 ghost use Rattle.visit_replay.specs.inside.FieldsNow.{left_behind};
 
 use crate::comparing::behind;
@@ -27,7 +28,6 @@ pub(crate) fn word_behind<'t>(word: &str, text: &'t [u8]) -> Option<&'t [u8]>
     Some(&text[word.len()..])
 }
 
-// What each byte is written as, if that is one byte; else 0.
 #[rattlefmt::skip]
 static WRITTEN: [u8; 256] = *b"\
     \0\0\0\0\0\0\0\0\0\0\0\0\0\0\0\0\0\0\0\0\0\0\0\0\0\0\0\0\0\0\0\0\
@@ -39,8 +39,10 @@ static WRITTEN: [u8; 256] = *b"\
     \0\0\0\0\0\0\0\0\0\0\0\0\0\0\0\0\0\0\0\0\0\0\0\0\0\0\0\0\0\0\0\0\
     \0\0\0\0\0\0\0\0\0\0\0\0\0\0\0\0\0\0\0\0\0\0\0\0\0\0\0\0\0\0\0\0";
 
-fn written_as(byte: u8) -> u8
-    ensures { result ≢ 0 → serialize_byte byte ≡ result ∷ [] }
+/// What a byte of a word is written as, if that is one byte; else 0.
+pub fn written_as(byte: u8) -> u8
+    ensures one { result ≢ 0 → serialize_byte byte ≡ result ∷ [] }
+    ensures escaped { result ≡ 0 → serialize_byte byte ≡ percent_encode_byte byte }
 {
     WRITTEN[byte as usize]
 }

@@ -114,7 +114,7 @@ fn settle(
     if !is_elsewhere(alloc, finding, visits, outcomes, k, places, asked)? {
         return Ok(());
     }
-    outcomes[k] = moved_away(alloc);
+    move_away(&mut outcomes[k]);
     Ok(())
 }
 
@@ -128,14 +128,14 @@ fn is_untouched(outcome: &Outcome) -> bool
 }
 
 // K10.
-fn moved_away(alloc: Global) -> Outcome
-    ensures { result ≡ Outcome.Conflict [] 0 ConflictKind.Moved }
+fn move_away(outcome: &mut Outcome)
+    ensures { outcome.new ≡ Outcome.Conflict [] 0 ConflictKind.Moved }
 {
-    Outcome::Conflict {
-        requests: Requests::new(alloc),
+    *outcome = Outcome::Conflict {
+        requests: Requests::none(),
         at: 0,
         kind: ConflictKind::Moved,
-    }
+    };
 }
 
 // Whether the parent of the visit there leads elsewhere now.

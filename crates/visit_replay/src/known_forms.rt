@@ -50,7 +50,7 @@ impl<'p> KnownForms<'p> {
     /// Those under a form that was looked at.
     pub(crate) fn senders_under(&self, form: u32) -> &Senders<'p>
         requires { IsSome (get nat_cmp self.now.forms form) }
-        ensures { (page : Tree) → KnowsForms page self.now → SendUnder self.now.names.now page form result.now }
+        ensures { (page : Tree) → KnowsForms page self.now → SendUnder self.now.names.now page form result.now.all.items }
     {
         match self.forms.get(&form) {
             None => unreachable!(),

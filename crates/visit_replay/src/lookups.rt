@@ -1,19 +1,17 @@
 //! What was looked up on a recorded page and a repaired one, for the events to come.
 ghost use Rattle.visit_replay.specs.inside.Differing.{AreLookedUp, KnowsInputs};
 
-use crate::known_forms::KnownForms;
 use crate::known_inputs::KnownInputs;
 use crate::known_paths::KnownPaths;
 use page_tree::Page;
 use std::alloc::Global;
 
-/// Paths on the recorded page, hidden inputs on both, and what stands under forms of the repaired one.
+/// Paths on the recorded page, and hidden inputs on both.
 #[derive(Drop)]
 pub(crate) struct Lookups<'v, 'p> {
     pub(crate) paths: KnownPaths<'v>,
     pub(crate) recorded: KnownInputs<'v>,
     pub(crate) repaired: KnownInputs<'p>,
-    pub(crate) forms: KnownForms<'v>,
 }
 
 impl<'v, 'p> Lookups<'v, 'p> {
@@ -30,7 +28,6 @@ impl<'v, 'p> Lookups<'v, 'p> {
             paths: KnownPaths::new(alloc),
             recorded: KnownInputs::new(alloc, old),
             repaired,
-            forms: KnownForms::new(alloc, new, &[]),
         }
     }
 }

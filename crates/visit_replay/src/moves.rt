@@ -1,25 +1,31 @@
 //! Which requests of a visit go elsewhere now: those that later visits name, all of them at once.
-ghost use Rattle.std.specs.Prelude.{ℕ, List, [], Option, unwrap_or, ◌≡◌, ◌≤◌, ◌<◌, true, length, take, IfOk, OnOk, IsSome, option_map};
+ghost use Rattle.std.specs.Prelude.{ℕ, List, [], Option, unwrap_or, ◌≡◌, ◌≤◌, ◌<◌, true, length, take, IfOk, OnOk, IsSome};
 ghost use Rattle.std.specs.BTreeMap.{get};
 ghost use Rattle.std.specs.Ordering.{nat_cmp};
 ghost use Rattle.upload_reader.specs.declared.message.Event.{Event};
 ghost use Rattle.client_log.specs.declared.visit.Visit.{Visit};
 ghost use Rattle.visit_replay.specs.Aim.{by_path};
-ghost use Rattle.visit_replay.specs.Moved.{event_numbered, own_request, are_apart, is_moved};
+ghost use Rattle.visit_replay.specs.Moved.{event_numbered, requests_of, is_moved};
 ghost use Rattle.visit_replay.specs.declared.outcome.Outcome.{Outcome};
+ghost use Rattle.visit_replay.specs.inside.Boards.{IsOn};
+ghost use Rattle.visit_replay.specs.inside.Deeds.{requests_on};
 ghost use Rattle.visit_replay.specs.inside.Differing.{KnowsOwn, KnowsTexts};
+ghost use Rattle.visit_replay.specs.inside.FirstDeeds.{FindsFirst};
 ghost use Rattle.visit_replay.specs.inside.KeptFields.{Keeps};
-ghost use Rattle.visit_replay.specs.inside.Moves.{IsFresh, IsRight, HasAddresses, MeetsOne, is_pending, answer_in};
+ghost use Rattle.visit_replay.specs.inside.Moves.{IsFresh, IsRight, MeetsOne, is_pending, answer_in};
 
+use crate::board::Board;
 use crate::comparisons::Comparisons;
 use crate::fields::Fields;
 use crate::finding::Finding;
-use crate::moving::{goes_elsewhere, names_of, note, requests_of};
+use crate::first_deeds::FirstDeeds;
+use crate::moving::{address_asked, goes_elsewhere, names_of, note, trail_of};
 use crate::outcome::Outcome;
 use crate::own_lookups::OwnLookups;
+use crate::trail::Trail;
 use client_log::Visit;
 use page_tree::NoMemory;
-use std::alloc::{AllocError, Global};
+use std::alloc::Global;
 use std::collections::BTreeMap;
 use upload_reader::Event;
 
@@ -71,11 +77,14 @@ impl Asked {
         ensures right { OnOk result (IsRight finding.now visit.now outcome.now self.new) }
         ensures answer { IfOk result (λ answer. answer ≡ is_moved finding.now visit.now outcome.now number) }
     {
-        if number == 0 || requests_of(outcome).is_empty() {
+        let Some(trail) = trail_of(outcome) else {
+            return Ok(false);
+        };
+        if number == 0 {
             return Ok(false);
         }
         self.ask(number)?;
-        self.look(alloc, finding, visit, outcome)?;
+        self.look(alloc, finding, visit, trail)?;
         Ok(self.answer(number))
     }
 
@@ -94,10 +103,11 @@ impl Asked {
         alloc: Global,
         finding: &Finding,
         visit: &Visit,
-        outcome: &Outcome,
+        trail: &Trail,
     ) -> Result<(), NoMemory>
-        requires { IsRight finding.now visit.now outcome.now self.old }
-        ensures right { OnOk result (IsRight finding.now visit.now outcome.now self.new) }
+        ensures right { OnOk result ((outcome : Outcome)
+            → requests_of outcome ≡ requests_on trail.now.address trail.now.page trail.now.deeds.items
+            → IsRight finding.now visit.now outcome self.old → IsRight finding.now visit.now outcome self.new) }
         ensures looked { OnOk result (self.new.looked ≡ true) }
         ensures there { OnOk result ((number : ℕ) → IsSome (get nat_cmp self.old.numbers number)
             → IsSome (get nat_cmp self.new.numbers number)) }
@@ -105,8 +115,10 @@ impl Asked {
         if self.looked {
             return Ok(());
         }
-        let addresses = addresses_of(alloc, outcome)?;
-        let mut fields = Fields::new(alloc);
+        let mut firsts = FirstDeeds::new();
+        let mut board = Board::new(alloc, trail.page.node_count(), &[])?;
+        board.begin(trail);
+        let mut fields = Fields::new(alloc, visit.page.node_count())?;
         let mut compared = Comparisons::new(alloc);
         let mut own = OwnLookups::new(alloc, &visit.page, names_of(finding));
         let events = visit.events.as_slice();
@@ -117,7 +129,9 @@ impl Asked {
                 visit,
                 k,
                 &fields,
-                &addresses,
+                trail,
+                &mut firsts,
+                &mut board,
                 &mut compared,
                 &mut own,
                 &mut self.numbers,
@@ -145,40 +159,29 @@ fn last_asked(events: &[Event], numbers: &BTreeMap<u64, Option<bool>>) -> usize
     0
 }
 
-// The address of the first request of each number.
-fn addresses_of<'a>(
-    alloc: Global,
-    outcome: &'a Outcome,
-) -> Result<BTreeMap<u64, &'a str>, AllocError>
-    ensures { IfOk result (HasAddresses outcome.now) }
-{
-    let mut addresses = BTreeMap::new(alloc);
-    for request in requests_of(outcome) {
-        if addresses.contains_key(&request.number) {
-            continue;
-        }
-        addresses.insert(request.number, request.address.as_str())?;
-    }
-    Ok(addresses)
-}
-
 // Finds the request of the event with k events before it, if its number is asked for and no earlier event has it.
-fn meet<'v>(
+fn meet<'v, 't>(
     alloc: Global,
     finding: &Finding,
     visit: &'v Visit,
     k: usize,
     fields: &Fields<'_>,
-    addresses: &BTreeMap<u64, &str>,
+    trail: &'t Trail,
+    firsts: &mut FirstDeeds,
+    board: &mut Board<'t>,
     compared: &mut Comparisons,
     own: &mut OwnLookups<'v>,
     numbers: &mut BTreeMap<u64, Option<bool>>,
 ) -> Result<(), NoMemory>
     requires there { k < length visit.now.events }
     requires fields { Keeps (by_path visit.now.page) fields.now visit.now.page (take k visit.now.events) }
+    requires firsts { FindsFirst trail.now firsts.old }
+    requires board { IsOn trail.now.page trail.now.deeds.items board.old }
     requires known { KnowsTexts finding.now compared.old }
     requires own { KnowsOwn (unwrap_or finding.now []) visit.now.page own.old }
-    ensures meets { OnOk result (MeetsOne finding.now visit.now k addresses.now numbers.old numbers.new) }
+    ensures meets { OnOk result (MeetsOne finding.now visit.now k trail.now numbers.old numbers.new) }
+    ensures firsts { OnOk result (FindsFirst trail.now firsts.new) }
+    ensures board { OnOk result (IsOn trail.now.page trail.now.deeds.items board.new) }
     ensures known { OnOk result (KnowsTexts finding.now compared.new) }
     ensures own { OnOk result (KnowsOwn (unwrap_or finding.now []) visit.now.page own.new) }
 {
@@ -186,8 +189,12 @@ fn meet<'v>(
     if !is_pending(numbers, number) {
         return Ok(());
     }
-    let now = addresses.get(&number).copied();
-    let apart = is_apart(alloc, finding, visit, fields, k, now, compared, own)?;
+    let Some(now) = address_asked(alloc, trail, firsts, board, number)? else {
+        numbers.insert(number, Some(false))?;
+        return Ok(());
+    };
+    let now = now.as_str();
+    let apart = goes_elsewhere(alloc, finding, visit, fields, k, now, compared, own)?;
     numbers.insert(number, Some(apart))?;
     Ok(())
 }
@@ -196,30 +203,4 @@ fn is_pending(numbers: &BTreeMap<u64, Option<bool>>, number: u64) -> bool
     ensures { result ≡ is_pending (get nat_cmp numbers.now number) }
 {
     matches!(numbers.get(&number).copied(), Some(None))
-}
-
-#[tactic(auto, using(crate::proofs::Looking::none_apart))]
-fn is_apart<'v>(
-    alloc: Global,
-    finding: &Finding,
-    visit: &'v Visit,
-    fields: &Fields<'_>,
-    k: usize,
-    now: Option<&str>,
-    compared: &mut Comparisons,
-    own: &mut OwnLookups<'v>,
-) -> Result<bool, NoMemory>
-    requires there { k < length visit.now.events }
-    requires fields { Keeps (by_path visit.now.page) fields.now visit.now.page (take k visit.now.events) }
-    requires known { KnowsTexts finding.now compared.old }
-    requires own { KnowsOwn (unwrap_or finding.now []) visit.now.page own.old }
-    ensures known { OnOk result (KnowsTexts finding.now compared.new) }
-    ensures own { OnOk result (KnowsOwn (unwrap_or finding.now []) visit.now.page own.new) }
-    ensures apart { IfOk result
-        (λ apart. apart ≡ are_apart finding.now (own_request visit.now k) (option_map (λ address. address.now) now.entry)) }
-{
-    match now {
-        Some(now) => goes_elsewhere(alloc, finding, visit, fields, k, now, compared, own),
-        None => Ok(false),
-    }
 }

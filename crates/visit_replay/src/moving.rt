@@ -1,19 +1,26 @@
 //! Whether a request of a visit goes elsewhere now.
-ghost use Rattle.std.specs.Prelude.{[], ◌≡◌, ◌<◌, unwrap_or, length, take, Some, IfOk, IfSome, OnOk, option_map};
+ghost use Rattle.std.specs.Prelude.{[], ◌≡◌, ◌≢◌, ◌<◌, unwrap_or, length, take, option_map, Some, IfOk, IfSome, OnOk};
 ghost use Rattle.visit_replay.specs.Aim.{by_path};
+ghost use Rattle.std.specs.Option.{option_map_or};
 ghost use Rattle.visit_replay.specs.Moved.{requests_of, address_now, event_numbered, own_request, are_apart, is_moved};
+ghost use Rattle.visit_replay.specs.inside.Boards.{IsOn};
+ghost use Rattle.visit_replay.specs.inside.Deeds.{requests_on};
+ghost use Rattle.visit_replay.specs.inside.FirstDeeds.{FindsFirst};
 ghost use Rattle.visit_replay.specs.inside.KeptFields.{Keeps, TakesIn};
-ghost use Rattle.visit_replay.specs.inside.Differing.{IsTargetOf, KnowsOwn, KnowsPaths, KnowsTexts};
+ghost use Rattle.visit_replay.specs.inside.Differing.{IsTargetOf, KnowsOwn, KnowsPaths, KnowsTexts, asked_as};
 
+use crate::board::Board;
 use crate::comparisons::Comparisons;
 use crate::conflicts::{Located, judged};
 use crate::fields::Fields;
 use crate::finding::Finding;
+use crate::first_deeds::FirstDeeds;
 use crate::forms::Filled;
 use crate::known_paths::KnownPaths;
 use crate::outcome::Outcome;
 use crate::own_lookups::OwnLookups;
-use crate::requests::{Request, leads_elsewhere};
+use crate::requests::leads_elsewhere;
+use crate::trail::Trail;
 use client_log::Visit;
 use page_tree::{NoMemory, Page, Text};
 use std::alloc::Global;
@@ -34,7 +41,7 @@ pub fn moved(
     if from == 0 {
         return Ok(false);
     }
-    let Some(now) = request_now(outcome, from) else {
+    let Some(now) = address_now(alloc, outcome, from)? else {
         return Ok(false);
     };
     let events = visit.events.as_slice();
@@ -44,7 +51,7 @@ pub fn moved(
     let mut own = OwnLookups::new(alloc, &visit.page, names_of(finding));
     let fields = fields_behind(alloc, &visit.page, events, k, &mut own.paths)?;
     let mut compared = Comparisons::new(alloc);
-    let now = now.address.as_str();
+    let now = now.as_str();
     goes_elsewhere(
         alloc,
         finding,
@@ -69,22 +76,52 @@ pub(crate) fn names_of(finding: &Finding) -> &[Text]
 
 // ---- what the replay asks for
 
-pub(crate) fn requests_of(outcome: &Outcome) -> &[Request]
-    ensures { result.now ≡ requests_of outcome.now }
+pub(crate) fn trail_of(outcome: &Outcome) -> Option<&Trail>
+    ensures { requests_of outcome.now ≡ option_map_or
+        (λ t. requests_on t.now.address t.now.page t.now.deeds.items) result [] }
 {
     match outcome {
-        Outcome::Untouched => &[],
-        Outcome::Done { requests } => requests.as_slice(),
-        Outcome::Conflict { requests, .. } => requests.as_slice(),
+        Outcome::Untouched => None,
+        Outcome::Done { requests } => requests.trail.as_ref(),
+        Outcome::Conflict { requests, .. } => requests.trail.as_ref(),
     }
 }
 
-fn request_now(outcome: &Outcome, number: u64) -> Option<&Request>
-    ensures { option_map (λ request. request.now.address) result ≡ address_now outcome.now number }
+fn address_now(alloc: Global, outcome: &Outcome, number: u64) -> Result<Option<Text>, NoMemory>
+    requires { number ≢ 0 }
+    ensures { IfOk result (λ address. address ≡ address_now outcome.now number) }
 {
-    requests_of(outcome)
-        .iter()
-        .find(|request| request.number == number)
+    let Some(trail) = trail_of(outcome) else {
+        return Ok(None);
+    };
+    let mut firsts = FirstDeeds::new();
+    let mut board = Board::new(alloc, trail.page.node_count(), &[])?;
+    board.begin(trail);
+    address_asked(alloc, trail, &mut firsts, &mut board, number)
+}
+
+/// Where the first request with that number goes.
+pub(crate) fn address_asked<'t>(
+    alloc: Global,
+    trail: &'t Trail,
+    firsts: &mut FirstDeeds,
+    board: &mut Board<'t>,
+    number: u64,
+) -> Result<Option<Text>, NoMemory>
+    requires firsts { FindsFirst trail.now firsts.old }
+    requires on { IsOn trail.now.page trail.now.deeds.items board.old }
+    ensures firsts { OnOk result (FindsFirst trail.now firsts.new) }
+    ensures on { OnOk result (IsOn trail.now.page trail.now.deeds.items board.new) }
+    ensures address { IfOk result (λ address. address ≡ option_map (λ r. r.address) (asked_as trail.now number)) }
+{
+    let Some(place) = firsts.place_of(alloc, trail, number)? else {
+        return Ok(None);
+    };
+    board.go_to(trail, place);
+    match board.told(trail, place) {
+        Some(told) => Ok(Some(told.address(alloc)?)),
+        None => Ok(None),
+    }
 }
 
 // ---- what the visit asked for
@@ -160,7 +197,7 @@ pub(crate) fn fields_behind<'a>(
     ensures fields { IfOk result (λ fields. Keeps (by_path page.now) fields page.now (take count events.now)) }
     ensures known { OnOk result (KnowsPaths page.now paths.new.paths.items) }
 {
-    let mut fields = Fields::new(alloc);
+    let mut fields = Fields::new(alloc, page.node_count())?;
     for k in 0..count {
         note(page, &events[k], &mut fields, paths)?;
     }
@@ -179,7 +216,8 @@ pub(crate) fn note<'a>(
     ensures known { OnOk result (KnowsPaths page.now paths.new.paths.items) }
 {
     let target = paths.target_of(page, event)?;
-    note_at(page, event, target, fields)
+    note_at(page, event, target, fields);
+    Ok(())
 }
 
 /// The same at its target, which is known.
@@ -188,12 +226,12 @@ pub(crate) fn note_at<'a>(
     event: &'a Event,
     target: Option<u32>,
     fields: &mut Fields<'a>,
-) -> Result<(), NoMemory>
+)
     requires { IsTargetOf page.now event.now target }
-    ensures { OnOk result (TakesIn (by_path page.now) page.now event.now fields.old fields.new) }
+    ensures { TakesIn (by_path page.now) page.now event.now fields.old fields.new }
 {
     match target {
         Some(target) => fields.note(page, event, target),
-        None => Ok(()),
+        None => {}
     }
 }

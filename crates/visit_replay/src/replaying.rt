@@ -6,21 +6,21 @@ ghost use Rattle.visit_replay.specs.RepairedSite.{site_by};
 ghost use Rattle.upload_reader.specs.declared.message.Event.{Event as PlainEvent};
 ghost use Rattle.visit_replay.specs.Aim.{Aim};
 ghost use Rattle.visit_replay.specs.inside.Differing.{AreLookedUp, KnowsInputs};
-ghost use Rattle.visit_replay.specs.inside.OneEvent.{IsWalked, IsBetween, names_aimed, aimed};
+ghost use Rattle.visit_replay.specs.inside.OneEvent.{IsBetween, names_aimed, aimed};
+ghost use Rattle.visit_replay.specs.inside.Trails.{IsTrailOf};
 ghost use Rattle.visit_replay.specs.inside.TouchedFields.{AreTouched};
 
 use crate::aims::{Aiming, aim_at};
 use crate::conflicts::{Located, judged};
-use crate::fields::Fields;
 use crate::finding::Finding;
-use crate::forms::Filled;
 use crate::known_inputs::KnownInputs;
 use crate::lookups::Lookups;
 use crate::outcome::{ConflictKind, Outcome};
 use crate::patch::{Patch, affected};
 use crate::repaired_page::RepairedPage;
-use crate::requests::{Requests, load_request, request_at};
+use crate::requests::Requests;
 use crate::touched::{Touched, has_strayed};
+use crate::trail::Trail;
 use client_log::Visit;
 use page_looks::Looks;
 use page_tree::{NoMemory, Page};
@@ -49,7 +49,7 @@ pub fn replay<H: SiteHooks>(
     match hooks.make(visit.address.as_str())? {
         Some(new) => find_on(alloc, hooks, finding, visit, &new),
         None => Ok(Outcome::Conflict {
-            requests: Requests::new(alloc),
+            requests: Requests::none(),
             at: 0,
             kind: ConflictKind::NoPage,
         }),
@@ -122,6 +122,7 @@ fn by_looks<H: SiteHooks>(
 }
 
 // The events, up to the first that can't be replayed.
+#[tactic(auto, using(crate::proofs::TrailLaws::trail_begins))]
 fn replay_on<'v, H: SiteHooks>(
     alloc: Global,
     hooks: &H,
@@ -136,10 +137,8 @@ fn replay_on<'v, H: SiteHooks>(
         (H.signals hooks.now visit.now.address visit.now.page) (Some new.now)) }
     ensures known { OnOk result (AreLookedUp visit.now.page new.now lookups.new) }
 {
-    let mut fields = Fields::new(alloc);
     let mut touched = Touched::new(alloc);
-    let mut requests = Requests::new(alloc);
-    requests.push(load_request(alloc, visit.address.as_str())?)?;
+    let mut trail = Trail::new(alloc, visit.address.as_str(), new)?;
     for i in 0..visit.events.as_slice().len() {
         if let Some(kind) = step(
             alloc,
@@ -148,15 +147,15 @@ fn replay_on<'v, H: SiteHooks>(
             new,
             i,
             lookups,
-            &mut fields,
             &mut touched,
-            &mut requests,
+            &mut trail,
         )? {
             let at = i as u64 + 1;
+            let requests = Requests::of(trail);
             return Ok(Outcome::Conflict { requests, at, kind });
         }
     }
-    finish(hooks, visit, new, requests)
+    finish(hooks, visit, new, Requests::of(trail))
 }
 
 // Behind the last event: K8, K9, or done.
@@ -190,21 +189,20 @@ fn step<'a>(
     new: &'a Page,
     i: usize,
     lookups: &mut Lookups<'a, '_>,
-    fields: &mut Fields<'a>,
     touched: &mut Touched,
-    requests: &mut Requests,
+    trail: &mut Trail,
 ) -> Result<Option<ConflictKind>, NoMemory>
     requires there { i < length visit.now.events }
     requires between { IsBetween aiming.now visit.now.page new.now }
     requires known { AreLookedUp visit.now.page new.now lookups.old }
-    requires so_far { IsWalked (aimed aiming.now visit.now.page new.now) visit.now new.now i fields.old requests.old }
+    requires so_far { IsTrailOf (aimed aiming.now visit.now.page new.now) visit.now new.now i trail.old }
     requires touched { AreTouched (names_aimed aiming.now) visit.now.page new.now touched.old (take i visit.now.events) }
     ensures conflict { IfOk result (λ found. found
         ≡ conflict_of (names_aimed aiming.now) visit.now.page new.now visit.now.events i) }
     ensures known { OnOk result (AreLookedUp visit.now.page new.now lookups.new) }
-    ensures stays { IfOk result (λ found. IfSome found (λ _. requests.new ≡ requests.old)) }
+    ensures stays { IfOk result (λ found. IfSome found (λ _. trail.new ≡ trail.old)) }
     ensures further { IfOk result (λ found. IfNone found
-        (IsWalked (aimed aiming.now visit.now.page new.now) visit.now new.now (i + 1) fields.new requests.new)) }
+        (IsTrailOf (aimed aiming.now visit.now.page new.now) visit.now new.now (i + 1) trail.new)) }
     ensures touched { IfOk result (λ found. IfNone found
         (AreTouched (names_aimed aiming.now) visit.now.page new.now touched.new (take (i + 1) visit.now.events))) }
 {
@@ -219,17 +217,7 @@ fn step<'a>(
         Located::Idle => return Ok(None),
         Located::At { target, button } => (target, button),
     };
-    let filled = Filled {
-        page: new,
-        fields,
-        button,
-    };
-    let address = visit.address.as_str();
-    let forms = &mut lookups.forms;
-    if let Some(request) = request_at(alloc, address, &filled, event, target, false, forms)? {
-        requests.push(request)?;
-    }
-    fields.note(new, event, target)?;
+    trail.note(event, target, button)?;
     touched.note(aiming, old, new, event, target, &lookups.paths)?;
     Ok(None)
 }

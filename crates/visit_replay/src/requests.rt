@@ -1,30 +1,35 @@
-//! Requests, and how a replayed visit makes them.
-ghost use Rattle.std.specs.Prelude.{◌≡◌, ◌<◌, [], ◌∷◌, ◌++◌, not, true, All, ℕ, List, unwrap_or, IfOk, OnOk, OnErr, IsTrue, option_map, codes, false};
+//! Requests, and whether they go elsewhere now.
+ghost use Rattle.std.specs.Prelude.{ℕ, ◌≡◌, ◌<◌, [], ◌∷◌, ◌++◌, not, All, Some, unwrap_or, IfOk, OnOk, codes};
 ghost use Rattle.std.specs.Str.{bytes_eq};
 ghost use Rattle.form_urlencoded.specs.Form.{extend_pairs};
 ghost use Rattle.page_tree.specs.Limits.{nodes};
-ghost use Rattle.page_tree.specs.Number.{place_numbered};
-ghost use Rattle.visit_replay.specs.Difference.{are_alike};
-ghost use Rattle.visit_replay.specs.Form.{bare, sent_to};
-ghost use Rattle.visit_replay.specs.Requests.{load_request, link_request};
-ghost use Rattle.visit_replay.specs.inside.FieldsNow.{AsksAlikeAt, IsAlike, IsRequestAt, LeadsElsewhere};
+ghost use Rattle.page_tree.specs.Tree.{Tree};
+ghost use Rattle.upload_reader.specs.declared.message.Event.{Event as PlainEvent};
+ghost use Rattle.client_log.specs.declared.visit.Visit.{Visit};
+ghost use Rattle.visit_replay.specs.Aim.{Aim};
+ghost use Rattle.visit_replay.specs.Form.{bare};
+ghost use Rattle.visit_replay.specs.Requests.{requests_before};
+ghost use Rattle.visit_replay.specs.declared.requests.Request.{Request as PlainRequest};
+ghost use Rattle.visit_replay.specs.inside.Deeds.{requests_on};
+ghost use Rattle.visit_replay.specs.inside.FieldsNow.{LeadsElsewhere};
 ghost use Rattle.visit_replay.specs.Moved.{what_counts};
-ghost use Rattle.visit_replay.specs.inside.Differing.{AreCompared, KnowsTexts};
+ghost use Rattle.visit_replay.specs.inside.Differing.{KnowsTexts};
 ghost use Rattle.visit_replay.specs.inside.OneEvent.{IsWithin};
-ghost use Rattle.visit_replay.specs.inside.Senders.{SaysFresh, IsSender, KnowsForms, names_left, sent_all};
+ghost use Rattle.visit_replay.specs.inside.Senders.{SaysFresh, IsSender, KnowsForms, sent_all};
+ghost use Rattle.visit_replay.specs.inside.Trails.{IsTrailOf};
 
 use crate::address::bare;
-use crate::comparing::{are_pairs, is_sent_to, query_behind};
+use crate::comparing::is_sent_to;
 use crate::comparisons::Comparisons;
 use crate::counted_query::is_what_counts;
 use crate::finding::Finding;
 use crate::forms::{self, Filled};
-use crate::fresh_queries::{has_query, is_whole};
 use crate::known_forms::KnownForms;
 use crate::senders::Sender;
-use crate::sent_query::is_sent_but_for_fresh;
+use crate::telling::RequestTelling;
+use crate::trail::Trail;
 use page_looks::without_fresh;
-use page_tree::{NoMemory, Page, Text};
+use page_tree::{NoMemory, Text};
 use std::alloc::Global;
 use std::marker::Model;
 use upload_reader::Event;
@@ -48,152 +53,72 @@ pub struct Request {
     pub pairs: Text,
 }
 
-/// Requests, in the order in which they are made. Contracts see them as a list.
+/// Requests, in the order in which they are made. Contracts see them as a list. What makes them is kept, and not their texts: `RequestTelling` tells them one after another.
 #[derive(Debug, Drop)]
 pub struct Requests {
-    items: Vec<Request>,
+    pub(crate) trail: Option<Trail>,
 }
 
 impl Model for Requests {
-    ghost use Rattle.std.specs.Prelude.{List};
+    ghost use Rattle.std.specs.Prelude.{[], List};
+    ghost use Rattle.std.specs.Option.{option_map_or};
     ghost use Rattle.visit_replay.specs.declared.requests.Request.{Request};
+    ghost use Rattle.visit_replay.specs.inside.Deeds.{requests_on};
 
     ghost Value = { List Request };
 
-    ghost view = { λ r. r.items.items };
+    ghost view = { λ r. option_map_or (λ t. requests_on t.address t.page t.deeds.items) r.trail [] };
 }
 
 impl Requests {
     /// No requests. It takes no memory.
-    pub fn new(alloc: Global) -> Requests
+    pub fn none() -> Requests
         ensures { result ≡ [] }
     {
-        Requests {
-            items: Vec::new(alloc),
+        Requests { trail: None }
+    }
+
+    /// Those of a trail, the load first.
+    #[tactic(auto, using(crate::proofs::TrailLaws::trail_makes))]
+    pub(crate) fn of(trail: Trail) -> Requests
+        ensures these { result ≡ requests_on trail.address trail.page trail.deeds.items }
+        ensures made { (aim : PlainEvent → Aim) (visit : Visit) (new : Tree) (n : ℕ) → IsTrailOf aim visit new n trail
+            → result ≡ requests_before aim visit.address new visit.events n }
+    {
+        Requests { trail: Some(trail) }
+    }
+
+    /// With their whole texts, which may be long.
+    pub fn whole(&self, alloc: Global) -> Result<Vec<Request>, NoMemory>
+        ensures { IfOk result (λ all. all.items ≡ self.now) }
+    {
+        let mut all = Vec::new(alloc);
+        let mut telling = RequestTelling::new(alloc)?;
+        telling.begin(self);
+        while telling.advance() {
+            add_told(alloc, &telling, &mut all)?;
         }
-    }
-
-    /// One request more, or nothing changed.
-    pub fn push(&mut self, request: Request) -> Result<(), NoMemory>
-        ensures ok { OnOk result (self.new ≡ self.old ++ request ∷ []) }
-        ensures err { OnErr result (self.new ≡ self.old) }
-    {
-        self.items.push(request)?;
-        Ok(())
-    }
-
-    pub fn as_slice(&self) -> &[Request]
-        ensures { result.now ≡ self.now }
-    {
-        self.items.as_slice()
-    }
-
-    pub fn into_vec(self) -> Vec<Request>
-        ensures { result.items ≡ self }
-    {
-        self.items
+        Ok(all)
     }
 }
 
-impl From<Vec<Request>> for Requests {
-    ghost from_gives = { λ items requests. requests ≡ items.items };
-
-    fn from(items: Vec<Request>) -> Requests {
-        Requests { items }
-    }
-}
-
-// ---- what makes one
-
-/// That of the visit's own load.
-pub(crate) fn load_request(alloc: Global, address: &str) -> Result<Request, NoMemory>
-    ensures { IfOk result (λ request. request ≡ load_request address.now) }
-{
-    Ok(Request {
-        number: 0,
-        method: Method::Load,
-        address: Text::from_str(alloc, address)?,
-        pairs: Text::from(String::new(alloc)),
-    })
-}
-
-/// That of an event whose target has that number, if it makes one, on the page as it is filled in before the event: whole, or without what doesn't count.
-pub(crate) fn request_at(
+// The one that is told now.
+fn add_told(
     alloc: Global,
-    address: &str,
-    filled: &Filled<'_, '_>,
-    event: &Event,
-    target: u32,
-    counted: bool,
-    forms: &mut KnownForms<'_>,
-) -> Result<Option<Request>, NoMemory>
-    requires there { target < nodes filled.now.page.now }
-    requires button { IsWithin filled.now.button filled.now.page.now }
-    requires known { KnowsForms filled.now.page.now forms.old }
-    ensures request { IfOk result (IsRequestAt (names_left counted forms.old) address.now filled.now event.now target) }
-    ensures known { OnOk result (KnowsForms filled.now.page.now forms.new) }
-    ensures names { forms.new.names ≡ forms.old.names }
+    telling: &RequestTelling<'_>,
+    all: &mut Vec<Request>,
+) -> Result<(), NoMemory>
+    ensures { OnOk result ((now : PlainRequest) → telling.now.0 ≡ Some now → all.new.items ≡ all.old.items ++ now ∷ []) }
 {
-    let new = filled.page;
-    match event {
-        Event::Input { .. } => Ok(None),
-        Event::Click { req: 0, .. } | Event::Submit { req: 0, .. } => Ok(None),
-        Event::Click { req, .. } => link_request(alloc, new, *req, target),
-        Event::Submit { req, .. } => {
-            let action = forms::action_of(address, new, target);
-            forms.look_under(alloc, target)?;
-            let senders = forms.senders_under(target);
-            let pairs = forms::encoded(alloc, filled, senders.as_slice(), counted)?;
-            let post = forms::is_post(new, target);
-            Ok(Some(form_request(alloc, post, *req, action, pairs)?))
-        }
-    }
+    let Some(told) = telling.told() else {
+        return Ok(());
+    };
+    let request = told.whole(alloc)?;
+    all.push(request)?;
+    Ok(())
 }
 
-/// Whether such an event asks for that, but for the values of fresh names. What its form sends is compared as it comes, and no text of it is made. It needn't be
-/// told of all that do.
-pub(crate) fn is_asked_at(
-    alloc: Global,
-    address: &str,
-    filled: &Filled<'_, '_>,
-    event: &Event,
-    target: u32,
-    is: &Request,
-    compared: &mut Comparisons,
-    forms: &mut KnownForms<'_>,
-) -> Result<bool, NoMemory>
-    requires there { target < nodes filled.now.page.now }
-    requires button { IsWithin filled.now.button filled.now.page.now }
-    requires compared { AreCompared forms.old.names.now compared.old.all.items }
-    requires known { KnowsForms filled.now.page.now forms.old }
-    ensures asked { IfOk result (λ asked. IsTrue asked
-        → AsksAlikeAt forms.old.names.now address.now filled.now event.now target is.now) }
-    ensures compared { OnOk result (AreCompared forms.old.names.now compared.new.all.items) }
-    ensures known { OnOk result (KnowsForms filled.now.page.now forms.new) }
-    ensures names { forms.new.names ≡ forms.old.names }
-{
-    let page = filled.page;
-    match event {
-        Event::Input { .. } => Ok(false),
-        Event::Click { req: 0, .. } | Event::Submit { req: 0, .. } => Ok(false),
-        Event::Click { req, .. } => {
-            if *req != is.number {
-                return Ok(false);
-            }
-            is_followed_alike(alloc, forms.names, page, target, is, compared)
-        }
-        Event::Submit { req, .. } => {
-            let action = forms::action_of(address, page, target);
-            forms.look_under(alloc, target)?;
-            let senders = forms.senders_under(target).as_slice();
-            let post = forms::is_post(page, target);
-            if *req != is.number {
-                return Ok(false);
-            }
-            is_sent_alike(alloc, forms.names, filled, senders, post, action, is)
-        }
-    }
-}
+// ---- whether they go elsewhere
 
 /// Whether that of such an event goes to another address than that one. What is sent under post isn't looked at.
 pub(crate) fn leads_elsewhere(
@@ -276,180 +201,6 @@ fn is_query_apart(
             let counts = without_fresh(alloc, fresh.as_slice(), now)?;
             Ok(!is_what_counts(filled, senders, action, counts.as_str()))
         }
-    }
-}
-
-// A click sends the address of its link as it is written.
-fn link_request(
-    alloc: Global,
-    new: &Page,
-    number: u64,
-    link: u32,
-) -> Result<Option<Request>, NoMemory>
-    ensures { IfOk result (λ request. request ≡ link_request number (place_numbered link new.now) new.now) }
-{
-    let Some(address) = new.attribute_of(link, "href") else {
-        return Ok(None);
-    };
-    Ok(Some(Request {
-        number,
-        method: Method::Get,
-        address: Text::from_str(alloc, address)?,
-        pairs: Text::from(String::new(alloc)),
-    }))
-}
-
-// Whether a request asks for what that link asks for, but for the values of fresh names.
-fn is_followed_alike(
-    alloc: Global,
-    fresh: &[Text],
-    page: &Page,
-    link: u32,
-    is: &Request,
-    compared: &mut Comparisons,
-) -> Result<bool, NoMemory>
-    requires { AreCompared fresh.now compared.old.all.items }
-    ensures known { OnOk result (AreCompared fresh.now compared.new.all.items) }
-    ensures alike { IfOk result (λ alike. IsTrue alike
-        → IsAlike fresh.now (link_request is.now.number (place_numbered link page.now) page.now) is.now) }
-{
-    let Some(address) = page.attribute_of(link, "href") else {
-        return Ok(false);
-    };
-    if is.pairs.as_str() != "" {
-        return Ok(false);
-    }
-    let apart = compared.differ(alloc, fresh, address, is.address.as_str())?;
-    Ok(!apart)
-}
-
-// ---- forms
-
-fn form_request(
-    alloc: Global,
-    post: bool,
-    number: u64,
-    action: &str,
-    pairs: Text,
-) -> Result<Request, NoMemory>
-    ensures { IfOk result (λ request. request ≡ sent_to post number action.now pairs) }
-{
-    if post {
-        return Ok(Request {
-            number,
-            method: Method::Post,
-            address: Text::from_str(alloc, action)?,
-            pairs,
-        });
-    }
-    Ok(Request {
-        number,
-        method: Method::Get,
-        address: with_query(alloc, bare(action), pairs.as_str())?,
-        pairs,
-    })
-}
-
-// Whether a request asks for what a form whose senders these are asks for at that action, but for the values of fresh names.
-fn is_sent_alike(
-    alloc: Global,
-    fresh: &[Text],
-    filled: &Filled<'_, '_>,
-    senders: &[Sender<'_>],
-    post: bool,
-    action: &str,
-    is: &Request,
-) -> Result<bool, NoMemory>
-    requires senders { All (IsSender filled.now.page.now) senders.now }
-    requires marked { All (SaysFresh fresh.now) senders.now }
-    ensures { IfOk result (λ alike. IsTrue alike → are_alike fresh.now
-        (sent_to post is.now.number action.now (extend_pairs [] (sent_all filled.now senders.now))) is.now ≡ true) }
-{
-    if !senders.iter().any(|sender| sender.is_fresh) {
-        return Ok(is_sent_so(filled, senders, post, action, is));
-    }
-    if post {
-        is_posted_alike(alloc, fresh, filled, senders, action, is)
-    } else {
-        is_queried_alike(alloc, fresh, filled, senders, action, is)
-    }
-}
-
-// The same under get, where the form has some of these names.
-fn is_queried_alike(
-    alloc: Global,
-    fresh: &[Text],
-    filled: &Filled<'_, '_>,
-    senders: &[Sender<'_>],
-    action: &str,
-    is: &Request,
-) -> Result<bool, NoMemory>
-    requires senders { All (IsSender filled.now.page.now) senders.now }
-    requires marked { All (SaysFresh fresh.now) senders.now }
-    ensures { IfOk result (λ alike. IsTrue alike → are_alike fresh.now
-        (sent_to false is.now.number action.now (extend_pairs [] (sent_all filled.now senders.now))) is.now ≡ true) }
-{
-    if !has_query(is.address.as_str(), is.pairs.as_str()) {
-        return Ok(false);
-    }
-    let counts = without_fresh(alloc, fresh, is.address.as_str())?;
-    Ok(is_what_counts(filled, senders, action, counts.as_str()))
-}
-
-// The same under post, where the form has some of these names.
-fn is_posted_alike(
-    alloc: Global,
-    fresh: &[Text],
-    filled: &Filled<'_, '_>,
-    senders: &[Sender<'_>],
-    action: &str,
-    is: &Request,
-) -> Result<bool, NoMemory>
-    requires senders { All (IsSender filled.now.page.now) senders.now }
-    requires marked { All (SaysFresh fresh.now) senders.now }
-    ensures { IfOk result (λ alike. IsTrue alike → are_alike fresh.now
-        (sent_to true is.now.number action.now (extend_pairs [] (sent_all filled.now senders.now))) is.now ≡ true) }
-{
-    if is.address.as_str() != action || !is_whole(is.pairs.as_str()) {
-        return Ok(false);
-    }
-    is_sent_but_for_fresh(alloc, fresh, filled, senders, is.pairs.as_str())
-}
-
-// Whether a request is what a form whose senders these are sends to that action.
-fn is_sent_so(
-    filled: &Filled<'_, '_>,
-    senders: &[Sender<'_>],
-    post: bool,
-    action: &str,
-    is: &Request,
-) -> bool
-    requires { All (IsSender filled.now.page.now) senders.now }
-    ensures { IsTrue result
-        → is.now ≡ sent_to post is.now.number action.now (extend_pairs [] (sent_all filled.now senders.now)) }
-{
-    is_sent_there(post, action, is) && are_pairs(filled, senders, is.pairs.as_str().as_bytes())
-}
-
-// Whether a form that sends these pairs to that action sends them to where the request goes.
-fn is_sent_there(post: bool, action: &str, is: &Request) -> bool
-    ensures { IsTrue result → is.now ≡ sent_to post is.now.number action.now is.now.pairs }
-{
-    let address = is.address.as_str();
-    match is.method {
-        Method::Load => false,
-        Method::Post => post && address == action,
-        Method::Get => !post && is_query_of(bare(action), address, is.pairs.as_str()),
-    }
-}
-
-// Whether the address is that start with that query behind it.
-fn is_query_of(start: &str, address: &str, query: &str) -> bool
-    ensures { IsTrue result → address.now ≡ start.now ++ codes "?" ++ query.now }
-{
-    match query_behind(start, address) {
-        Some(rest) => rest == query.as_bytes(),
-        None => false,
     }
 }
 

@@ -1,10 +1,10 @@
 //! The nodes under a form that may send something. They are listed once, since many submits may send the same form.
 ghost use Rattle.std.specs.Prelude.{ℕ, List, Bool, ◌≡◌, ◌<◌, ◌++◌, [], None, All, IfOk, IfSome, OnOk, unwrap_or, option_map};
-ghost use Rattle.std.specs.Cow.{cow_str_bytes};
 ghost use Rattle.std.specs.List.{cons_option};
 ghost use Rattle.page_looks.specs.Outline.{is_one_of};
 ghost use Rattle.page_tree.specs.Limits.{nodes};
 ghost use Rattle.page_tree.specs.Control.{control_at, start_text_at};
+ghost use Rattle.page_tree.specs.Started.{text_started};
 ghost use Rattle.page_tree.specs.Number.{place_numbered};
 ghost use Rattle.visit_replay.specs.Form.{sent_name, sent_value, unless_empty, value_or};
 ghost use Rattle.visit_replay.specs.inside.FieldsNow.{is_of_one, pair_now};
@@ -12,9 +12,8 @@ ghost use Rattle.visit_replay.specs.inside.Senders.{SaysFresh, IsSender, SendsTh
 ghost use Rattle.visit_replay.specs.declared.forms.Filled.{Filled as PlainFilled};
 
 use crate::conflicts::is_disabled;
-use page_tree::{Control, NoMemory, Page, Text};
+use page_tree::{Control, NoMemory, Page, StartText, Text};
 use std::alloc::Global;
-use std::borrow::CowStr;
 
 /// One of them: its number, its name, whether that is fresh, and what it sends.
 #[derive(Drop)]
@@ -28,7 +27,7 @@ pub(crate) struct Sender<'p> {
 /// What a node sends: the text that it holds, or its value, if it is on or was pressed.
 #[derive(Drop)]
 pub(crate) enum MaySend<'p> {
-    Text { start: CowStr<'p, Global> },
+    Text { start: StartText<'p> },
     IfOn { value: &'p str, starts_on: bool },
     Always { value: &'p str },
     IfPressed { value: &'p str },
@@ -49,7 +48,7 @@ impl<'p> Senders<'p> {
         names: &[Text],
     ) -> Result<Senders<'p>, NoMemory>
         requires { form < nodes page.now }
-        ensures { IfOk result (SendUnder names.now page.now form) }
+        ensures { IfOk result (λ them. SendUnder names.now page.now form them.all.items) }
     {
         let mut them = Senders {
             all: Vec::new(alloc),
@@ -75,20 +74,27 @@ impl<'p> Senders<'p> {
         ensures pairs { OnOk result ((filled : PlainFilled) → filled.page.now ≡ page.now → sent_all filled self.new.all.items
             ≡ sent_all filled self.old.all.items ++ cons_option (pair_now filled number) []) }
     {
-        let Some(name) = sent_name(page, number) else {
-            return Ok(());
-        };
-        let Some(sends) = sends_at(page, number)? else {
-            return Ok(());
-        };
-        self.all.push(Sender {
-            number,
-            name,
-            is_fresh: is_among(names, name),
-            sends,
-        })?;
+        if let Some(sender) = sender_at(page, number, names) {
+            self.all.push(sender)?;
+        }
         Ok(())
     }
+}
+
+/// The node with that number, if it may send something.
+pub(crate) fn sender_at<'p>(page: &'p Page, number: u32, names: &[Text]) -> Option<Sender<'p>>
+    ensures some { IfSome result
+        (λ sender. (sender.number ≡ number) × IsSender page.now sender × SaysFresh names.now sender) }
+    ensures none { result ≡ None → (filled : PlainFilled) → filled.page.now ≡ page.now → pair_now filled number ≡ None }
+{
+    let name = sent_name(page, number)?;
+    let sends = sends_at(page, number)?;
+    Some(Sender {
+        number,
+        name,
+        is_fresh: is_among(names, name),
+        sends,
+    })
 }
 
 // Whether a pair of that name has one of these.
@@ -126,40 +132,39 @@ pub(crate) fn unless_empty(text: Option<&str>) -> Option<&str>
 
 // What a node may send, if anything: a radio button, whose state can't change, must start on.
 #[tactic(auto, unfolding(crate::specs::Form::sent_value))]
-fn sends_at<'p>(page: &'p Page, number: u32) -> Result<Option<MaySend<'p>>, NoMemory>
-    ensures some { IfOk result (λ sends. IfSome sends (SendsThere page.now number)) }
-    ensures none { IfOk result (λ sends. sends ≡ None → (text : List ℕ) (on pressed : Bool)
-        → sent_value (control_at (place_numbered number page.now) page.now) text on pressed page.now (place_numbered number page.now) ≡ None) }
+fn sends_at(page: &Page, number: u32) -> Option<MaySend<'_>>
+    ensures some { IfSome result (SendsThere page.now number) }
+    ensures none { result ≡ None → (text : List ℕ) (on pressed : Bool)
+        → sent_value (control_at (place_numbered number page.now) page.now) text on pressed page.now (place_numbered number page.now) ≡ None }
 {
     match page.control_of(number) {
-        Control::Text => {
-            let start = start_of(page, number)?;
-            Ok(Some(MaySend::Text { start }))
-        }
+        Control::Text => Some(MaySend::Text {
+            start: start_of(page, number),
+        }),
         Control::Check => {
             let value = value_or("on", page, number);
             let starts_on = page.start_checked_of(number);
-            Ok(Some(MaySend::IfOn { value, starts_on }))
+            Some(MaySend::IfOn { value, starts_on })
         }
         Control::Radio if page.start_checked_of(number) => {
             let value = value_or("on", page, number);
-            Ok(Some(MaySend::Always { value }))
+            Some(MaySend::Always { value })
         }
         Control::Submit => {
             let value = value_or("", page, number);
-            Ok(Some(MaySend::IfPressed { value }))
+            Some(MaySend::IfPressed { value })
         }
-        _ => Ok(None),
+        _ => None,
     }
 }
 
-fn start_of<'p>(page: &'p Page, number: u32) -> Result<CowStr<'p, Global>, NoMemory>
-    ensures { IfOk result (λ text. cow_str_bytes text
-        ≡ unwrap_or (start_text_at (place_numbered number page.now) page.now) []) }
+fn start_of(page: &Page, number: u32) -> StartText<'_>
+    ensures { text_started page.now number result
+        ≡ unwrap_or (start_text_at (place_numbered number page.now) page.now) [] }
 {
-    match page.start_text_of(number)? {
-        Some(text) => Ok(text),
-        None => Ok(CowStr::Borrowed("")),
+    match page.start_of(number) {
+        Some(start) => start,
+        None => StartText::Whole(""),
     }
 }
 

@@ -5,5 +5,6 @@ pub mod RunLaws
 pub mod RepairLaws
 pub mod ReportLaws
 pub mod BufferLaws
+pub mod EncodedLaws
 pub mod QuotingLaws
 pub mod FirstStopLaws

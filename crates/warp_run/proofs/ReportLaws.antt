@@ -1,12 +1,13 @@
 -- The texts of clients, visits and requests, one after another.
-use Rattle.std.proofs.Common.{◌≡◌, ℕ, ◌+◌, ◌<◌, ◌≤◌, List, [], ◌∷◌, ◌++◌, Option, Err, codes, length, get_or, drop, drop-cons, add-one, refl, sym, ap, append_assoc, arith}
+use Rattle.std.proofs.Common.{◌≡◌, ℕ, ◌+◌, ◌<◌, ◌≤◌, List, [], ◌∷◌, ◌++◌, Option, Some, Err, codes, length, get_or, drop, drop-cons, add-one, refl, sym, ap, append_assoc, arith}
 use Rattle.std.proofs.lemmas.List.{drop_all}
 use Rattle.std.specs.List.{flat_map}
 use Rattle.conflict_desk.specs.declared.fault.DeskFault.{DeskFault}
 use Rattle.conflict_desk.specs.declared.fault.DeskFault.TheVariants.{NoClient, NotFront, NoMemory}
 use Rattle.visit_replay.specs.declared.requests.Request.{Request}
+use Rattle.visit_replay.specs.Difference.{first_was, others_behind}
 use Rattle.warp_run.specs.Report.{answer_words, report_line, request_line, marked_line, told_requests}
-use Rattle.warp_run.specs.inside.{first_was, others_behind}
+use Rattle.warp_run.specs.inside.{told_line}
 
 -- that of one, and of those behind it
 pub text_here : {A : Type 0} (text : A → List ℕ) (xs : List A) (i : ℕ) (x : A) → i < length xs → x ≡ get_or xs i x
@@ -22,13 +23,14 @@ told_step : (former : List (Option Request)) (r : Request) (rest : List Request)
 told_step [] r rest = refl
 told_step (was ∷ former) r rest = refl
 
-pub told_here : (former others : List (Option Request)) (requests rest : List Request) (r : Request) → others ≡ others_behind former → requests ≡ r ∷ rest
-    → request_line r ++ (marked_line (codes "was") (first_was former) ++ told_requests others rest) ≡ told_requests former requests
-told_here former others requests rest r behind split = rw (behind, split) (told_step former r rest)
+-- one that is told, and what it was
+pub told_here : (former others : List (Option Request)) (requests rest : List Request) (r : Request) (now was : Option Request)
+    → requests ≡ r ∷ rest → now ≡ Some r → was ≡ first_was former → others ≡ others_behind former
+    → told_line [] now ++ (told_line (codes "was ") was ++ told_requests others rest) ≡ told_requests former requests
+told_here former others requests rest r now was split is before behind = rw (split, is, before, behind) (told_step former r rest)
 
-pub told_none : (former : List (Option Request)) (requests : List Request) → length requests ≡ 0 → [] ≡ told_requests former requests
-told_none former [] none = refl
-told_none former (r ∷ rest) none = absurd (omega (arith, none))
+pub told_none : (former : List (Option Request)) (requests : List Request) → requests ≡ [] → [] ≡ told_requests former requests
+told_none former requests none = rw none refl
 
 -- ---- lines in the pieces in which they are put
 

@@ -1,11 +1,16 @@
 -- What a run makes of the upload that it reads, and what is told of requests one by one.
-use Rattle.std.specs.Prelude.{◌≡◌, ℕ, List, [], ◌∷◌, Option, Some, None}
+use Rattle.std.specs.Prelude.{◌≡◌, ℕ, List, [], ◌∷◌, ◌++◌, codes, decimal, if◌then◌else◌, Option, Some}
+use Rattle.std.specs.Option.{option_map_or}
+use Rattle.json.specs.Print.{escape}
 use Rattle.upload_reader.specs.Upload.{UploadState}
 use Rattle.client_log.specs.declared.visit.Visit.{Visit}
 use Rattle.replay_workers.specs.declared.pool.KeptVisits.{KeptVisits}
 use Rattle.lanes_in_turn.specs.declared.gathered.Gathered.{Gathered}
 use Rattle.lanes_in_turn.specs.declared.gathered.LaneResult.{LaneResult}
 use Rattle.visit_replay.specs.declared.requests.Request.{Request}
+use Rattle.visit_replay.specs.declared.told.ToldForm.{ToldForm}
+use Rattle.visit_replay.specs.Form.{bare}
+use Rattle.warp_run.specs.Report.{request_line, json_string}
 pub mod Telling
 
 -- a lane alone was gathered, and it has its upload
@@ -15,14 +20,15 @@ pub record HasOnlyUpload {R : Type 0} (gathered : Gathered R) : Type 0 where
   pub entries_are : gathered.clients.entries ≡ entry ∷ []
   pub upload_is : entry.1.upload ≡ Some now
 
--- what the first of these requests was, and the others
-abbrev pub first_was : List (Option Request) → Option Request
-first_was [] = None
-first_was (was ∷ former) = was
+-- the line of a request behind a word, where there is one
+abbrev pub told_line : List ℕ → Option Request → List ℕ
+told_line word told = option_map_or (λ r. word ++ request_line r) told []
 
-abbrev pub others_behind : List (Option Request) → List (Option Request)
-others_behind [] = []
-others_behind (was ∷ former) = former
+-- the line of a form's request, up to the pairs
+abbrev pub form_start : ToldForm → List ℕ
+form_start form = if form.post
+    then codes "post " ++ decimal form.number ++ codes " " ++ json_string form.action.now ++ 32 ∷ 34 ∷ []
+    else codes "get " ++ decimal form.number ++ 32 ∷ 34 ∷ [] ++ escape (bare form.action.now) ++ codes "?"
 
 -- a client with the visits that are kept of it
 abbrev pub client_visits : KeptVisits → List ℕ × List Visit

@@ -29,7 +29,8 @@ pub use listed::Listed;
 pub use repaired::{ClientSummary, PutDecision, Repaired};
 pub use repairing::{repair, repair_with_own};
 pub use reporting::{
-    ReportBuffer, ReportFault, add_end, add_lane_fault, add_quoted, add_repaired, add_stop, report,
+    ReportBuffer, ReportFault, ReportRoom, add_end, add_lane_fault, add_quoted, add_repaired,
+    add_stop, report,
 };
 pub use running::run;
 pub use settling::settle;

@@ -1,11 +1,13 @@
 //! The report of what was repaired. It is written as it is made, client by client, and asks for memory only before the first write.
-ghost use Rattle.std.specs.Prelude.{◌≡◌, ◌++◌, Some, Err, codes, decimal, slice_get};
+ghost use Rattle.std.specs.Prelude.{◌≡◌, ◌++◌, [], Some, Err, codes, option_map, slice_get};
 ghost use Rattle.std.specs.List.{flat_map};
 ghost use Rattle.byte_streams.specs.Writing.{writes_of};
 ghost use Rattle.upload_reader.specs.declared.ending.Ending.TheVariants.{Over};
 ghost use Rattle.conflict_desk.specs.Book.{standing_in, standing_requests};
 ghost use Rattle.conflict_desk.specs.declared.decided.Standing.TheVariants.{Waiting};
-ghost use Rattle.warp_run.specs.inside.{first_was, others_behind};
+ghost use Rattle.std.specs.Option.{option_map_or};
+ghost use Rattle.visit_replay.specs.inside.Tellings.{told_request};
+ghost use Rattle.warp_run.specs.inside.{told_line};
 ghost use Rattle.warp_run.specs.Buffer.{AddsText};
 ghost use Rattle.warp_run.specs.Report as plain;
 ghost use Rattle.warp_run.specs.Report.{WritesReport, report_text};
@@ -14,7 +16,9 @@ mod buffer;
 mod fault;
 mod fault_words;
 mod quoting;
+mod room;
 mod stops;
+mod telling;
 
 use crate::repaired::{ClientSummary, PutDecision, Repaired};
 pub use buffer::ReportBuffer;
@@ -25,9 +29,11 @@ pub use fault_words::add_lane_fault;
 use fault_words::{conflict_code, desk_fault_code};
 use lanes_in_turn::Stop;
 pub use quoting::add_quoted;
+pub use room::ReportRoom;
 use std::alloc::Global;
+use telling::add_request;
 use upload_reader::{Ending, LaneEnd};
-use visit_replay::{Contrast, Difference, Method, Outcome, Request};
+use visit_replay::{Contrast, Difference, Former, Outcome, Single, ToldRequest};
 
 /// Writes the report: why the taking stopped, then each client with its visits and their requests, and then each decision with its answer. O1 where a write
 /// fails or takes nothing, O2 where memory is refused, and then nothing is written.
@@ -39,8 +45,9 @@ pub fn report<W: Sink>(
     ensures { WritesReport (writes_of W.puts W.contents writer.old writer.new) (report_text repaired.now) result }
 {
     let mut buffer = ReportBuffer::new(alloc)?;
+    let mut room = ReportRoom::new(alloc)?;
     add_stop(&mut buffer, writer, repaired.stop);
-    add_repaired(&mut buffer, writer, repaired);
+    add_repaired(&mut buffer, &mut room, writer, repaired);
     buffer.finish(writer)
 }
 
@@ -52,10 +59,21 @@ pub fn add_stop<W: Sink>(buffer: &mut ReportBuffer, writer: &mut W, stop: Stop)
 }
 
 /// Adds the lines of clients and decisions.
-pub fn add_repaired<W: Sink>(buffer: &mut ReportBuffer, writer: &mut W, repaired: &Repaired)
+pub fn add_repaired<'r, W: Sink>(
+    buffer: &mut ReportBuffer,
+    room: &mut ReportRoom<'r>,
+    writer: &mut W,
+    repaired: &'r Repaired,
+)
     ensures { AddsText W.puts W.contents writer.old buffer.old writer.new buffer.new (plain.repaired_text repaired.now) }
 {
-    add_clients(buffer, writer, &repaired.desk, repaired.clients.as_slice());
+    add_clients(
+        buffer,
+        room,
+        writer,
+        &repaired.desk,
+        repaired.clients.as_slice(),
+    );
     add_decisions(buffer, writer, repaired.decided.as_slice());
 }
 
@@ -71,24 +89,26 @@ fn stop_line(stop: Stop) -> &'static str
 
 // ---- clients
 
-fn add_clients<W: Sink>(
+fn add_clients<'r, W: Sink>(
     buffer: &mut ReportBuffer,
+    room: &mut ReportRoom<'r>,
     writer: &mut W,
-    desk: &Desk,
+    desk: &'r Desk,
     clients: &[ClientSummary],
 )
     ensures { AddsText W.puts W.contents writer.old buffer.old writer.new buffer.new
         (flat_map (plain.client_text desk.now) clients.now) }
 {
     for client in clients {
-        add_client(buffer, writer, desk, client);
+        add_client(buffer, room, writer, desk, client);
     }
 }
 
-fn add_client<W: Sink>(
+fn add_client<'r, W: Sink>(
     buffer: &mut ReportBuffer,
+    room: &mut ReportRoom<'r>,
     writer: &mut W,
-    desk: &Desk,
+    desk: &'r Desk,
     client: &ClientSummary,
 )
     ensures { AddsText W.puts W.contents writer.old buffer.old writer.new buffer.new
@@ -96,7 +116,7 @@ fn add_client<W: Sink>(
 {
     add_client_line(buffer, writer, client);
     match desk.docket(&client.client) {
-        Some(docket) => add_visits(buffer, writer, docket),
+        Some(docket) => add_visits(buffer, room, writer, docket),
         None => {}
     }
 }
@@ -136,21 +156,27 @@ fn add_lane_end<W: Sink>(buffer: &mut ReportBuffer, writer: &mut W, end: LaneEnd
 
 // ---- visits
 
-fn add_visits<W: Sink>(buffer: &mut ReportBuffer, writer: &mut W, docket: &OpenDocket)
+fn add_visits<'r, W: Sink>(
+    buffer: &mut ReportBuffer,
+    room: &mut ReportRoom<'r>,
+    writer: &mut W,
+    docket: &'r OpenDocket,
+)
     ensures { AddsText W.puts W.contents writer.old buffer.old writer.new buffer.new (plain.book_text docket.now) }
 {
     for (place, case) in docket.cases().iter().enumerate() {
-        add_visit(buffer, writer, docket, place, case);
+        add_visit(buffer, room, writer, docket, place, case);
     }
 }
 
 // The visit of the case at that place; once a write failed, none.
-fn add_visit<W: Sink>(
+fn add_visit<'r, W: Sink>(
     buffer: &mut ReportBuffer,
+    room: &mut ReportRoom<'r>,
     writer: &mut W,
-    docket: &OpenDocket,
+    docket: &'r OpenDocket,
     place: usize,
-    case: &Case,
+    case: &'r Case,
 )
     requires { slice_get docket.now.cases place ≡ Some case.now }
     ensures { AddsText W.puts W.contents writer.old buffer.old writer.new buffer.new
@@ -161,13 +187,10 @@ fn add_visit<W: Sink>(
     }
     let standing = docket.standing_at(place);
     add_visit_line(buffer, writer, case.visit, standing, &case.outcome);
-    add_requests(
-        buffer,
-        writer,
-        former_of(&case.difference),
-        docket.requests_at(place),
-    );
-    add_changed(buffer, writer, standing, &case.difference);
+    room.requests.begin(docket.requests_at(place));
+    room.former.begin(former_of(&case.difference));
+    add_requests(buffer, writer, room);
+    add_changed(buffer, room, writer, standing, &case.difference);
 }
 
 fn add_visit_line<W: Sink>(
@@ -210,58 +233,52 @@ fn standing_word(standing: Standing) -> &'static str
 // ---- requests
 
 // Each, and behind it what it was, where it is another now.
-fn add_requests<W: Sink>(
-    buffer: &mut ReportBuffer,
-    writer: &mut W,
-    former: &[Option<Request>],
-    requests: &[Request],
-)
+fn add_requests<W: Sink>(buffer: &mut ReportBuffer, writer: &mut W, room: &mut ReportRoom<'_>)
     ensures { AddsText W.puts W.contents writer.old buffer.old writer.new buffer.new
-        (plain.told_requests former.now requests.now) }
+        (plain.told_requests room.old.former.1 room.old.requests.1) }
 {
-    let mut former = former;
-    let mut requests = requests;
-    while let Some((request, rest)) = requests.split_first() {
-        add_request(buffer, writer, request);
-        former = add_first(buffer, writer, former);
-        requests = rest;
+    while room.requests.advance() {
+        room.former.advance();
+        add_told(buffer, writer, "", room.requests.told());
+        add_told(buffer, writer, "was ", room.former.told());
     }
 }
 
-// The first of these, if any; it gives the others.
-fn add_first<'f, W: Sink>(
+// What is told, if anything, behind that word.
+fn add_told<W: Sink>(
     buffer: &mut ReportBuffer,
     writer: &mut W,
-    former: &'f [Option<Request>],
-) -> &'f [Option<Request>]
-    ensures text { AddsText W.puts W.contents writer.old buffer.old writer.new buffer.new
-        (plain.marked_line (codes "was") (first_was former.now)) }
-    ensures others { result.now ≡ others_behind former.now }
+    word: &str,
+    told: Option<ToldRequest<'_>>,
+)
+    ensures { AddsText W.puts W.contents writer.old buffer.old writer.new buffer.new
+        (told_line word.now (option_map told_request told.entry)) }
 {
-    match former.split_first() {
-        None => former,
-        Some((was, others)) => {
-            add_was(buffer, writer, was);
-            others
+    match told {
+        None => {}
+        Some(request) => {
+            buffer.add(writer, word);
+            add_request(buffer, writer, &request);
         }
     }
 }
 
-fn former_of(difference: &Difference) -> &[Option<Request>]
-    ensures { result.now ≡ plain.former_of difference.now }
+fn former_of(difference: &Difference) -> Option<&Former>
+    ensures { option_map_or (λ f. f.now) result [] ≡ plain.former_of difference.now }
 {
     match difference.contrast() {
-        Some(Contrast::Done { was }) => was.as_slice(),
-        Some(Contrast::Changed { .. }) => &[],
-        None => &[],
+        Some(Contrast::Done { was }) => Some(was),
+        Some(Contrast::Changed { .. }) => None,
+        None => None,
     }
 }
 
-fn add_changed<W: Sink>(
+fn add_changed<'r, W: Sink>(
     buffer: &mut ReportBuffer,
+    room: &mut ReportRoom<'r>,
     writer: &mut W,
     standing: Standing,
-    difference: &Difference,
+    difference: &'r Difference,
 )
     ensures { AddsText W.puts W.contents writer.old buffer.old writer.new buffer.new
         (plain.changed_text standing difference.now) }
@@ -269,14 +286,19 @@ fn add_changed<W: Sink>(
     match standing {
         Standing::Untouched => {}
         Standing::Done => {}
-        Standing::Waiting => add_waiting(buffer, writer, difference),
+        Standing::Waiting => add_waiting(buffer, room, writer, difference),
         Standing::Kept => {}
         Standing::Cancelled => {}
     }
 }
 
 // Under a visit that waits at K11, what its event asked for, and what it asks for now.
-fn add_waiting<W: Sink>(buffer: &mut ReportBuffer, writer: &mut W, difference: &Difference)
+fn add_waiting<'r, W: Sink>(
+    buffer: &mut ReportBuffer,
+    room: &mut ReportRoom<'r>,
+    writer: &mut W,
+    difference: &'r Difference,
+)
     ensures { AddsText W.puts W.contents writer.old buffer.old writer.new buffer.new
         (plain.changed_text Waiting difference.now) }
 {
@@ -284,67 +306,29 @@ fn add_waiting<W: Sink>(buffer: &mut ReportBuffer, writer: &mut W, difference: &
         None => {}
         Some(Contrast::Done { .. }) => {}
         Some(Contrast::Changed { was, now }) => {
-            add_was(buffer, writer, was);
-            add_now(buffer, writer, now);
+            add_single(buffer, room, writer, "was ", was);
+            add_single(buffer, room, writer, "now ", now);
         }
     }
 }
 
-fn add_was<W: Sink>(buffer: &mut ReportBuffer, writer: &mut W, was: &Option<Request>)
+fn add_single<'r, W: Sink>(
+    buffer: &mut ReportBuffer,
+    room: &mut ReportRoom<'r>,
+    writer: &mut W,
+    word: &str,
+    single: &'r Option<Single>,
+)
     ensures { AddsText W.puts W.contents writer.old buffer.old writer.new buffer.new
-        (plain.marked_line (codes "was") was.now) }
+        (told_line word.now single.now) }
 {
-    match was {
+    match single {
         None => {}
-        Some(request) => {
-            buffer.add(writer, "was ");
-            add_request(buffer, writer, request);
+        Some(single) => {
+            room.requests.tell(single);
+            add_told(buffer, writer, word, room.requests.told());
         }
     }
-}
-
-fn add_now<W: Sink>(buffer: &mut ReportBuffer, writer: &mut W, now: &Option<Request>)
-    ensures { AddsText W.puts W.contents writer.old buffer.old writer.new buffer.new
-        (plain.marked_line (codes "now") now.now) }
-{
-    match now {
-        None => {}
-        Some(request) => {
-            buffer.add(writer, "now ");
-            add_request(buffer, writer, request);
-        }
-    }
-}
-
-fn add_request<W: Sink>(buffer: &mut ReportBuffer, writer: &mut W, request: &Request)
-    ensures { AddsText W.puts W.contents writer.old buffer.old writer.new buffer.new (plain.request_line request.now) }
-{
-    match request.method {
-        Method::Load => {
-            add_address(buffer, writer, "load ", request);
-            buffer.add(writer, "\n");
-        }
-        Method::Get => {
-            add_address(buffer, writer, "get ", request);
-            buffer.add(writer, "\n");
-        }
-        Method::Post => {
-            add_address(buffer, writer, "post ", request);
-            buffer.add(writer, " ");
-            add_quoted(buffer, writer, request.pairs.as_str());
-            buffer.add(writer, "\n");
-        }
-    }
-}
-
-// Its method, its number and where it goes.
-fn add_address<W: Sink>(buffer: &mut ReportBuffer, writer: &mut W, method: &str, request: &Request)
-    ensures { AddsText W.puts W.contents writer.old buffer.old writer.new buffer.new
-        (method.now ++ decimal request.now.number ++ codes " " ++ plain.json_string request.now.address) }
-{
-    buffer.add_with_number(writer, method, request.number);
-    buffer.add(writer, " ");
-    add_quoted(buffer, writer, request.address.as_str());
 }
 
 // ---- decisions

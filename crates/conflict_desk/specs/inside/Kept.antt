@@ -1,5 +1,5 @@
 -- What holds of the fields of an open docket.
-use Rattle.std.specs.Prelude.{◌≡◌, ℕ, ◌<◌, ◌≤◌, List, length, Bool, true, false, Some, slice_get, vec_capacity}
+use Rattle.std.specs.Prelude.{◌≡◌, ℕ, ◌<◌, ◌≤◌, List, [], length, Bool, true, false, Some, slice_get, vec_capacity}
 use Rattle.std.specs.Option.{option_map_or}
 use Rattle.conflict_desk.specs.Docket.{AreAscending}
 use Rattle.conflict_desk.specs.Book.{Book, is_decided, is_cancelled, waits}
@@ -29,3 +29,4 @@ pub record IsKept (book : Book) (links : List Link) (flags : List Bool) (next : 
 
 abbrev pub IsOpenDocket : Inside → Type 0
 IsOpenDocket o = IsKept (book_in o) o.links.items o.gone.items o.next × (length o.cases ≤ vec_capacity o.decisions)
+    × (o.none ≡ [])

@@ -1,20 +1,17 @@
 -- A visit's own requests, and what was looked up on pages, as the code keeps them while it goes through the events.
-use Rattle.std.specs.Prelude.{ℕ, ◌≡◌, ◌==◌, ◌<◌, length, List, [], ◌∷◌, All, not, if◌then◌else◌, Option, Some, None, IfSome, map, option_and_then, option_map, slice_get, take}
-use Rattle.std.specs.Borrow.{Bor}
-use Rattle.std.specs.BTreeMap.{BTreeMap, get}
-use Rattle.std.specs.List.{find, filter, filter_map, range_with_len}
+use Rattle.std.specs.Prelude.{ℕ, ◌≡◌, ◌==◌, ◌<◌, length, List, All, not, if◌then◌else◌, Option, Some, None, IfSome, map, option_and_then, option_map, slice_get}
+use Rattle.std.specs.BTreeMap.{get}
+use Rattle.std.specs.List.{find, filter}
 use Rattle.std.specs.Ordering.{nat_cmp}
 use Rattle.std.specs.Str.{bytes_eq}
 use Rattle.page_looks.specs.Sending.{without_fresh}
 use Rattle.page_tree.specs.Tree.{Tree}
 use Rattle.page_tree.specs.Number.{place_numbered}
 use Rattle.upload_reader.specs.declared.message.Event.{Event}
-use Rattle.client_log.specs.declared.visit.Visit.{Visit}
 use Rattle.xpath_child.specs.Path.{Step}
 use Rattle.xpath_child.specs.Targets.{target_in, only_place}
-use Rattle.visit_replay.specs.Aim.{Aim, place_of_aim, button_of_aim, by_path, hidden_named, is_same_name}
-use Rattle.visit_replay.specs.Difference.{was_asked, are_alike}
-use Rattle.visit_replay.specs.Requests.{request_at}
+use Rattle.visit_replay.specs.Aim.{place_of_aim, by_path, hidden_named, is_same_name}
+use Rattle.visit_replay.specs.Difference.{are_alike}
 use Rattle.visit_replay.specs.declared.comparisons.Comparison.{Comparison}
 use Rattle.visit_replay.specs.declared.comparisons.Comparisons.{Comparisons}
 use Rattle.visit_replay.specs.declared.known_inputs.KnownInputs.{KnownInputs}
@@ -22,45 +19,20 @@ use Rattle.visit_replay.specs.declared.known_paths.KnownPath.{KnownPath}
 use Rattle.visit_replay.specs.declared.lookups.Lookups.{Lookups}
 use Rattle.visit_replay.specs.declared.named_inputs.NamedInputs.{NamedInputs}
 use Rattle.visit_replay.specs.declared.requests.Request.{Request}
+use Rattle.visit_replay.specs.declared.trail.Trail.{Trail}
+use Rattle.visit_replay.specs.inside.Trails.{asked_from}
 use Rattle.visit_replay.specs.declared.own_lookups.OwnLookups.{OwnLookups}
 use Rattle.visit_replay.specs.inside.OneEvent.{IsNodeOf, IsWithin, places_numbered}
 use Rattle.visit_replay.specs.inside.Senders.{KnowsForms}
 
--- what the event with k events before it asks for there, where these acted by those aims
-abbrev pub asked_there : (Event → Aim) → Visit → Tree → ℕ → Aim → Option Request
-asked_there aim visit page k here = option_and_then (λ event. option_and_then
-    (request_at aim visit.address page (take k visit.events) event (button_of_aim here)) (place_of_aim here))
-    (slice_get visit.events k)
+-- the first of a trail's requests with that number
+abbrev pub asked_as : Trail → ℕ → Option Request
+asked_as own number = find (λ r. r.number == number) (asked_from own 0)
 
--- the only request with that number, if there is one; none inside where there are several
-abbrev pub only_of : List Request → Option (Option Request)
-only_of [] = None
-only_of (one ∷ []) = Some (Some one)
-only_of (one ∷ other ∷ more) = Some None
-
-abbrev pub only_numbered : List Request → ℕ → Option (Option Request)
-only_numbered requests number = only_of (filter (λ r. r.number == number) requests)
-
-abbrev pub HasOnly : List Request → BTreeMap ℕ (Option (Bor Request)) → Type 0
-HasOnly requests all = (number : ℕ) →
-    option_map (λ only. option_map (λ r. r.now) only) (get nat_cmp all number) ≡ only_numbered requests number
-
--- what is kept of a request: nothing where none is made now with its number, or the only one is alike
-abbrev pub kept_beside : List (List ℕ) → Option (Option Request) → Request → Option Request
-kept_beside fresh None was = None
-kept_beside fresh (Some None) was = Some was
-kept_beside fresh (Some (Some is)) was = if are_alike fresh was is then None else Some was
-
--- what is kept, beside these requests, of the first of each number among those of the first k events
-abbrev pub HasNumbered : List (List ℕ) → List Request → Visit → ℕ → BTreeMap ℕ (Option Request) → Type 0
-HasNumbered fresh requests visit k all = (number : ℕ) → get nat_cmp all number
-    ≡ option_map (kept_beside fresh (only_numbered requests number))
-    (find (λ r. r.number == number) (filter_map (was_asked visit) (range_with_len 0 k)))
-
--- what a request was, where it differs, of which that with its number was asked
-abbrev pub IsFormer : List (List ℕ) → Option Request → Request → Option Request → Type 0
-IsFormer fresh asked is other = (was : Request) × (asked ≡ Some was) × (was.number ≡ is.number)
-    × (other ≡ (if are_alike fresh was is then None else Some was))
+-- what a request was by that trail, where it is another now
+abbrev pub other_by : List (List ℕ) → Trail → Request → Option Request
+other_by fresh own is =
+    option_and_then (λ was. if are_alike fresh was is then None else Some was) (asked_as own is.number)
 
 -- the number of the only node that the event's path leads to, if there is one
 abbrev pub IsTargetOf : Tree → Event → Option ℕ → Type 0
@@ -95,7 +67,7 @@ KnowsInputs page known = (known.page.now ≡ page)
 -- all of it, on the recorded page and on the repaired one
 abbrev pub AreLookedUp : Tree → Tree → Lookups → Type 0
 AreLookedUp old new lookups = KnowsPaths old lookups.paths.paths.items
-    × KnowsInputs old lookups.recorded × KnowsInputs new lookups.repaired × KnowsForms new lookups.forms
+    × KnowsInputs old lookups.recorded × KnowsInputs new lookups.repaired
 
 -- what was looked up on the page that a visit was made on, where these names are fresh
 abbrev pub KnowsOwn : List (List ℕ) → Tree → OwnLookups → Type 0

@@ -1,27 +1,34 @@
 -- What a form sends, by the fields as they are kept and without the events that changed them. Nodes go by their
 -- numbers.
 use Rattle.std.specs.Prelude.{◌≡◌, ℕ, ◌-◌, List, [], ◌∷◌, ◌++◌, Bool, true, false, ◌==◌, if◌then◌else◌, Option, Some, None, option_map, codes, filter, not}
-use Rattle.std.specs.List.{filter_map, range_with_len}
+use Rattle.std.specs.List.{filter_map, flat_map, range_with_len}
 use Rattle.std.specs.Option.{option_map_or}
 use Rattle.page_tree.specs.Number.{place_numbered}
+use Rattle.page_tree.specs.Started.{texts_below}
 use Rattle.upload_reader.specs.declared.message.Event.{Event}
 use Rattle.form_urlencoded.specs.Form.{extend_pairs, serialize_pair}
 use Rattle.form_urlencoded.specs.Target.{Target}
 use Rattle.page_looks.specs.Outline.{is_one_of}
-use Rattle.page_looks.specs.Sending.{pair_name, without_fresh}
+use Rattle.page_looks.specs.Sending.{pair_name}
 use Rattle.visit_replay.specs.Aim.{Aim}
-use Rattle.visit_replay.specs.Difference.{are_alike}
-use Rattle.visit_replay.specs.Form.{Pair, sent_pair, pairs_of}
+use Rattle.visit_replay.specs.Form.{Pair, sent_pair, pairs_held}
 use Rattle.visit_replay.specs.Moved.{are_apart}
 use Rattle.visit_replay.specs.Requests.{request_at}
-use Rattle.visit_replay.specs.inside.KeptFields.{Keeps, text_now, is_on_now}
+use Rattle.visit_replay.specs.inside.KeptFields.{Keeps, Hold, text_now, is_on_now}
 use Rattle.visit_replay.specs.inside.OneEvent.{places_numbered}
 use Rattle.visit_replay.specs.declared.requests.Request.{Request}
 use Rattle.visit_replay.specs.declared.forms.Filled.{Filled}
 use Rattle.visit_replay.specs.declared.forms.SentPair.{SentPair}
+use Rattle.visit_replay.specs.declared.forms.SentValue.{SentValue}
+use Rattle.visit_replay.specs.declared.forms.SentValue.TheVariants.{Text, Children}
+
+-- a value, whether it stands in one text or in those of a `textarea`'s children
+abbrev pub value_sent : SentValue → List ℕ
+value_sent (Text text) = text.now
+value_sent (Children page number) = flat_map (λ w. w) (texts_below page.now number)
 
 abbrev pub pair_of : SentPair → Pair
-pair_of sent = (sent.name.now, sent.value.now)
+pair_of sent = (sent.name.now, value_sent sent.value)
 
 -- the pair that the node with that number sends
 abbrev pub pair_now : Filled → ℕ → Option Pair
@@ -40,11 +47,11 @@ with_pairs target pairs = record target { form = extend_pairs target.form pairs 
 
 -- ---- behind events that its fields stand for
 
--- it is so of the pairs that the form with that number sends
+-- it is so of the pairs that the form with that number sends, whatever the fields hold
 abbrev pub OfSent : Filled → ℕ → (List Pair → Type 0) → Type 0
 OfSent filled form IsSo = let new = filled.page.now in
-    (aim : Event → Aim) (before : List Event) → Keeps aim filled.fields.now new before
-    → IsSo (pairs_of aim new before (places_numbered filled.button new) (place_numbered form new))
+    (text : List ℕ → List ℕ) (on : List ℕ → Bool) → Hold filled.fields.now new text on
+    → IsSo (pairs_held text on new (places_numbered filled.button new) (place_numbered form new))
 
 -- it has one of these names
 abbrev pub is_of_one : List (List ℕ) → Pair → Bool
@@ -53,35 +60,6 @@ is_of_one names pair = is_one_of names (pair_name (serialize_pair pair))
 -- all pairs, or those alone that count
 abbrev pub told : Bool → List (List ℕ) → List Pair → List Pair
 told counted names pairs = if counted then filter (λ pair. not (is_of_one names pair)) pairs else pairs
-
--- a request without the pairs of these names
-abbrev pub without_those : List (List ℕ) → Request → Request
-without_those names r = record r {
-  address = without_fresh names r.address;
-  pairs = without_fresh names (codes "?" ++ r.pairs);
-}
-
--- it is that request, but for the pairs of these names
-abbrev pub IsButFor : List (List ℕ) → Option Request → Option Request → Type 0
-IsButFor names it request = (names ≡ [] → it ≡ request)
-    × (option_map (without_those names) it ≡ option_map (without_those names) request)
-
--- so is it the request of an event whose target has that number
-abbrev pub IsRequestAt : List (List ℕ) → List ℕ → Filled → Event → ℕ → Option Request → Type 0
-IsRequestAt names address filled event target it = let new = filled.page.now in
-    (aim : Event → Aim) (before : List Event) → Keeps aim filled.fields.now new before → IsButFor names it
-    (request_at aim address new before event (places_numbered filled.button new) (place_numbered target new))
-
--- the request has that one's number, and asks for the same but for the values of these names
-abbrev pub IsAlike : List (List ℕ) → Option Request → Request → Type 0
-IsAlike names request is = (was : Request)
-    × (request ≡ Some was) × (was.number ≡ is.number) × (are_alike names was is ≡ true)
-
--- so does that event's
-abbrev pub AsksAlikeAt : List (List ℕ) → List ℕ → Filled → Event → ℕ → Request → Type 0
-AsksAlikeAt names address filled event target is = let new = filled.page.now in
-    (aim : Event → Aim) (before : List Event) → Keeps aim filled.fields.now new before → IsAlike names
-    (request_at aim address new before event (places_numbered filled.button new) (place_numbered target new)) is
 
 -- whether that goes to another address than this
 abbrev pub LeadsElsewhere : Option (List (List ℕ)) → List ℕ → Filled → Event → ℕ → List ℕ → Bool → Type 0

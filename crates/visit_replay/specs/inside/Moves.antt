@@ -1,13 +1,14 @@
 -- Which requests of a visit go elsewhere now, as the code keeps it of the numbers that are asked for while it goes
 -- through the events.
-use Rattle.std.specs.Prelude.{ℕ, ◌≡◌, ◌≢◌, ◌+◌, List, Bool, true, false, Option, Some, None, option_map, take, is_some}
-use Rattle.std.specs.Borrow.{Bor}
+use Rattle.std.specs.Prelude.{ℕ, ◌≡◌, ◌≢◌, ◌+◌, List, Bool, true, false, Option, Some, None, take, is_some}
 use Rattle.std.specs.BTreeMap.{BTreeMap, get}
 use Rattle.std.specs.Ordering.{nat_cmp}
 use Rattle.client_log.specs.declared.visit.Visit.{Visit}
-use Rattle.visit_replay.specs.Moved.{event_numbered, address_now, is_moved}
+use Rattle.visit_replay.specs.Moved.{event_numbered, requests_of, is_moved}
 use Rattle.visit_replay.specs.declared.moves.Asked.{Asked}
 use Rattle.visit_replay.specs.declared.outcome.Outcome.{Outcome}
+use Rattle.visit_replay.specs.declared.trail.Trail.{Trail}
+use Rattle.visit_replay.specs.inside.Deeds.{requests_on}
 
 -- a number of those that are asked for, with what was found of it
 abbrev pub Numbers : Type 0
@@ -43,14 +44,9 @@ pub record IsFresh (asked : Asked) : Type 0 where
   pub unlooked : asked.looked ≡ false
   pub unfound : (number : ℕ) (answer : Option Bool) → get nat_cmp asked.numbers number ≡ Some answer → answer ≡ None
 
--- the map has the address of the first request of each number
-abbrev pub HasAddresses : Outcome → BTreeMap ℕ (Bor (List ℕ)) → Type 0
-HasAddresses outcome addresses =
-    (number : ℕ) → option_map (λ address. address.now) (get nat_cmp addresses number) ≡ address_now outcome number
-
--- one event more was looked at
-pub record MeetsOne (names : Option (List (List ℕ))) (visit : Visit) (k : ℕ) (addresses : BTreeMap ℕ (Bor (List ℕ)))
-    (old new : Numbers) : Type 0 where
-  pub met : (outcome : Outcome) → HasAddresses outcome addresses → IsMet names visit outcome k old
-      → IsMet names visit outcome (k + 1) new
+-- one event more was looked at, beside the requests of a trail of which these are the first places
+pub record MeetsOne (names : Option (List (List ℕ))) (visit : Visit) (k : ℕ) (trail : Trail) (old new : Numbers)
+    : Type 0 where
+  pub met : (outcome : Outcome) → requests_of outcome ≡ requests_on trail.address trail.page trail.deeds.items
+      → IsMet names visit outcome k old → IsMet names visit outcome (k + 1) new
   pub same : (number : ℕ) → is_some (get nat_cmp new number) ≡ is_some (get nat_cmp old number)

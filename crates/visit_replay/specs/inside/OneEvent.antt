@@ -1,5 +1,5 @@
--- One event of a visit that is replayed: the numbers of its nodes, or why it has none, and the walk up to it.
-use Rattle.std.specs.Prelude.{ℕ, ◌≡◌, ◌<◌, List, Option, Some, None, IfSome, option_map, take, Result, Ok, Err}
+-- One event of a visit that is replayed: the numbers of its nodes, or why it has none.
+use Rattle.std.specs.Prelude.{ℕ, ◌≡◌, ◌<◌, List, Option, Some, None, IfSome, option_map, Result, Ok, Err}
 use Rattle.page_tree.specs.Tree.{Tree}
 use Rattle.page_tree.specs.Control.{control_at}
 use Rattle.page_tree.specs.Limits.{nodes}
@@ -8,16 +8,11 @@ use Rattle.page_tree.specs.declared.control.Control.{Control}
 use Rattle.page_tree.specs.declared.control.Control.TheVariants as control
 use Rattle.upload_reader.specs.declared.message.Event.{Event}
 use Rattle.upload_reader.specs.declared.message.Event.TheVariants.{Click}
-use Rattle.client_log.specs.declared.visit.Visit.{Visit}
 use Rattle.visit_replay.specs.Aim.{Aim, acts, nowhere, lost, place_of_aim, aim_of}
 use Rattle.visit_replay.specs.Conflict.{conflict}
-use Rattle.visit_replay.specs.Requests.{requests_before}
-use Rattle.visit_replay.specs.inside.KeptFields.{Keeps}
 use Rattle.visit_replay.specs.declared.aims.Aiming.{Aiming}
 use Rattle.visit_replay.specs.declared.aims.Aiming.TheVariants as aiming
-use Rattle.visit_replay.specs.declared.fields.Fields.{Fields}
 use Rattle.visit_replay.specs.declared.outcome.ConflictKind.{ConflictKind}
-use Rattle.visit_replay.specs.declared.requests.Request.{Request}
 use Rattle.visit_replay.specs.declared.conflicts.Located.{Located}
 use Rattle.visit_replay.specs.declared.conflicts.Located.TheVariants.{Bad, Idle, At}
 
@@ -65,14 +60,6 @@ IsBetween (aiming.ByElement beside) old new = (beside.old ≡ old) × (beside.ne
 
 abbrev pub aimed : Aiming → Tree → Tree → Event → Aim
 aimed aiming old new event = aim_of (names_aimed aiming) old new event
-
--- ---- all events before it
-
--- the fields hold what the first n events left, and these are the requests so far
-pub record IsWalked (aim : Event → Aim) (visit : Visit) (new : Tree) (n : ℕ) (fields : Fields) (made : List Request)
-    : Type 0 where
-  pub kept : Keeps aim fields new (take n visit.events)
-  pub requests : made ≡ requests_before aim visit.address new visit.events n
 
 -- what a click is on, as far as it is looked at
 abbrev pub control_clicked : Tree → Event → List ℕ → Control

@@ -20,7 +20,7 @@ pub fn add_quoted<W: Sink>(buffer: &mut ReportBuffer, writer: &mut W, text: &str
 }
 
 // Each run of bytes that stand for themselves, and the escape behind it.
-fn add_escaped<W: Sink>(buffer: &mut ReportBuffer, writer: &mut W, bytes: &[u8])
+pub(super) fn add_escaped<W: Sink>(buffer: &mut ReportBuffer, writer: &mut W, bytes: &[u8])
     ensures { AddsText W.puts W.contents writer.old buffer.old writer.new buffer.new (escape bytes.now) }
 {
     let mut rest = bytes;

@@ -1,41 +1,79 @@
-use Rattle.std.proofs.Common.{◌≡◌, ◌<◌, length, subst, sym, ap, ◌∙◌, take, Some, refl, arith}
-use Rattle.std.proofs.lemmas.Result.{IfOk-weaker}
-use Rattle.visit_replay.specs.Aim.{by_element, aim_of}
+use Rattle.std.proofs.Common.{◌≡◌, ◌<◌, ◌≤◌, length, slice_get, subst, sym, ap, ◌∙◌, take, Some, None, refl, arith}
+use Rattle.page_tree.specs.Limits.{nodes}
+use Rattle.upload_reader.specs.Session.{request_of}
+use Rattle.visit_replay.specs.Aim.{by_element, aim_of, place_of_aim}
 use Rattle.visit_replay.specs.Difference.{asks_now, passing_over}
 use Rattle.visit_replay.specs.inside.Differing.{KnowsInputs}
-use Rattle.visit_replay.specs.inside.KeptFields.{Keeps}
-use Rattle.visit_replay.specs.inside.OneEvent.{AimsAt}
-use Rattle.visit_replay.proofs.Asking.{asked_now, beside_looks, stands_in}
+use Rattle.visit_replay.specs.inside.OneEvent.{AimsAt, IsWithin}
+use Rattle.visit_replay.specs.inside.Trails.{IsTrailOf}
+use Rattle.visit_replay.specs.declared.conflicts.Located.TheVariants.{Bad, Idle, At}
+use Rattle.visit_replay.proofs.Asking.{asks_nothing, asks_nowhere, asks_where, beside_looks, stands_in}
+use Rattle.visit_replay.proofs.TrailLaws.{last_made}
 use Rattle.visit_replay.proofs.differing.asks_now.Goals as goal
 
-pub fields_beside-requires-clause-known : goal.fields_beside-requires-clause-known
-fields_beside-requires-clause-known c =
+pub returns-in-Bad-clause-asks : goal.returns-in-Bad-clause-asks
+returns-in-Bad-clause-asks c =
+    let visit = c.args.visit.now in
+    let event = c.index-events-k.result in
+    let below : c.args.k < length c.as_slice-events.result.now = omega arith in
+    let at : slice_get visit.events c.args.k ≡ Some event = stands_in visit c.as_slice-events.result.now c.args.k event c.as_slice-events.ensures below c.index-events-k.is in
+    let aims : AimsAt c.in_ok-beside.beside.new (passing_over c.in_ok-beside.beside.old c.in_ok-beside.beside.new event) (Bad c.in-Bad._kind) = rw c.in-Bad.is at c.passing_over.ensures in
+    let here = subst (λ b. AimsAt b.new (passing_over b.old b.new event) (Bad c.in-Bad._kind)) c.in_ok-beside.ensures aims in
+    asks_nowhere c.args.looks.now.1 visit c.args.looks.now.0 c.args.k event at (ap place_of_aim here)
+
+pub returns-in-Idle-clause-asks : goal.returns-in-Idle-clause-asks
+returns-in-Idle-clause-asks c =
+    let visit = c.args.visit.now in
+    let event = c.index-events-k.result in
+    let below : c.args.k < length c.as_slice-events.result.now = omega arith in
+    let at : slice_get visit.events c.args.k ≡ Some event = stands_in visit c.as_slice-events.result.now c.args.k event c.as_slice-events.ensures below c.index-events-k.is in
+    let aims : AimsAt c.in_ok-beside.beside.new (passing_over c.in_ok-beside.beside.old c.in_ok-beside.beside.new event) Idle = rw c.in-Idle.is at c.passing_over.ensures in
+    let here = subst (λ b. AimsAt b.new (passing_over b.old b.new event) Idle) c.in_ok-beside.ensures aims in
+    asks_nowhere c.args.looks.now.1 visit c.args.looks.now.0 c.args.k event at (ap place_of_aim here)
+
+pub trail_beside-requires-clause-known : goal.trail_beside-requires-clause-known
+trail_beside-requires-clause-known c =
     let known : KnowsInputs c.page-new.result.now c.take.result = rw (c.page-new.ensures, c.take.ensures.taken) c.requires in
     c.new-lookups.ensures known
 
-pub returns-in_err-fields-clause-known : goal.returns-in_err-fields-clause-known
-returns-in_err-fields-clause-known c = c.take.ensures.left c.args.looks.now.0 c.requires
+pub returns-in_err-trail-clause-known : goal.returns-in_err-trail-clause-known
+returns-in_err-trail-clause-known c = c.take.ensures.left c.args.looks.now.0 c.requires
 
-pub request_there-requires-clause-located : goal.request_there-requires-clause-located
-request_there-requires-clause-located c =
-    let old = c.args.visit.now.page in
-    let new = c.page-new.result.now in
+pub note-requires-clause-there : goal.note-requires-clause-there
+note-requires-clause-there c =
+    let visit = c.args.visit.now in
     let event = c.index-events-k.result in
-    let pair : c.in_ok-beside.beside ≡ beside_looks old (new, c.args.looks.now.1) = c.in_ok-beside.ensures ∙ ap (λ n. beside_looks old (n, c.args.looks.now.1)) (sym c.page-new.ensures) in
-    (passing_over old new event, subst (λ b. AimsAt b.new (passing_over b.old b.new event) c.passing_over-located.result) pair c.passing_over-located.ensures)
+    let new = c.page-new.result.now in
+    let pair : c.in_ok-beside.beside ≡ beside_looks visit.page (new, c.args.looks.now.1) = c.in_ok-beside.ensures ∙ ap (λ n. beside_looks visit.page (n, c.args.looks.now.1)) (sym c.page-new.ensures) in
+    let aims : AimsAt c.in_ok-beside.beside.new (passing_over c.in_ok-beside.beside.old c.in_ok-beside.beside.new event) (At c.in-At.target c.in-At.button) = rw c.in-At.is at c.passing_over.ensures in
+    let here = subst (λ b. AimsAt b.new (passing_over b.old b.new event) (At c.in-At.target c.in-At.button)) pair aims in
+    subst (λ p. c.in-At.target < nodes p) (sym c.in_ok-trail.ensures.trail.page) here.0
+
+pub note-requires-clause-button : goal.note-requires-clause-button
+note-requires-clause-button c =
+    let visit = c.args.visit.now in
+    let event = c.index-events-k.result in
+    let new = c.page-new.result.now in
+    let pair : c.in_ok-beside.beside ≡ beside_looks visit.page (new, c.args.looks.now.1) = c.in_ok-beside.ensures ∙ ap (λ n. beside_looks visit.page (n, c.args.looks.now.1)) (sym c.page-new.ensures) in
+    let aims : AimsAt c.in_ok-beside.beside.new (passing_over c.in_ok-beside.beside.old c.in_ok-beside.beside.new event) (At c.in-At.target c.in-At.button) = rw c.in-At.is at c.passing_over.ensures in
+    let here = subst (λ b. AimsAt b.new (passing_over b.old b.new event) (At c.in-At.target c.in-At.button)) pair aims in
+    subst (IsWithin c.in-At.button) (sym c.in_ok-trail.ensures.trail.page) here.1
 
 pub returns-clause-asks : goal.returns-clause-asks
 returns-clause-asks c =
     let visit = c.args.visit.now in
     let fresh = c.args.looks.now.1 in
-    let new = c.page-new.result.now in
     let event = c.index-events-k.result in
-    let pair : c.in_ok-beside.beside ≡ beside_looks visit.page (new, fresh) = c.in_ok-beside.ensures ∙ ap (λ n. beside_looks visit.page (n, fresh)) (sym c.page-new.ensures) in
-    let there = subst (λ b. AimsAt b.new (passing_over b.old b.new event) c.passing_over-located.result) pair c.passing_over-located.ensures in
-    let kept = subst (λ b. Keeps (aim_of (Some b.fresh) visit.page new) c.in_ok-fields.fields new (take c.args.k visit.events)) pair c.in_ok-fields.ensures.fields in
+    let new = c.page-new.result.now in
     let below : c.args.k < length c.as_slice-events.result.now = omega arith in
-    let stands = stands_in visit c.as_slice-events.result.now c.args.k event c.as_slice-events.ensures below c.index-events-k.is in
-    IfOk-weaker c.request_there.result _ _
-    (λ request told. (told (by_element fresh visit.page new) (passing_over visit.page new event) there kept).0 refl ∙ asked_now fresh visit new c.args.k event stands
-    ∙ ap (λ page. asks_now fresh visit page c.args.k) c.page-new.ensures)
-    c.request_there.ensures.request
+    let at : slice_get visit.events c.args.k ≡ Some event = stands_in visit c.as_slice-events.result.now c.args.k event c.as_slice-events.ensures below c.index-events-k.is in
+    let pair : c.in_ok-beside.beside ≡ beside_looks visit.page (new, fresh) = c.in_ok-beside.ensures ∙ ap (λ n. beside_looks visit.page (n, fresh)) (sym c.page-new.ensures) in
+    let aims : AimsAt c.in_ok-beside.beside.new (passing_over c.in_ok-beside.beside.old c.in_ok-beside.beside.new event) (At c.in-At.target c.in-At.button) = rw c.in-At.is at c.passing_over.ensures in
+    let here = subst (λ b. AimsAt b.new (passing_over b.old b.new event) (At c.in-At.target c.in-At.button)) pair aims in
+    let walked : IsTrailOf (by_element fresh visit.page new) visit new c.args.k c.in_ok-trail.trail =
+    subst (λ b. IsTrailOf (aim_of (Some b.fresh) visit.page new) visit new c.args.k c.in_ok-trail.trail) pair c.in_ok-trail.ensures.trail in
+    c.of.ensures
+    ∙ last_made (by_element fresh visit.page new) visit new c.args.k event c.in-At.target c.in-At.button c.in_ok-trail.trail c.note.new.self walked
+    c.in_ok-note.ensures.deeds c.note.ensures.address c.note.ensures.page
+    ∙ asks_where fresh visit new c.args.k event c.in-At.target c.in-At.button at here.2
+    ∙ ap (λ page. asks_now fresh visit page c.args.k) c.page-new.ensures

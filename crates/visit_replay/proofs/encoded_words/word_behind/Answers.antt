@@ -10,12 +10,12 @@ returns-then-text-word c =
 
 pub returns-then-one-text : goal.returns-then-one-text
 returns-then-one-text c =
-    byte_differs c.as_bytes-word.result.now c.args.text.now c.loop-at.at c.written_as-one.result (c.written_as-one.ensures c.if-one-eq0.false) (omega (arith, c.loop-at-test.true)) (omega (arith, c.loop-at-test.true, c.if-text-word.false)) c.if-one-text.true
+    byte_differs c.as_bytes-word.result.now c.args.text.now c.loop-at.at c.written_as-one.result (c.written_as-one.ensures.one c.if-one-eq0.false) (omega (arith, c.loop-at-test.true)) (omega (arith, c.loop-at-test.true, c.if-text-word.false)) c.if-one-text.true
     ∙ c.loop-at.invariant ∙ ap (λ w. left_behind (byte_serialize w) c.args.text.now) c.as_bytes-word.ensures.value
 
 pub loop-at-preserved : goal.loop-at-preserved
 loop-at-preserved c =
-    byte_met c.as_bytes-word.result.now c.args.text.now c.loop-at.at c.written_as-one.result (c.written_as-one.ensures c.if-one-eq0.false) (omega (arith, c.loop-at-test.true)) (omega (arith, c.loop-at-test.true, c.if-text-word.false)) c.if-one-text.false
+    byte_met c.as_bytes-word.result.now c.args.text.now c.loop-at.at c.written_as-one.result (c.written_as-one.ensures.one c.if-one-eq0.false) (omega (arith, c.loop-at-test.true)) (omega (arith, c.loop-at-test.true, c.if-text-word.false)) c.if-one-text.false
     ∙ c.loop-at.invariant
 
 pub returns : goal.returns

@@ -10,10 +10,10 @@ returns-then-is_passed_over c = λ names marked.
     sym (ap (with_pairs c.args.pairs.now) (told_either c.args.counted names c.args.filled.now c.args.sender.now c.requires marked
     ∙ ap (λ b. if b then [] else cons_option pair []) (sym c.is_passed_over.ensures ∙ c.if-is_passed_over.true)))
 
-pub returns-in_ok-append_pair : goal.returns-in_ok-append_pair
-returns-in_ok-append_pair c = λ names marked.
+pub returns-in_ok-append : goal.returns-in_ok-append
+returns-in_ok-append c = λ names marked.
     let pair = pair_now c.args.filled.now c.args.sender.now.number in
-    c.in_ok-append_pair.ensures.ok
+    c.in_ok-append.ensures
     ∙ sym (ap (with_pairs c.args.pairs.now) (told_either c.args.counted names c.args.filled.now c.args.sender.now c.requires marked
     ∙ ap (λ b. if b then [] else cons_option pair []) (sym c.is_passed_over.ensures ∙ c.if-is_passed_over.false)
     ∙ ap (λ o. cons_option o []) (sym c.in-Some.ensures)))

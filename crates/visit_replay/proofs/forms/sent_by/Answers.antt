@@ -1,6 +1,5 @@
-use Rattle.std.proofs.Common.{Bool, if◌then◌else◌, not, Some, option_map, unwrap_or, subst, sym, ap, ◌∙◌}
-use Rattle.std.specs.BTreeMap.{get}
-use Rattle.std.specs.Ordering.{nat_cmp}
+use Rattle.std.proofs.Common.{Bool, if◌then◌else◌, not, get_or, Some, None, option_map, unwrap_or, subst, sym, ap, ◌∙◌}
+use Rattle.visit_replay.specs.inside.FieldsNow.{value_sent}
 use Rattle.visit_replay.specs.inside.KeptFields.{turned_now}
 use Rattle.visit_replay.specs.inside.Senders.{SendsThere}
 use Rattle.visit_replay.proofs.SentByKind.{text_sent, check_sent, check_passed, radio_sent, button_sent, button_passed}
@@ -10,22 +9,21 @@ use Rattle.visit_replay.proofs.forms.sent_by.Goals as goal
 pub returns-in-Text : goal.returns-in-Text
 returns-in-Text c =
     let here = subst (SendsThere c.args.filled.now.page.now c.args.sender.now.number) c.in-Text.is c.requires.sends in
-    let written = option_map (λ t. t.now) (get nat_cmp c.args.filled.now.fields.now.texts c.args.sender.now.number) in
-    ap Some c.sent_as.ensures
-    ∙ text_sent c.args.filled.now c.args.sender.now c.requires here.0 c.text_from-text.result.now (sym (c.text_from-text.ensures ∙ ap (unwrap_or written) (c.as_str.ensures.value ∙ here.1)))
+    let written = option_map (λ t. t.now) (get_or c.args.filled.now.fields.now.texts.items c.args.sender.now.number None) in
+    text_sent c.args.filled.now c.args.sender.now c.requires here.0 (value_sent c.held.result) (sym (c.held.ensures ∙ ap (unwrap_or written) here.1))
 
 pub returns-in-IfOn : goal.returns-in-IfOn
 returns-in-IfOn c =
     let here = subst (SendsThere c.args.filled.now.page.now c.args.sender.now.number) c.in-IfOn.is c.requires.sends in
     let turned = turned_now c.args.filled.now.fields.now c.args.sender.now.number in
-    ap Some c.sent_as-in-IfOn.ensures
+    ap Some c.sent_as.ensures
     ∙ check_sent c.args.filled.now c.args.sender.now c.requires here.0 c.in-IfOn.value.now here.1
     (ap (λ (start : Bool). if turned then not start else start) (sym here.2) ∙ sym c.is_on_from.ensures ∙ c.if-is_on_from.true)
 
 pub returns-in-Always : goal.returns-in-Always
 returns-in-Always c =
     let here = subst (SendsThere c.args.filled.now.page.now c.args.sender.now.number) c.in-Always.is c.requires.sends in
-    ap Some c.sent_as-in-Always.ensures ∙ radio_sent c.args.filled.now c.args.sender.now c.requires here.0 c.in-Always.value.now here.1 here.2
+    ap Some c.sent_as-in-Always.ensures ∙ radio_sent c.args.filled.now c.args.sender.now c.requires here.0 c.in-Always.value.now here.1 (sym here.2)
 
 pub returns-in-IfPressed : goal.returns-in-IfPressed
 returns-in-IfPressed c =

@@ -45,4 +45,4 @@ pub returns-clause-known : goal.returns-clause-known
 returns-clause-known c =
     let old = c.args.beside.now.old in
     let new = c.args.beside.now.new in
-    (c.requires.known.0, c.in_ok-look_under.ensures.known old c.requires.known.1, c.in_ok-look_under-2.ensures.known new c.requires.known.2, c.requires.known.3)
+    (c.requires.known.0, c.in_ok-look_under.ensures.known old c.requires.known.1, c.in_ok-look_under-2.ensures.known new c.requires.known.2)

@@ -1,34 +1,26 @@
-use Rattle.std.proofs.Common.{◌≡◌, ◌++◌, [], Some, None, true, false, take, get_or, option_and_then, refl, ap, sym, ◌∙◌, rules, arith, append-nil}
-use Rattle.std.specs.List.{cons_option}
-use Rattle.std.proofs.lemmas.Grind.{common_steps}
-use Rattle.visit_replay.specs.Aim.{place_of_aim, button_of_aim, has_strayed}
-use Rattle.visit_replay.specs.Requests.{event_request, request_at, requests_before}
-use Rattle.visit_replay.specs.inside.OneEvent.{Locates, aimed, names_aimed}
+use Rattle.std.proofs.Common.{◌≡◌, ◌<◌, Some, None, true, false, take, get_or, ap, sym, ◌∙◌, subst}
+use Rattle.page_tree.specs.Limits.{nodes}
+use Rattle.visit_replay.specs.Aim.{place_of_aim, has_strayed}
+use Rattle.visit_replay.specs.inside.OneEvent.{Locates, IsWithin, aimed, names_aimed}
 use Rattle.visit_replay.specs.declared.conflicts.Located.TheVariants.{At}
 use Rattle.visit_replay.specs.declared.conflicts.Located.TheVariants.{Bad, Idle}
 use Rattle.visit_replay.proofs.Judged.{stands_at}
-use Rattle.visit_replay.proofs.Overlay.{kept_else}
 use Rattle.visit_replay.proofs.Places.{taken_here}
 use Rattle.visit_replay.proofs.Straying.{touched_nowhere}
-use Rattle.visit_replay.proofs.Stepping.{requests_more, judged_here, strayed_here}
+use Rattle.visit_replay.proofs.Stepping.{judged_here, strayed_here}
+use Rattle.visit_replay.proofs.TrailLaws.{trail_more, trail_stays}
 use Rattle.visit_replay.proofs.replaying.step.Goals as goal
 
 pub returns-clause-further : goal.returns-clause-further
 returns-clause-further c =
     let visit = c.args.visit.now in
     let new = c.args.new.now in
-    let before = take c.args.i visit.events in
     let event = c.index-as_slice-i.result in
     let is : event ≡ get_or visit.events c.args.i event = rw c.as_slice.ensures at c.index-as_slice-i.is in
     let aim = aimed c.args.aiming.now visit.page new in
     let located : Locates aim visit.page new event (At c.in-At.target c.in-At.button) = rw c.in-At.is at (c.in_ok-kind.ensures aim c.in_ok-aim.ensures.aims) in
-    let sent : event_request aim visit.address new before event ≡ c.in_ok-request.field-0 =
-    ap (λ a. option_and_then (request_at aim visit.address new before event (button_of_aim a)) (place_of_aim a)) located.1.2 ∙ sym (rw c.as_str-address.ensures at ((c.in_ok-request.ensures.request aim before c.requires.so_far.kept).0 refl)) in
-    let added : c.match-branch-5.requests ≡ c.args.requests.now ++ cons_option c.in_ok-request.field-0 [] = first_of (search rules, grind (arith, common_steps)) in
-    record {
-      kept = rw (taken_here visit.events c.args.i event c.requires.there is) (c.in_ok-note.ensures aim (located.1.0, ap place_of_aim located.1.2) before c.requires.so_far.kept);
-      requests = added ∙ rw (requests_more aim visit.address new visit.events c.args.i event c.requires.there is, sent, c.requires.so_far.requests) refl;
-    }
+    trail_more aim visit new c.args.i event c.requires.there is c.in-At.target c.in-At.button c.args.trail.now c.note.new.self c.requires.so_far located.1.2
+    c.in_ok-note.ensures.deeds c.note.ensures.address c.note.ensures.page
 
 pub judged-requires-clause-located : goal.judged-requires-clause-located
 judged-requires-clause-located c = (aimed c.args.aiming.now c.args.visit.now.page c.args.new.now c.index-as_slice-i.result, c.in_ok-aim.ensures.aims)
@@ -69,34 +61,27 @@ returns-clause-conflict c =
     let unstrayed : has_strayed names visit.page new (take c.args.i visit.events) event ≡ false = sym (c.has_strayed.ensures (take c.args.i visit.events) c.requires.touched) ∙ c.if-has_strayed.false in
     sym (judged_here names visit.page new visit.events c.args.i event false None (stands_at visit c.args.i event c.requires.there is) unstrayed located.0)
 
-pub request_at-requires-clause-there : goal.request_at-requires-clause-there
-request_at-requires-clause-there c =
+pub note-requires-clause-there : goal.note-requires-clause-there
+note-requires-clause-there c =
     let aim = aimed c.args.aiming.now c.args.visit.now.page c.args.new.now in
     let located : Locates aim c.args.visit.now.page c.args.new.now c.index-as_slice-i.result (At c.in-At.target c.in-At.button) = rw c.in-At.is at (c.in_ok-kind.ensures aim c.in_ok-aim.ensures.aims) in
-    located.1.0
+    subst (λ p. c.in-At.target < nodes p) (sym c.requires.so_far.page) located.1.0
 
-pub request_at-requires-clause-button : goal.request_at-requires-clause-button
-request_at-requires-clause-button c =
+pub note-requires-clause-button : goal.note-requires-clause-button
+note-requires-clause-button c =
     let aim = aimed c.args.aiming.now c.args.visit.now.page c.args.new.now in
     let located : Locates aim c.args.visit.now.page c.args.new.now c.index-as_slice-i.result (At c.in-At.target c.in-At.button) = rw c.in-At.is at (c.in_ok-kind.ensures aim c.in_ok-aim.ensures.aims) in
-    located.1.1
+    subst (IsWithin c.in-At.button) (sym c.requires.so_far.page) located.1.1
 
 pub returns-in-Idle-clause-further : goal.returns-in-Idle-clause-further
 returns-in-Idle-clause-further c =
     let visit = c.args.visit.now in
     let new = c.args.new.now in
-    let before = take c.args.i visit.events in
     let event = c.index-as_slice-i.result in
     let is : event ≡ get_or visit.events c.args.i event = rw c.as_slice.ensures at c.index-as_slice-i.is in
     let aim = aimed c.args.aiming.now visit.page new in
     let located : Locates aim visit.page new event Idle = rw c.in-Idle.is at (c.in_ok-kind.ensures aim c.in_ok-aim.ensures.aims) in
-    let none : event_request aim visit.address new before event ≡ None = ap (λ a. option_and_then (request_at aim visit.address new before event (button_of_aim a)) (place_of_aim a)) located.1 in
-    record {
-      kept = rw (taken_here visit.events c.args.i event c.requires.there is) (kept_else aim c.args.fields.now new event (ap place_of_aim located.1) before c.requires.so_far.kept);
-      requests = sym (requests_more aim visit.address new visit.events c.args.i event c.requires.there is
-          ∙ ap (λ o. requests_before aim visit.address new visit.events c.args.i ++ cons_option o []) none ∙ append-nil (requests_before aim visit.address new visit.events c.args.i)
-          ∙ sym c.requires.so_far.requests);
-    }
+    trail_stays aim visit new c.args.i event c.requires.there is c.args.trail.now c.requires.so_far (ap place_of_aim located.1)
 
 pub returns-then-has_strayed-clause-conflict : goal.returns-then-has_strayed-clause-conflict
 returns-then-has_strayed-clause-conflict c =

@@ -1,15 +1,24 @@
+use Rattle.std.proofs.Common.{List, Option, option_map, ap, ◌∙◌}
+use Rattle.visit_replay.specs.declared.requests.Request.{Request}
+use Rattle.visit_replay.specs.inside.Tellings.{told_request}
 use Rattle.warp_run.proofs.BufferLaws.{adds_as, adds_nothing, ◌>>◌}
 use Rattle.warp_run.proofs.ReportLaws.{told_here, told_none}
 use Rattle.warp_run.proofs.reporting.add_requests.Goals as goal
 
-pub loop-request-preserved : goal.loop-request-preserved
-loop-request-preserved g c w b put =
-    c.loop-request.invariant w b
-    (adds_as (c.add_request.ensures >> c.add_first-former.ensures.text >> put)
-    (told_here c.loop-request.former.now c.add_first-former.result.now c.loop-request.requests.now c.in-Some.rest.now c.in-Some.request.now c.add_first-former.ensures.others c.in-Some.ensures.cases.0))
+pub loop-room-preserved : goal.loop-room-preserved
+loop-room-preserved g c w b put =
+    let room = c.loop-room.room in
+    let next = c.advance.ensures.next c.loop-room-test.true in
+    let before = c.advance-2.ensures in
+    c.loop-room.invariant w b
+    (adds_as (c.add_told.ensures >> c.add_told-2.ensures >> put)
+    (told_here room.former.1 c.advance-2.new.self.1 room.requests.1 c.advance.new.self.1 next.0 (option_map told_request c.told.result) (option_map told_request c.told-2.result)
+    next.1 (c.told.ensures ∙ next.2)
+    (c.told-2.ensures ∙ ap (λ (t : Option Request × List (Option Request)). t.0) before) (ap (λ (t : Option Request × List (Option Request)). t.1) before)))
 
 pub returns : goal.returns
 returns g c =
-    c.loop-request.invariant c.loop-request.writer c.loop-request.buffer
-    (adds_as (adds_nothing g.W.Sink.puts g.W.Write.contents c.loop-request.writer c.loop-request.buffer)
-    (told_none c.loop-request.former.now c.loop-request.requests.now c.in_default.ensures.cases))
+    let room = c.loop-room.room in
+    c.loop-room.invariant c.loop-room.writer c.loop-room.buffer
+    (adds_as (adds_nothing g.W.Sink.puts g.W.Write.contents c.loop-room.writer c.loop-room.buffer)
+    (told_none room.former.1 room.requests.1 (c.advance.ensures.none c.loop-room-test.false)))

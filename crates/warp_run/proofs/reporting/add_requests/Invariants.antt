@@ -5,10 +5,10 @@ use Rattle.warp_run.specs.Report.{told_requests}
 use Rattle.warp_run.proofs.reporting.add_requests.Given as goal
 
 -- what adds the rest from here adds all from the start
-abbrev pub invariant-loop-request : goal.invariant-loop-request
-invariant-loop-request g l =
-    (w : g.row.W.Denot) (b : ReportBuffer) → AddsText g.W.Sink.puts g.W.Write.contents l.writer l.buffer w b (told_requests l.former l.requests)
-    → AddsText g.W.Sink.puts g.W.Write.contents l.initial.writer l.initial.buffer w b (told_requests l.initial.former l.initial.requests)
+abbrev pub invariant-loop-room : goal.invariant-loop-room
+invariant-loop-room g l =
+    (w : g.row.W.Denot) (b : ReportBuffer) → AddsText g.W.Sink.puts g.W.Write.contents l.writer l.buffer w b (told_requests l.room.former.1 l.room.requests.1)
+    → AddsText g.W.Sink.puts g.W.Write.contents l.initial.writer l.initial.buffer w b (told_requests l.initial.room.former.1 l.initial.room.requests.1)
 
-abbrev pub decreases-loop-request : goal.decreases-loop-request
-decreases-loop-request g l = length l.requests
+abbrev pub decreases-loop-room : goal.decreases-loop-room
+decreases-loop-room g l = length l.room.requests.1

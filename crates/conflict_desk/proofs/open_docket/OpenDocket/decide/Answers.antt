@@ -34,6 +34,7 @@ invariant_of-self c =
           (sym (written_back o.gone.len after (set o.gone.items o.next cancelled) (sym long) (sym (ap length c.as_mut_slice.ensures.value) ∙ sym c.settle-self-inside.auto.gone)))
           (subst (λ decisions. IsKept record { cases = o.cases; decisions = decisions } o.links.items after next) (sym c.push_reserved.ensures.items) kept),
       omega (arith, c.self.invariant.1, c.push_reserved.ensures.capacity),
+      c.self.invariant.2,
     )
 
 pub returns-clause-ok : goal.returns-clause-ok

@@ -21,4 +21,5 @@ invariant_of-result c =
           (sym (written_back c.in_ok-gone.gone.len after c.in_ok-gone.gone.items (sym long) (sym c.in_ok-gone.gone.ok.0 ∙ sym long)))
           (subst (λ decisions. IsKept record { cases = c.args.cases; decisions = decisions } links after next) (sym c.in_ok-decisions.ensures.items) kept),
       omega (arith, ap length c.as_slice-count.ensures, c.in_ok-decisions.ensures.exact),
+      c.none.ensures,
     )

@@ -27,7 +27,7 @@ returns c =
     record {
       each = l.invariant.each;
       marked = l.invariant.marked;
-      pairs = λ filled on within aim before kept.
+      pairs = λ filled on within text states held.
           l.invariant.pairs filled on ∙ ap (pairs_now filled under.start) over
-          ∙ sent_under filled page on c.args.form under.start under.end within c.nodes_under-under.ensures.under some.0 some.1 aim before kept;
+          ∙ sent_under filled page on c.args.form under.start under.end within c.nodes_under-under.ensures.under some.0 some.1 text states held;
     }

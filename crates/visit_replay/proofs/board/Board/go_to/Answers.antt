@@ -1,0 +1,30 @@
+use Rattle.std.proofs.Common.{◌≡◌, Some, take, slice_get, IfSome, true, subst, sym, ap, ◌∙◌, arith}
+use Rattle.std.proofs.lemmas.Option.{slice_get-get_or}
+use Rattle.visit_replay.specs.inside.Boards.{needs_senders}
+use Rattle.visit_replay.specs.inside.Deeds.{text_behind, is_on_behind}
+use Rattle.visit_replay.specs.inside.KeptFields.{Hold}
+use Rattle.visit_replay.proofs.board.Board.go_to.Goals as goal
+
+pub returns-clause-before : goal.returns-clause-before
+returns-clause-before c =
+    let page = c.args.trail.now.page in
+    let deeds = c.args.trail.now.deeds.items in
+    let before = c.advance.new.self in
+    let new = c.prepare.new.self in
+    let on = c.advance.ensures.on in
+    let rest = c.prepare.ensures.rest in
+    let deed = c.index.result.now in
+    let here : slice_get deeds c.args.place ≡ Some deed = slice_get-get_or deeds c.args.place deed c.requires.there ∙ ap Some (sym c.index.ensures) in
+    record {
+      on = record {
+        wide = c.prepare.ensures.wide;
+        few = omega (arith, on.few, rest.0);
+        within = omega (arith, on.within, rest.2);
+        held = subst (λ n. Hold new.fields page (text_behind page (take n deeds)) (is_on_behind page (take n deeds))) (sym rest.2)
+            (subst (λ f. Hold f page (text_behind page (take before.at deeds)) (is_on_behind page (take before.at deeds))) (sym rest.3) on.held);
+        listed = c.prepare.ensures.listed;
+      };
+      at = rest.2 ∙ c.advance.ensures.at;
+      there = c.requires.there;
+      listed = subst (λ o. IfSome o (λ deed. needs_senders deed ≡ true → new.is_listed ≡ true)) (sym here) c.prepare.ensures.needed;
+    }
