@@ -43,6 +43,12 @@ find_by view q xs (Some i) is some =
     let (x, at, passes) = found_at (λ k. bytes_eq q (view k)) xs i (sym is) in
     slice_get-map view xs i ∙ ap (option_map view) at ∙ ap Some (sym ((bytes_eq-Decides q (view x)).0 passes))
 
+-- what stands there is compared with it
+pub seen_there : {X : Type 0} (view : X → List ℕ) (xs : List X) (i : ℕ) (x : X) (text q : List ℕ) (b : Bool) → Some x ≡ slice_get xs i → text ≡ view x
+    → b ≡ bytes_eq text q → b ≡ true → slice_get (map view xs) i ≡ Some q
+seen_there view xs i x text q b is seen tested passes =
+    slice_get-map view xs i ∙ ap (option_map view) (sym is) ∙ ap Some (sym seen ∙ (bytes_eq-Decides text q).0 (sym tested ∙ passes))
+
 -- ---- putting in
 
 none_long : {X : Type 0} (test : X → Bool) (xs : List X) → list_any test xs ≡ false → position_or_len test xs ≡ length xs

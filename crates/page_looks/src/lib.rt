@@ -9,6 +9,7 @@ mod addresses;
 mod beside;
 mod finding;
 mod fresh_names;
+mod guesses;
 mod in_forms;
 mod laws;
 mod looks;

@@ -1,8 +1,9 @@
-//! Texts and lists of numbers, each with its own number. They are hashed by keys that nobody knows who writes a page.
-ghost use Rattle.std.specs.Prelude.{◌≡◌, ◌++◌, ◌<◌, ◌^◌, [], Some, length, IfOk, MatchOption, slice_get};
+//! Texts and lists of numbers, each with its own number. They are hashed by keys that nobody knows who writes a page, unless they stand where a guess says.
+ghost use Rattle.std.specs.Prelude.{◌≡◌, ◌++◌, ◌<◌, ◌^◌, [], Some, length, IfOk, IfSome, MatchOption, slice_get};
 ghost use Rattle.std.specs.Cow.{cow_str_bytes};
 ghost use Rattle.page_looks.specs.inside.Numbers.{IsAbsent, IsPutIn};
 
+use crate::guesses::{Guesses, quick_hash, quick_hash_of_text};
 use indexmap::IndexSet;
 use page_tree::NoMemory;
 use std::alloc::{AllocError, Global};
@@ -14,6 +15,7 @@ use std::marker::Model;
 #[derive(Drop)]
 pub(crate) struct TextTable<'p> {
     set: IndexSet<CowStr<'p, Global>, RandomState>,
+    guesses: Guesses,
 }
 
 impl<'p> Model for TextTable<'p> {
@@ -31,6 +33,7 @@ impl<'p> TextTable<'p> {
     {
         TextTable {
             set: IndexSet::with_hasher(alloc, keys),
+            guesses: Guesses::none(alloc),
         }
     }
 
@@ -47,11 +50,27 @@ impl<'p> TextTable<'p> {
         self.set.get_index_of(text)
     }
 
-    /// The index of a text, which is put behind the others where it isn't there.
-    pub(crate) fn put(&mut self, text: CowStr<'p, Global>) -> Result<usize, NoMemory>
+    /// Where a text with that quick hash is guessed to stand, if it does.
+    pub(crate) fn guess(&self, hash: u32, text: &str) -> Option<usize>
+        ensures { IfSome result (λ i. slice_get self.now i ≡ Some text.now) }
+    {
+        let place = self.guesses.at(hash)?;
+        let Some(there) = self.set.get_index(place) else {
+            return None;
+        };
+        if there.as_str() == text {
+            Some(place)
+        } else {
+            None
+        }
+    }
+
+    /// The index of a text with that quick hash, which is put behind the others where it isn't there.
+    pub(crate) fn put(&mut self, hash: u32, text: CowStr<'p, Global>) -> Result<usize, NoMemory>
         ensures { IfOk result (λ i. IsPutIn self.old self.new (cow_str_bytes text.entry) i) }
     {
         let put = self.set.insert_full(text)?;
+        self.guesses.note(hash, few(put.0)?, self.set.len())?;
         Ok(put.0)
     }
 }
@@ -60,6 +79,7 @@ impl<'p> TextTable<'p> {
 #[derive(Drop)]
 pub(crate) struct KeyTable {
     set: IndexSet<Vec<u32>, RandomState>,
+    guesses: Guesses,
 }
 
 impl Model for KeyTable {
@@ -76,6 +96,7 @@ impl KeyTable {
     {
         KeyTable {
             set: IndexSet::with_hasher(alloc, keys),
+            guesses: Guesses::none(alloc),
         }
     }
 
@@ -92,11 +113,27 @@ impl KeyTable {
         self.set.get_index_of(key)
     }
 
-    /// The index of a list, which is put behind the others where it isn't there.
-    pub(crate) fn put(&mut self, key: Vec<u32>) -> Result<usize, NoMemory>
+    /// Where a list with that quick hash is guessed to stand, if it does.
+    pub(crate) fn guess(&self, hash: u32, key: &[u32]) -> Option<usize>
+        ensures { IfSome result (λ i. slice_get self.now i ≡ Some key.now) }
+    {
+        let place = self.guesses.at(hash)?;
+        let Some(there) = self.set.get_index(place) else {
+            return None;
+        };
+        if there.as_slice() == key {
+            Some(place)
+        } else {
+            None
+        }
+    }
+
+    /// The index of a list with that quick hash, which is put behind the others where it isn't there.
+    pub(crate) fn put(&mut self, hash: u32, key: Vec<u32>) -> Result<usize, NoMemory>
         ensures { IfOk result (λ i. IsPutIn self.old self.new key.items i) }
     {
         let put = self.set.insert_full(key)?;
+        self.guesses.note(hash, few(put.0)?, self.set.len())?;
         Ok(put.0)
     }
 }
@@ -119,6 +156,11 @@ pub(crate) fn text_number<'p>(
 ) -> Result<u32, NoMemory>
     ensures { IfOk result (λ n. IsPutIn (below.now ++ own.old) (below.now ++ own.new) (cow_str_bytes text.entry) n) }
 {
+    let hash = quick_hash_of_text(text.as_str());
+    if let Some(known) = guessed_text(below, own, hash, text.as_str()) {
+        let guessed = few(known)?;
+        return Ok(guessed);
+    }
     let first = below.len();
     match below.find(text.as_str()) {
         Some(known) => {
@@ -126,12 +168,23 @@ pub(crate) fn text_number<'p>(
             Ok(number)
         }
         None => {
-            let place = own.put(text)?;
+            let place = own.put(hash, text)?;
             let at = few(place)?;
             let further = few(first + at as usize)?;
             Ok(further)
         }
     }
+}
+
+// That number, where a guess is right.
+fn guessed_text(below: &TextTable<'_>, own: &TextTable<'_>, hash: u32, text: &str) -> Option<usize>
+    ensures { IfSome result (λ n. slice_get (below.now ++ own.now) n ≡ Some text.now) }
+{
+    if let Some(known) = below.guess(hash, text) {
+        return Some(known);
+    }
+    let known = own.guess(hash, text)?;
+    below.len().checked_add(known)
 }
 
 /// The same of a list of numbers.
@@ -142,6 +195,11 @@ pub(crate) fn key_number(
 ) -> Result<u32, NoMemory>
     ensures { IfOk result (λ n. IsPutIn (below.now ++ own.old) (below.now ++ own.new) key.items n) }
 {
+    let hash = quick_hash(key.as_slice());
+    if let Some(known) = guessed_key(below, own, hash, key.as_slice()) {
+        let guessed = few(known)?;
+        return Ok(guessed);
+    }
     let first = below.len();
     match below.find(key.as_slice()) {
         Some(known) => {
@@ -149,10 +207,21 @@ pub(crate) fn key_number(
             Ok(number)
         }
         None => {
-            let place = own.put(key)?;
+            let place = own.put(hash, key)?;
             let at = few(place)?;
             let further = few(first + at as usize)?;
             Ok(further)
         }
     }
+}
+
+// The same where a guess is right.
+fn guessed_key(below: &KeyTable, own: &KeyTable, hash: u32, key: &[u32]) -> Option<usize>
+    ensures { IfSome result (λ n. slice_get (below.now ++ own.now) n ≡ Some key.now) }
+{
+    if let Some(known) = below.guess(hash, key) {
+        return Some(known);
+    }
+    let known = own.guess(hash, key)?;
+    below.len().checked_add(known)
 }
