@@ -150,10 +150,19 @@ pub start_got : (post : Bool) (number action start other : List ℕ) → post �
     ≡ (if post then other else codes "get " ++ number ++ 32 ∷ 34 ∷ [] ++ escape (bare action) ++ codes "?")
 start_got post number action start other is begins = let plain : start ≡ bare action = rw is at begins in rw (is, plain) (simp append_assoc)
 
+-- what stands at the end of the pairs, and at that of the line
+posted_parts : (a number b action c pairs d e : List ℕ)
+    → (a ++ number ++ b ++ action ++ c) ++ (pairs ++ (d ++ e)) ≡ (a ++ (number ++ (b ++ (action ++ (c ++ (pairs ++ d)))))) ++ e
+posted_parts a number b action c pairs d e = simp append_assoc
+
+got_parts : (a number b start c pairs d e : List ℕ)
+    → (a ++ number ++ b ++ start ++ c) ++ (pairs ++ (d ++ e)) ≡ (a ++ (number ++ (b ++ (start ++ c ++ pairs ++ d)))) ++ e
+got_parts a number b start c pairs d e = simp append_assoc
+
 posted : (number action pairs : List ℕ) → escape pairs ≡ pairs
     → (codes "post " ++ number ++ codes " " ++ action ++ 32 ∷ 34 ∷ []) ++ (pairs ++ 34 ∷ 10 ∷ [])
     ≡ report_line (codes "post" ∷ number ∷ action ∷ json_string pairs ∷ [])
-posted number action pairs plain = rw plain (simp append_assoc)
+posted number action pairs plain = rw plain (posted_parts (codes "post ") number (codes " ") action (32 ∷ 34 ∷ []) pairs (34 ∷ []) (10 ∷ []))
 
 queried : (start pairs : List ℕ) → escape pairs ≡ pairs → escape (start ++ codes "?" ++ pairs) ≡ escape start ++ codes "?" ++ pairs
 queried start pairs plain =
@@ -163,7 +172,8 @@ queried start pairs plain =
 got : (number start pairs : List ℕ) → escape pairs ≡ pairs
     → (codes "get " ++ number ++ 32 ∷ 34 ∷ [] ++ escape start ++ codes "?") ++ (pairs ++ 34 ∷ 10 ∷ [])
     ≡ report_line (codes "get" ∷ number ∷ json_string (start ++ codes "?" ++ pairs) ∷ [])
-got number start pairs plain = rw (queried start pairs plain) (simp append_assoc)
+got number start pairs plain =
+    rw (queried start pairs plain) (got_parts (codes "get ") number (32 ∷ 34 ∷ []) (escape start) (codes "?") pairs (34 ∷ []) (10 ∷ []))
 
 sent_line : (post : Bool) (number : ℕ) (action pairs : List ℕ) → escape pairs ≡ pairs
     → (if post then codes "post " ++ decimal number ++ codes " " ++ json_string action ++ 32 ∷ 34 ∷ [] else codes "get " ++ decimal number ++ 32 ∷ 34 ∷ [] ++ escape (bare action) ++ codes "?")

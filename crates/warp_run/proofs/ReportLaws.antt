@@ -1,5 +1,5 @@
 -- The texts of clients, visits and requests, one after another.
-use Rattle.std.proofs.Common.{◌≡◌, ℕ, ◌+◌, ◌<◌, ◌≤◌, List, [], ◌∷◌, ◌++◌, Option, Some, Err, codes, length, get_or, drop, drop-cons, add-one, refl, sym, ap, append_assoc, arith}
+use Rattle.std.proofs.Common.{◌≡◌, ℕ, ◌+◌, ◌<◌, ◌≤◌, List, [], ◌∷◌, ◌++◌, Option, Some, Err, codes, length, get_or, drop, drop-cons, add-one, refl, sym, ap, ◌∙◌, append_assoc, arith}
 use Rattle.std.proofs.lemmas.List.{drop_all}
 use Rattle.std.specs.List.{flat_map}
 use Rattle.conflict_desk.specs.declared.fault.DeskFault.{DeskFault}
@@ -26,8 +26,8 @@ told_step (was ∷ former) r rest = refl
 -- one that is told, and what it was
 pub told_here : (former others : List (Option Request)) (requests rest : List Request) (r : Request) (now was : Option Request)
     → requests ≡ r ∷ rest → now ≡ Some r → was ≡ first_was former → others ≡ others_behind former
-    → told_line [] now ++ (told_line (codes "was ") was ++ told_requests others rest) ≡ told_requests former requests
-told_here former others requests rest r now was split is before behind = rw (split, is, before, behind) (told_step former r rest)
+    → (told_line [] now ++ told_line (codes "was ") was) ++ told_requests others rest ≡ told_requests former requests
+told_here former others requests rest r now was split is before behind = rw (split, is, before, behind) (append_assoc (request_line r) (told_line (codes "was ") (first_was former)) (told_requests (others_behind former) rest) ∙ told_step former r rest)
 
 pub told_none : (former : List (Option Request)) (requests : List Request) → requests ≡ [] → [] ≡ told_requests former requests
 told_none former requests none = rw none refl

@@ -239,9 +239,17 @@ fn add_requests<W: Sink>(buffer: &mut ReportBuffer, writer: &mut W, room: &mut R
 {
     while room.requests.advance() {
         room.former.advance();
-        add_told(buffer, writer, "", room.requests.told());
-        add_told(buffer, writer, "was ", room.former.told());
+        add_both(buffer, writer, room);
     }
+}
+
+// The request that is told now, and what it was, if that is told.
+fn add_both<W: Sink>(buffer: &mut ReportBuffer, writer: &mut W, room: &ReportRoom<'_>)
+    ensures { AddsText W.puts W.contents writer.old buffer.old writer.new buffer.new
+        (told_line [] room.now.requests.0 ++ told_line (codes "was ") room.now.former.0) }
+{
+    add_told(buffer, writer, "", room.requests.told());
+    add_told(buffer, writer, "was ", room.former.told());
 }
 
 // What is told, if anything, behind that word.

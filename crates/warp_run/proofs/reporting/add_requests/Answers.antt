@@ -1,6 +1,5 @@
-use Rattle.std.proofs.Common.{List, Option, option_map, ap, ◌∙◌}
+use Rattle.std.proofs.Common.{List, Option, ap, ◌∙◌}
 use Rattle.visit_replay.specs.declared.requests.Request.{Request}
-use Rattle.visit_replay.specs.inside.Tellings.{told_request}
 use Rattle.warp_run.proofs.BufferLaws.{adds_as, adds_nothing, ◌>>◌}
 use Rattle.warp_run.proofs.ReportLaws.{told_here, told_none}
 use Rattle.warp_run.proofs.reporting.add_requests.Goals as goal
@@ -9,12 +8,11 @@ pub loop-room-preserved : goal.loop-room-preserved
 loop-room-preserved g c w b put =
     let room = c.loop-room.room in
     let next = c.advance.ensures.next c.loop-room-test.true in
-    let before = c.advance-2.ensures in
+    let before = c.advance-in-loop-room.ensures in
     c.loop-room.invariant w b
-    (adds_as (c.add_told.ensures >> c.add_told-2.ensures >> put)
-    (told_here room.former.1 c.advance-2.new.self.1 room.requests.1 c.advance.new.self.1 next.0 (option_map told_request c.told.result) (option_map told_request c.told-2.result)
-    next.1 (c.told.ensures ∙ next.2)
-    (c.told-2.ensures ∙ ap (λ (t : Option Request × List (Option Request)). t.0) before) (ap (λ (t : Option Request × List (Option Request)). t.1) before)))
+    (adds_as (c.add_both.ensures >> put)
+    (told_here room.former.1 c.advance-in-loop-room.new.self.1 room.requests.1 c.advance.new.self.1 next.0 c.advance.new.self.0 c.advance-in-loop-room.new.self.0
+    next.1 next.2 (ap (λ (t : Option Request × List (Option Request)). t.0) before) (ap (λ (t : Option Request × List (Option Request)). t.1) before)))
 
 pub returns : goal.returns
 returns g c =

@@ -35,5 +35,5 @@ returns g c =
     adds_as
     (l.invariant.rest l.writer l.buffer
     (adds_as (adds_nothing g.W.Sink.puts g.W.Write.contents l.writer l.buffer)
-    (pairs_end c.args.pairs.now l.mark.now l.place (omega (arith, c.places.ensures, c.loop-place-test.false)))))
+    (pairs_end c.args.pairs.now l.mark.now l.place (omega (arith, c.places-place-end.ensures, c.loop-place-test.false)))))
     (joined_first (pairs_told c.args.pairs.now))

@@ -7,7 +7,7 @@ use Rattle.warp_run.proofs.reporting.telling.add_start.Goals as goal
 pub returns-then-form : goal.returns-then-form
 returns-then-form g c =
     let form = c.args.form.now in
-    adds_as (c.add_with_number.ensures >> c.add.ensures >> c.add_quoted.ensures >> c.add-2.ensures)
+    adds_as (c.add_with_number.ensures >> c.add.ensures >> c.add_quoted.ensures >> c.add-then-form.ensures)
     (start_posted form.post (decimal form.number) (json_string form.action.now) _ c.if-form.true)
 
 pub returns-else-form : goal.returns-else-form
