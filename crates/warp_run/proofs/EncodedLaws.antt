@@ -63,7 +63,7 @@ from_here f (x ∷ xs) zero = refl
 from_here f (x ∷ xs) (suc i) = from_here f xs i
 
 module _ (pairs : SentPairs) (mark : List ℕ) (place : ℕ) where
-  abbrev there : Option Pair
+  abbrev pub there : Option Pair
   there = option_and_then (pair_told pairs) (slice_get pairs.senders.now place)
 
   next_is : (o : Option Pair) → o ≡ there → joined mark (cons_option o (pairs_from pairs (place + 1))) ≡ joined mark (pairs_from pairs place)

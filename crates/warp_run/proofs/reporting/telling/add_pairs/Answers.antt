@@ -4,7 +4,7 @@ use Rattle.visit_replay.specs.inside.FieldsNow.{pair_of}
 use Rattle.visit_replay.specs.inside.Tellings.{pairs_told}
 use Rattle.visit_replay.proofs.LeftBehind.{joined_first}
 use Rattle.warp_run.proofs.BufferLaws.{adds_as, adds_nothing, ◌>>◌}
-use Rattle.warp_run.proofs.EncodedLaws.{no_pair, pair_first, pairs_end}
+use Rattle.warp_run.proofs.EncodedLaws.{there, no_pair, pair_first, pairs_end}
 use Rattle.warp_run.proofs.reporting.telling.add_pairs.Goals as goal
 
 pub loop-place-init : goal.loop-place-init
@@ -13,7 +13,7 @@ loop-place-init g c = record { text = IsUtf8-nil; rest = λ w b put. put }
 pub loop-place-preserved-in_default : goal.loop-place-preserved-in_default
 loop-place-preserved-in_default g c =
     let l = c.loop-place in
-    let nothing = ap (option_map pair_of) (sym c.in_default.is) ∙ c.at.ensures in
+    let nothing = ◌∙◌ {c = there c.args.pairs.now l.mark.now l.place} (ap (option_map pair_of) (sym c.in_default.is)) c.at.ensures in
     record {
       text = l.invariant.text;
       rest = λ w b put. l.invariant.rest w b (adds_as put (no_pair c.args.pairs.now l.mark.now l.place nothing));
@@ -22,7 +22,7 @@ loop-place-preserved-in_default g c =
 pub loop-place-preserved : goal.loop-place-preserved
 loop-place-preserved g c =
     let l = c.loop-place in
-    let one = ap (option_map pair_of) (sym c.in-Some.is) ∙ c.at.ensures in
+    let one = ◌∙◌ {c = there c.args.pairs.now l.mark.now l.place} (ap (option_map pair_of) (sym c.in-Some.is)) c.at.ensures in
     record {
       text = (38 ∷ [], (refl, ap (λ c. c ++ []) (encode_ascii 38 (omega arith))));
       rest = λ w b put.
