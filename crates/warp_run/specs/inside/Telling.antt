@@ -5,7 +5,6 @@ use Rattle.std.specs.Option.{option_or}
 use Rattle.std.specs.declared.alloc.Global.{Global}
 use Rattle.page_tree.specs.Tree.{Tree}
 use Rattle.client_log.specs.declared.visit.Visit.{Visit}
-use Rattle.visit_replay.specs.Difference.{difference}
 use Rattle.visit_replay.specs.declared.outcome.Outcome.{Outcome}
 use Rattle.replay_workers.specs.declared.pool.KeptVisits.{KeptVisits}
 use Rattle.conflict_desk.specs.declared.docket.Case.{Case}

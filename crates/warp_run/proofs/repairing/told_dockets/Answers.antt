@@ -1,6 +1,6 @@
 use Rattle.std.proofs.Common.{map, sym, ap, subst, ◌∙◌}
 use Rattle.std.proofs.lemmas.Result.{IfOk-weaker}
-use Rattle.std.specs.List.{zip, AllByRecursion}
+use Rattle.std.specs.List.{AllByRecursion}
 use Rattle.conflict_desk.specs.Docket.{AreAscending}
 use Rattle.own_pages.specs.OwnPages.{own_page_at}
 use Rattle.warp_run.specs.inside.{client_visits}

@@ -1,4 +1,4 @@
-use Rattle.std.proofs.Common.{List, Option, ap, ◌∙◌}
+use Rattle.std.proofs.Common.{List, Option, ap}
 use Rattle.visit_replay.specs.declared.requests.Request.{Request}
 use Rattle.warp_run.specs.Report.{told_requests}
 use Rattle.warp_run.proofs.BufferLaws.{adds_as, adds_nothing, ◌>>◌}

@@ -1,4 +1,4 @@
-use Rattle.std.proofs.Common.{◌≡◌, ◌∷◌, [], ◌++◌, Some, None, option_map, refl, sym, ap, ◌∙◌, arith, length}
+use Rattle.std.proofs.Common.{◌∷◌, [], ◌++◌, option_map, refl, sym, ap, ◌∙◌, arith}
 use Rattle.std.proofs.lemmas.Str.{IsUtf8-nil, encode_ascii}
 use Rattle.visit_replay.specs.inside.FieldsNow.{pair_of}
 use Rattle.visit_replay.specs.inside.Tellings.{pairs_told}
