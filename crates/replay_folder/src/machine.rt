@@ -8,7 +8,7 @@ use std::fs::File;
 use std::io::ErrorKind;
 use std::rt::Files;
 use std::time::{Clock, Instant};
-use std::{fs, io};
+use std::{fs, io, mem};
 use warp_run::Listed;
 
 /// What a name of a folder stands as that is no UTF-8: no such file can be opened.
@@ -92,6 +92,11 @@ impl<T: Clock + Eprint> Watches for ProgressLine<'_, T> {
                 say(self.rt, done, of);
             },
         }
+    }
+
+    // The program ends behind it, and the system takes all of its memory at once.
+    fn let_go<X: Drop>(&mut self, made: X) {
+        mem::forget(made);
     }
 }
 

@@ -29,4 +29,7 @@ pub trait OpensUploads {
 pub trait Watches {
     /// So many uploads are done, of so many.
     fn tell(&mut self, done: usize, of: usize);
+
+    /// What replaying made, once its report is written: it is let go, or left to the system where the program ends.
+    fn let_go<X: Drop>(&mut self, made: X);
 }

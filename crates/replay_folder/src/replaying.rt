@@ -4,12 +4,11 @@ ghost use Rattle.byte_streams.specs.Reading.{WasRead};
 ghost use Rattle.byte_streams.specs.Streams.{fed_answers};
 ghost use Rattle.byte_streams.specs.declared.source.Fed.{Fed};
 ghost use Rattle.byte_streams.specs.Writing.{WritesNothing, writes_of};
-ghost use Rattle.conflict_desk.specs.Laws.{AllLeaveInOrder};
 ghost use Rattle.warp_run.specs.Report.{WritesReport, report_with};
 ghost use Rattle.warp_server.specs.program.Listen.{unopened_status};
 ghost use Rattle.replay_folder.specs.Ends.{folder_status};
 ghost use Rattle.replay_folder.specs.FolderReport.{upload_lines};
-ghost use Rattle.replay_folder.specs.Replays.{folder_repaired, ReplaysOn, Replays};
+ghost use Rattle.replay_folder.specs.Replays.{ReplaysOn, Replays};
 ghost use Rattle.replay_folder.specs.inside.{Reports, no_site_end};
 
 use crate::concluding::repair_folder;
@@ -24,6 +23,7 @@ use crate::taking::take_files;
 use byte_streams::{Sink, Source};
 use page_tree::NoMemory;
 use site_file::{FileWrong, NoSiteFile, SiteFile};
+use std::alloc::Global;
 use std::fs::File;
 use std::io::ErrorKind;
 use std::random::RandomSource;
@@ -31,7 +31,7 @@ use std::rt::Files;
 use std::sync::Wait;
 use std::thread::Threads;
 use std::time::Clock;
-use warp_run::{ReportFault, Status, written_status};
+use warp_run::{Repaired, ReportFault, Status, written_status};
 use warp_server::{Replaying, Words};
 
 /// How replaying ended.
@@ -43,7 +43,8 @@ pub struct ReplayEnd {
 }
 
 /// Replays uploads and folders of uploads on the site of a file. It is `replay_by` with the files of this machine, of which no contract says what was opened;
-/// once a second it says on standard error how far it is, where that is shown.
+/// once a second it says on standard error how far it is, where that is shown. It is for a program that ends behind it: the memory of what it made is left to the
+/// system.
 pub fn replay<
     W: Sink,
     T: AllocGlobal + Files<File = File> + RandomSource + Clock + Eprint + Threads + Wait + Sync,
@@ -130,30 +131,28 @@ fn report_uploads<
     let named = name_uploads(rt.alloc(), opener, uploads)?;
     let names = named.as_slice();
     let taken = take_files(rt, opener, watcher, names, site.site().quota())?;
-    report_taken(rt, site, names, &taken, writer)
+    let repaired = repair_folder(rt, site, taken.ends.as_slice(), &taken.gathered)?;
+    let reported = report_taken(rt.alloc(), names, &taken, &repaired, writer);
+    watcher.let_go((taken, repaired));
+    Ok(reported)
 }
 
-// The same of what was taken.
-fn report_taken<F: Source + Drop + Send, W: Sink, T: AllocGlobal + Threads + Sync>(
-    rt: &T,
-    site: &SiteFile,
+// The same of what was taken, and of what became of it.
+fn report_taken<F: Source, W: Sink>(
+    alloc: Global,
     named: &[Named],
     taken: &TakenFiles<F>,
+    repaired: &Repaired,
     writer: &mut W,
-) -> Result<(Status, Result<(), ReportFault>), NoMemory>
+) -> (Status, Result<(), ReportFault>)
     requires each { length named.now ≡ length taken.now.ends.items }
-    ensures status { IfOk result (λ both. both.0 ≡ folder_status taken.now.status taken.now.ends.items) }
-    ensures reported { IfOk result (λ both. WritesReport (writes_of W.puts W.contents writer.old writer.new)
-        (report_with (upload_lines named.now taken.now.ends.items)
-        (folder_repaired site.now taken.now.ends.items taken.now.gathered)) both.1) }
-    ensures leave { IfOk result (λ _. AllLeaveInOrder
-        (folder_repaired site.now taken.now.ends.items taken.now.gathered).desk) }
-    ensures nothing { IfErr result (λ _. WritesNothing (writes_of W.puts W.contents writer.old writer.new)) }
+    ensures status { result.0 ≡ folder_status taken.now.status taken.now.ends.items }
+    ensures reported { WritesReport (writes_of W.puts W.contents writer.old writer.new)
+        (report_with (upload_lines named.now taken.now.ends.items) repaired.now) result.1 }
 {
     let ends = taken.ends.as_slice();
-    let repaired = repair_folder(rt, site, ends, &taken.gathered)?;
-    let report = report_folder(rt.alloc(), named, ends, &repaired, writer);
-    Ok((folder_status(taken.status, ends), report))
+    let report = report_folder(alloc, named, ends, repaired, writer);
+    (folder_status(taken.status, ends), report)
 }
 
 // How it ends where the file can't be opened.
