@@ -5,9 +5,9 @@ use Rattle.std.specs.Global.{Global}
 use Rattle.std.specs.Cow.{cow_str_bytes}
 use Rattle.std.specs.declared.borrow.CowStr.{CowStr}
 use Rattle.page_looks.specs.inside.Told.{told_seen}
-use Rattle.page_tree.specs.inside.Kept.{attributes_at, children_at}
+use Rattle.page_tree.specs.inside.Kept.{attributes_at, children_at, words_at}
 use Rattle.page_tree.specs.Tree.{Attribute, Tree, element, words, no_trees}
-use Rattle.page_tree.specs.Look.{value_of, node_at, name_at, text_at, name_of, text_of, attributes_of, children_of}
+use Rattle.page_tree.specs.Look.{value_of, node_at, name_at, name_of, words_of, attributes_of, children_of}
 use Rattle.page_looks.specs.Outline.{those_named}
 use Rattle.page_looks.specs.inside.Numbers.{IsPutIn}
 use Rattle.page_looks.specs.inside.Shapes.{told_texts}
@@ -128,7 +128,7 @@ told_next (a ∷ told) (suc i) x less is =
 -- ---- how a key begins
 
 some_words : (told : Tree → List Attribute) (o : Option Tree) (m : Tree) → o ≡ Some m → None ≡ option_and_then name_of o
-    → (key_head told m ≡ 0) × (key_texts told m ≡ option_map_or text_of o [] ∷ [])
+    → (key_head told m ≡ 0) × (key_texts told m ≡ option_map_or words_of o [] ∷ [])
 some_words told None m is none = cc
 some_words told (Some (element name attributes children)) m is none = cc
 some_words told (Some (words text)) m is none =
@@ -136,7 +136,7 @@ some_words told (Some (words text)) m is none =
     (ap (key_head told) (sym same), ap (key_texts told) (sym same))
 
 pub words_begin : (told : Tree → List Attribute) (below old new : Shapes) (page m : Tree) (place key : List ℕ) → node_at place page ≡ Some m
-    → None ≡ name_at place page → PushesTexts below old new (0 ∷ []) key (text_at place page ∷ []) → BeginsNode told below old new key m
+    → None ≡ name_at place page → PushesTexts below old new (0 ∷ []) key (words_at place page ∷ []) → BeginsNode told below old new key m
 words_begin told below old new page m place key is none p =
     let s = some_words told (node_at place page) m is none in
     rw (s.0, s.1) p

@@ -11,6 +11,7 @@ use crate::ranks::{Ranked, number_at};
 use crate::sent_numbers::SentNumbers;
 use page_tree::{Page, Text};
 use std::marker::Model;
+use std::sync::Arc;
 
 /// The same element on the repaired page, by its number, and whether it still sends the same: so do those of the nearest anchor, with all below them.
 #[derive(Clone, Copy, Debug, PartialEq, Eq)]
@@ -22,26 +23,28 @@ pub struct Same {
 /// A recorded page beside a repaired one; contracts see both trees and the fresh names.
 #[derive(Drop)]
 pub struct Beside<'b> {
-    pub(crate) recorded: &'b Page,
+    pub(crate) recorded: Page,
     pub(crate) repaired: &'b Page,
     pub(crate) fresh: &'b [Text],
     pub(crate) old: Ranked,
-    pub(crate) new: &'b Ranked,
+    pub(crate) new: Arc<Ranked>,
     pub(crate) old_sent: SentNumbers,
-    pub(crate) new_sent: &'b SentNumbers,
+    pub(crate) new_sent: Arc<SentNumbers>,
 }
 
 impl<'b> Model for Beside<'b> {
     ghost use Rattle.page_looks.specs.Counterpart.{PagePair, coded_pair};
+    ghost use Rattle.std.specs.Arc.{arc_value};
     ghost use Rattle.page_looks.specs.inside.Kept.{AreBeside};
 
     ghost Value = { PagePair };
 
     ghost coded = { coded_pair };
 
-    ghost view = { λ b. record { old = b.recorded.now; new = b.repaired.now; fresh = b.fresh.now } };
+    ghost view = { λ b. record { old = b.recorded; new = b.repaired.now; fresh = b.fresh.now } };
 
-    ghost invariant = { λ b. AreBeside b.fresh.now b.recorded.now b.repaired.now b.old b.new.now b.old_sent b.new_sent.now };
+    ghost invariant = { λ b. AreBeside b.fresh.now b.recorded b.repaired.now b.old (arc_value b.new) b.old_sent
+        (arc_value b.new_sent) };
 }
 
 impl<'b> Beside<'b> {
@@ -49,7 +52,7 @@ impl<'b> Beside<'b> {
     pub fn recorded_page(&self) -> &Page
         ensures { result.now ≡ self.now.old }
     {
-        self.recorded
+        &self.recorded
     }
 
     /// The page that stands there now.
@@ -67,8 +70,13 @@ impl<'b> Beside<'b> {
         ensures sending { IfSome result (λ same. same.sending
             ≡ still_sends self.now.fresh self.now.old self.now.new (place_numbered number self.now.old)) }
     {
-        let Some(anchor) = nearest_anchor(self.recorded, &self.old, self.new, self.repaired, number)
-        else {
+        let Some(anchor) = nearest_anchor(
+            &self.recorded,
+            &self.old,
+            &self.new,
+            self.repaired,
+            number,
+        ) else {
             return None;
         };
         let rank = anchor.there as usize + (anchor.own - anchor.at) as usize;
@@ -96,10 +104,10 @@ impl<'b> Beside<'b> {
         let Some(look) = number_at(self.old.looks.as_slice(), rank as usize) else {
             return None;
         };
-        let Some(first) = self.old.first_alike(self.new, rank) else {
+        let Some(first) = self.old.first_alike(&self.new, rank) else {
             return None;
         };
-        if all_send_alike(&self.old_sent, self.new_sent, look, rank, first) {
+        if all_send_alike(&self.old_sent, &self.new_sent, look, rank, first) {
             number_at(self.new.nodes.as_slice(), first as usize)
         } else {
             None
@@ -114,7 +122,7 @@ impl<'b> Beside<'b> {
         let Some(rank) = rank_of(&self.old, number) else {
             return false;
         };
-        match self.old.first_alike(self.new, rank) {
+        match self.old.first_alike(&self.new, rank) {
             None => false,
             Some(_first) => true,
         }

@@ -28,7 +28,7 @@ impl Guesses {
 
     /// Notes what was put in there, of so many in all.
     pub(crate) fn note(&mut self, hash: u32, place: u32, count: usize) -> Result<(), NoMemory> {
-        if count > self.places.len() {
+        if count > self.places.len() / SPACE {
             let room = self.places.len().saturating_mul(2).max(LEAST_ROOM);
             self.places.resize(room, 0)?;
         }
@@ -42,6 +42,9 @@ impl Guesses {
 
 // A power of two, as any further room is.
 const LEAST_ROOM: usize = 64;
+
+// How many places there are at least for each that is taken: so most have one of their own.
+const SPACE: usize = 4;
 
 // How much of a text counts: its end.
 const HASHED: usize = 16;

@@ -1,5 +1,6 @@
 //! The looks of a page, and what its elements send.
 ghost use Rattle.std.specs.Prelude.{List, ◌≡◌, IfOk};
+ghost use Rattle.std.specs.Arc.{arc_value};
 ghost use Rattle.page_tree.specs.Tree.{Tree};
 ghost use Rattle.page_looks.specs.inside.Numbering.{KnowsAll};
 ghost use Rattle.page_looks.specs.inside.Kept.{RanksPage};
@@ -12,9 +13,10 @@ use crate::sent_numbers::{SentNumbers, numbered_sends};
 use crate::shapes::Shapes;
 use crate::telling::Telling;
 use page_tree::{NoMemory, Page, Text};
-use std::alloc::Global;
+use std::alloc::{AllocError, Global};
 use std::hash::RandomState;
 use std::marker::Model;
+use std::sync::Arc;
 
 /// The looks of a page and what its elements send, made once. Contracts see them as the page's tree, and the fresh names, whose values aren't told.
 #[derive(Drop)]
@@ -23,9 +25,9 @@ pub struct Looks<'p> {
     page: &'p Page,
     fresh: &'p [Text],
     shapes: Shapes<'p>,
-    ranked: Ranked,
+    ranked: Arc<Ranked>,
     sent_shapes: Shapes<'p>,
-    sent: SentNumbers,
+    sent: Arc<SentNumbers>,
 }
 
 impl<'p> Model for Looks<'p> {
@@ -33,6 +35,7 @@ impl<'p> Model for Looks<'p> {
     ghost use Rattle.std.specs.Coded.{coded×, coded_list, coded_ℕ};
     ghost use Rattle.page_tree.specs.Tree.{Tree};
     ghost use Rattle.page_tree.specs.inside.TreeCode.{tree_code};
+    ghost use Rattle.std.specs.Arc.{arc_value};
     ghost use Rattle.page_looks.specs.inside.Kept.{AreLooksOf, AreSendsOf};
 
     ghost Value = { Tree × List (List ℕ) };
@@ -41,8 +44,8 @@ impl<'p> Model for Looks<'p> {
 
     ghost view = { λ l. (l.page.now, l.fresh.now) };
 
-    ghost invariant = { λ l. AreLooksOf l.page.now l.shapes l.ranked
-        × AreSendsOf l.fresh.now l.page.now l.sent_shapes l.ranked l.sent };
+    ghost invariant = { λ l. AreLooksOf l.page.now l.shapes (arc_value l.ranked)
+        × AreSendsOf l.fresh.now l.page.now l.sent_shapes (arc_value l.ranked) (arc_value l.sent) };
 }
 
 impl<'p> Looks<'p> {
@@ -57,14 +60,16 @@ impl<'p> Looks<'p> {
         let ranked = ranked_page(alloc, page, &below, &mut shapes)?;
         let mut sent_shapes = Shapes::new(alloc, keys);
         let sent = numbered_sends(alloc, page, fresh, &ranked, &below, &mut sent_shapes)?;
+        let looks_kept = shared(alloc, ranked)?;
+        let sends_kept = shared(alloc, sent)?;
         Ok(Looks {
             keys,
             page,
             fresh,
             shapes,
-            ranked,
+            ranked: looks_kept,
             sent_shapes,
-            sent,
+            sent: sends_kept,
         })
     }
 
@@ -83,7 +88,7 @@ impl<'p> Looks<'p> {
     }
 
     /// This page beside a recorded one. The time grows with the sizes of both.
-    pub fn beside<'b>(&'b self, alloc: Global, recorded: &'b Page) -> Result<Beside<'b>, NoMemory>
+    pub fn beside(&self, alloc: Global, recorded: &Page) -> Result<Beside<'p>, NoMemory>
         ensures { IfOk result
             (λ both. both ≡ record { old = recorded.now; new = self.now.0; fresh = self.now.1 }) }
     {
@@ -98,15 +103,27 @@ impl<'p> Looks<'p> {
             &self.sent_shapes,
             &mut sent_shapes,
         )?;
+        let recorded = recorded.copy()?;
+        let new = Arc::try_clone(&self.ranked)?;
+        let new_sent = Arc::try_clone(&self.sent)?;
         Ok(Beside {
             recorded,
             repaired: self.page,
             fresh: self.fresh,
             old,
-            new: &self.ranked,
+            new,
             old_sent,
-            new_sent: &self.sent,
+            new_sent,
         })
+    }
+}
+
+fn shared<T: Drop>(alloc: Global, value: T) -> Result<Arc<T>, NoMemory>
+    ensures { IfOk result (λ shared. arc_value shared ≡ value) }
+{
+    match Arc::new(alloc, value) {
+        Ok(shared) => Ok(shared),
+        Err(_) => Err(AllocError),
     }
 }
 

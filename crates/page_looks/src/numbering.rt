@@ -2,8 +2,8 @@
 ghost use Rattle.std.specs.Prelude.{suc, [], ◌∷◌, ◌++◌, ◌≡◌, ◌<◌, ◌≤◌, length, IfOk, OnOk, Some};
 ghost use Rattle.page_tree.specs.Tree.{Tree, element, tree, no_trees};
 ghost use Rattle.page_tree.specs.Limits.{nodes};
-ghost use Rattle.page_tree.specs.Look.{node_at, name_at, text_at};
-ghost use Rattle.page_tree.specs.inside.Kept.{attributes_at, children_at};
+ghost use Rattle.page_tree.specs.Look.{node_at, name_at};
+ghost use Rattle.page_tree.specs.inside.Kept.{attributes_at, children_at, words_at};
 ghost use Rattle.page_tree.specs.Number.{place_numbered};
 ghost use Rattle.page_looks.specs.Outline.{open_children, outlines};
 ghost use Rattle.page_looks.specs.inside.Told.{told_by};
@@ -28,12 +28,16 @@ fn words_key<'p>(
     own: &mut Shapes<'p>,
 ) -> Result<Vec<u32>, NoMemory>
     ensures { IfOk result (λ key. PushesTexts below.now own.old own.new (0 ∷ []) key.items
-        (text_at (place_numbered number page.now) page.now ∷ [])) }
+        (words_at (place_numbered number page.now) page.now ∷ [])) }
 {
-    let mut key = Vec::new(alloc);
-    let text = page.text_of(number)?.into_string();
+    let mut key = Vec::with_capacity(alloc, 2)?;
     key.push(0)?;
-    push_text(below, own, &mut key, CowStr::Owned(text))?;
+    push_text(
+        below,
+        own,
+        &mut key,
+        CowStr::Borrowed(page.words_of(number)),
+    )?;
     Ok(key)
 }
 
@@ -142,7 +146,7 @@ fn number_child<'p>(
     ensures longer { OnOk result (length looks.old.items ≤ length looks.new.items) }
     ensures ready { OnOk result (IsReady telling.now (below.now.texts ++ own.new.texts) page.now) }
 {
-    if is_seen(page, child)? {
+    if is_seen(page, child) {
         let part = number_node(alloc, page, child, telling, below, own, seen, looks)?;
         key.push(part)?;
     }

@@ -16,19 +16,12 @@ use std::alloc::Global;
 use std::borrow::CowStr;
 
 /// Whether the node with that number is seen, where what stands above it is.
-pub(crate) fn is_seen(page: &Page, number: u32) -> Result<bool, NoMemory>
-    ensures { IfOk result (λ seen. (m : Tree) → node_at (place_numbered number page.now) page.now ≡ Some m
-        → seen ≡ is_seen m) }
+pub(crate) fn is_seen(page: &Page, number: u32) -> bool
+    ensures { (m : Tree) → node_at (place_numbered number page.now) page.now ≡ Some m → result ≡ is_seen m }
 {
     match page.name_of(number) {
-        None => {
-            let text = page.text_of(number)?;
-            Ok(!is_blank(text.as_str()))
-        }
-        Some(name) => {
-            let seen = is_seen_element(page, number, name);
-            Ok(seen)
-        }
+        None => !is_blank(page.words_of(number)),
+        Some(name) => is_seen_element(page, number, name),
     }
 }
 

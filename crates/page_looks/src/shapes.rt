@@ -83,6 +83,9 @@ pub(crate) fn number_pair<'p>(
     }
 }
 
+// As much as most keys take.
+const KEY_ROOM: usize = 8;
+
 /// How the key of an element of that name begins, before it is known how much is told of it.
 pub(crate) fn begin_key<'p>(
     alloc: Global,
@@ -92,7 +95,7 @@ pub(crate) fn begin_key<'p>(
 ) -> Result<Vec<u32>, NoMemory>
     ensures { IfOk result (λ key. PushesTexts below.now own.old own.new (0 ∷ []) key.items (name.now ∷ [])) }
 {
-    let mut key = Vec::new(alloc);
+    let mut key = Vec::with_capacity(alloc, KEY_ROOM)?;
     key.push(0)?;
     push_text(below, own, &mut key, CowStr::Borrowed(name))?;
     Ok(key)

@@ -75,9 +75,9 @@ impl Page {
         Ok(joined)
     }
 
-    // The text with that number; empty for an element.
+    /// The text with that number, which takes no memory; empty for an element.
     #[tactic(auto, using(crate::proofs::LookLaws::line_is, crate::proofs::Numbers::has_none))]
-    pub(crate) fn words_of(&self, number: u32) -> &str
+    pub fn words_of(&self, number: u32) -> &str
         ensures { result.now ≡ words_at (place_numbered number self.now) self.now }
     {
         match self.index(number) {

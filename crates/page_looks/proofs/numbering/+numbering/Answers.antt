@@ -17,12 +17,12 @@ use Rattle.page_looks.proofs.numbering.+numbering.Goals as goal
 pub number_child-returns-in_ok-push-clause-looks : goal.number_child-returns-in_ok-push-clause-looks
 number_child-returns-in_ok-push-clause-looks t c = λ m is.
     child_numbered (told_by c.args.telling.now) c.args.below.now c.args.own.now c.number_node.new.own c.args.looks.now.items c.number_node.new.looks.items c.args.key.now.items
-    c.push.new.self.items c.in_ok-part.part m (sym c.if-branch.true ∙ c.in_ok-is_seen.ensures m is) (c.in_ok-part.ensures.looks m is)
+    c.push.new.self.items c.in_ok-part.part m (sym c.if-is_seen.true ∙ c.is_seen.ensures m is) (c.in_ok-part.ensures.looks m is)
     c.in_ok-push.ensures.items
 
-pub number_child-returns-else-branch-clause-looks : goal.number_child-returns-else-branch-clause-looks
-number_child-returns-else-branch-clause-looks t c = λ m is.
-    child_unseen (told_by c.args.telling.now) c.args.below.now c.args.own.now c.args.looks.now.items c.args.key.now.items m (sym c.if-branch.false ∙ c.in_ok-is_seen.ensures m is)
+pub number_child-returns-else-is_seen-clause-looks : goal.number_child-returns-else-is_seen-clause-looks
+number_child-returns-else-is_seen-clause-looks t c = λ m is.
+    child_unseen (told_by c.args.telling.now) c.args.below.now c.args.own.now c.args.looks.now.items c.args.key.now.items m (sym c.if-is_seen.false ∙ c.is_seen.ensures m is)
 
 -- ---- a node
 

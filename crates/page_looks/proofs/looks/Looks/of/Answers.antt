@@ -24,7 +24,7 @@ numbered_sends-requires-clause-knows c =
     ([], none)
 
 pub invariant_of-result : goal.invariant_of-result
-invariant_of-result c = (
+invariant_of-result c = rw (c.in_ok-looks_kept.ensures, c.in_ok-sends_kept.ensures) (
   looks_kept c.new-below.result c.new-shapes.result c.ranked_page.new.own c.args.page.now c.in_ok-ranked.ranked c.new-below.ensures.texts
       c.new-below.ensures.keys c.new-shapes.ensures.texts c.new-shapes.ensures.keys c.in_ok-ranked.ensures,
   sends_kept c.as_slice-fresh.result.now c.new-below.result c.new-sent_shapes.result c.numbered_sends.new.own c.args.page.now c.in_ok-ranked.ranked c.in_ok-sent.sent
