@@ -19,7 +19,7 @@ use Rattle.visit_replay.specs.inside.OneEvent.{IsWithin, places_numbered}
 use Rattle.visit_replay.specs.inside.Deeds.{deed_request, form_asked, text_done, text_behind, is_on_done, is_on_behind}
 use Rattle.visit_replay.specs.inside.FieldsNow.{pair_now, pairs_now}
 use Rattle.visit_replay.specs.inside.KeptFields.{Hold}
-use Rattle.visit_replay.specs.inside.Senders.{AreSenders, IsSender, SaysFresh, SendUnder, sent_all, started}
+use Rattle.visit_replay.specs.inside.Senders.{SendUnder, sent_all}
 use Rattle.visit_replay.specs.inside.Trails.{asked_at}
 use Rattle.visit_replay.specs.declared.deeds.Deed.{Deed}
 use Rattle.visit_replay.specs.declared.fields.Fields.{Fields}
@@ -63,100 +63,7 @@ pub asked_by : (trail : Trail) (place : ℕ) (deed : Deed) → place < length tr
 asked_by trail place deed below is =
     ap (option_and_then (deed_request trail.address trail.page (take place trail.deeds.items))) (slice_get-get_or trail.deeds.items place deed below ∙ ap Some (sym is))
 
--- ---- all senders of a page, node by node
-
-module _ (page : Tree) (number : ℕ) (old them : PageSenders) (more : List Sender) (so_far : AreSenders page number old) (items : them.all.items ≡ old.all.items ++ more)
-    (kept : (n : ℕ) → n ≤ number → started them n ≡ started old n) (last : started them (number + 1) ≡ length them.all.items) where
-  long : length them.all.items ≡ length old.all.items + length more
-  long = ap length items ∙ length-append old.all.items more
-
-  in_old : (n : ℕ) → n ≤ number → started old n ≤ length old.all.items
-  in_old n few = omega (arith, so_far.ordered n number few (omega arith), so_far.whole)
-
-  most : (n : ℕ) → n ≤ number + 1 → started them n ≤ length them.all.items
-  most n few = elim (eqb_tells n (number + 1)) [
-    | inl same ↦ let here : started them n ≡ length them.all.items = ap (started them) same.1 ∙ last in omega (arith, here)
-    | inr apart ↦ let below : n ≤ number = omega (arith, few, apart.1) in omega (arith, kept n below, in_old n below, long)
-  ]
-
-  in_order : (a b : ℕ) → a ≤ b → b ≤ number + 1 → started them a ≤ started them b
-  in_order a b up few = elim (eqb_tells b (number + 1)) [
-    | inl same ↦ let here : started them b ≡ length them.all.items = ap (started them) same.1 ∙ last in omega (arith, here, most a (omega (arith, up, few)))
-    | inr apart ↦ let below : b ≤ number = omega (arith, few, apart.1) in omega (arith, kept a (omega (arith, up, below)), kept b below, so_far.ordered a b up below)
-  ]
-
-  -- where what comes behind sends what that node does
-  module _ (filled : Filled) (on : filled.page.now ≡ page) (sends : sent_all filled more ≡ cons_option (pair_now filled number) []) where
-    before_all : sent_all filled old.all.items ≡ pairs_now filled 0 number
-    before_all = ap (sent_all filled) (sym (take_all (started old number) old.all.items (omega (arith, so_far.whole)))) ∙ so_far.pairs number (omega arith) filled on
-
-    behind_all : sent_all filled them.all.items ≡ pairs_now filled 0 (number + 1)
-    behind_all =
-        ap (sent_all filled) items ∙ filter_map-append (λ s. pair_now filled s.number) old.all.items more
-        ∙ ap (λ l. l ++ sent_all filled more) before_all ∙ ap (λ l. pairs_now filled 0 number ++ l) sends ∙ sym (numbered_more filled 0 number (omega arith))
-
-    each_start : (n : ℕ) → n ≤ number + 1 → sent_all filled (take (started them n) them.all.items) ≡ pairs_now filled 0 n
-    each_start n few = elim (eqb_tells n (number + 1)) [
-      | inl same ↦
-          let here : started them n ≡ length them.all.items = ap (started them) same.1 ∙ last in
-          ap (sent_all filled) (take_all (started them n) them.all.items (omega (arith, here))) ∙ behind_all ∙ ap (pairs_now filled 0) (sym same.1)
-      | inr apart ↦
-          let below : n ≤ number = omega (arith, few, apart.1) in
-          ap (λ k. sent_all filled (take k them.all.items)) (kept n below) ∙ ap (λ l. sent_all filled (take (started old n) l)) items
-          ∙ ap (sent_all filled) (take-append-le (started old n) old.all.items more (in_old n below)) ∙ so_far.pairs n below filled on
-    ]
-
-  pub next_senders : length more ≤ 1 → All (IsSender page) more → ((filled : Filled) → filled.page.now ≡ page → sent_all filled more ≡ cons_option (pair_now filled number) [])
-      → AreSenders page (number + 1) them
-  next_senders one are sends = record {
-    each = subst (All (IsSender page)) (sym items) (All-append (IsSender page) old.all.items more so_far.each are);
-    few = omega (arith, so_far.few, long, one);
-    whole = last;
-    ordered = in_order;
-    pairs = λ n few filled on. each_start filled on (sends filled on) n few;
-  }
-
-pub no_senders : (page : Tree) (them : PageSenders) → them.all.items ≡ [] → started them 0 ≡ 0 → AreSenders page 0 them
-no_senders page them none first = record {
-  each = subst (All (IsSender page)) (sym none) (All-nil (IsSender page));
-  few = omega (arith, ap length none);
-  whole = first ∙ sym (ap length none);
-  ordered = λ a b up few. let same : a ≡ b = omega (arith, up, few) in omega (arith, ap (started them) same);
-  pairs = λ n few filled on.
-      let zero_is : n ≡ 0 = omega (arith, few) in
-      ap (λ l. sent_all filled (take (started them n) l)) none ∙ ap (sent_all filled) (take_all (started them n) [] (omega arith)) ∙ ap (pairs_now filled 0) (sym zero_is);
-}
-
--- ---- those of one form
-
-module _ (page : Tree) (them : PageSenders) (are : AreSenders page (nodes page) them) (start end : ℕ) (some : start ≤ end) (few : end ≤ nodes page) where
-  abbrev between : List Sender
-  between = take (started them end - started them start) (drop (started them start) them.all.items)
-
-  cut_out : (filled : Filled) → filled.page.now ≡ page → sent_all filled between ≡ pairs_now filled start end
-  cut_out filled on =
-      let a = started them start in
-      let b = started them end in
-      let up : a + (b - a) ≡ b = omega (arith, are.ordered start end some few) in
-      let whole : take b them.all.items ≡ take a them.all.items ++ between = ap (λ n. take n them.all.items) (sym up) ∙ take-add a (b - a) them.all.items in
-      let sent : pairs_now filled 0 end ≡ pairs_now filled 0 start ++ sent_all filled between =
-      sym (are.pairs end few filled on) ∙ ap (sent_all filled) whole ∙ filter_map-append (λ s. pair_now filled s.number) (take a them.all.items) between
-      ∙ ap (λ l. l ++ sent_all filled between) (are.pairs start (omega (arith, some, few)) filled on) in
-      let count : end - 0 ≡ (start - 0) + (end - start) = omega (arith, some) in
-      let here : 0 + (start - 0) ≡ start = omega arith in
-      let numbers : pairs_now filled 0 end ≡ pairs_now filled 0 start ++ pairs_now filled start end =
-      ap (λ n. filter_map (pair_now filled) (range_with_len 0 n)) count ∙ ap (filter_map (pair_now filled)) (range-append 0 (start - 0) (end - start))
-      ∙ filter_map-append (pair_now filled) (range_with_len 0 (start - 0)) (range_with_len (0 + (start - 0)) (end - start))
-      ∙ ap (λ k. pairs_now filled 0 start ++ filter_map (pair_now filled) (range_with_len k (end - start))) here in
-      append_cancel_left (pairs_now filled 0 start) (sent_all filled between) (pairs_now filled start end) (sym sent ∙ numbers)
-
-  pub send_between : (names : List (List ℕ)) (form : ℕ) → All (SaysFresh names) them.all.items
-      → places_under (place_numbered form page) page ≡ map (λ k. place_numbered k page) (range_with_len start (end - start)) → SendUnder names page form between
-  send_between names form marked under = record {
-    each = All-take (IsSender page) (started them end - started them start) (drop (started them start) them.all.items) (All-drop (IsSender page) (started them start) them.all.items are.each);
-    marked = All-take (SaysFresh names) (started them end - started them start) (drop (started them start) them.all.items) (All-drop (SaysFresh names) (started them start) them.all.items marked);
-    pairs = λ filled on within text states held. cut_out filled on ∙ sent_under filled page on form start end within under some few text states held;
-  }
+-- ---- what a form sends
 
 -- what it sends where the page is filled in by deeds
 pub form_sends : (address : List ℕ) (page : Tree) (before : List Deed) (names : List (List ℕ)) (form req : ℕ) (button : Option ℕ) (them : List Sender) (filled : Filled) (fields : Fields) (post : Bool) (action : List ℕ)

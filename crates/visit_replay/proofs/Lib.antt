@@ -27,3 +27,4 @@ pub mod ToldLaws
 pub mod TellLaws
 pub mod BoardLaws
 pub mod FormerLaws
+pub mod NodesKnown

@@ -1,12 +1,14 @@
 //! A page as a visit filled it in, at any point of its trail. It is gone along without memory, which is asked for once, for pages of so many nodes.
-ghost use Rattle.std.specs.Prelude.{ℕ, List, ◌≡◌, ◌<◌, ◌≤◌, true, length, take, IfOk, IfSome, option_map};
+ghost use Rattle.std.specs.Prelude.{ℕ, List, ◌≡◌, ◌<◌, ◌≤◌, true, length, take, IfOk, IfSome, Some, option_map};
 ghost use Rattle.page_tree.specs.Limits.{nodes};
 ghost use Rattle.page_tree.specs.Number.{place_numbered};
 ghost use Rattle.visit_replay.specs.Requests.{link_request};
+ghost use Rattle.visit_replay.specs.declared.deeds.Deed.TheVariants.{Sent};
 ghost use Rattle.visit_replay.specs.declared.told.ToldRequest.TheVariants.{Form};
-ghost use Rattle.visit_replay.specs.inside.Boards.{AreListed, IsWide, IsOn, IsBefore, needs_senders};
-ghost use Rattle.visit_replay.specs.inside.Deeds.{form_asked};
+ghost use Rattle.visit_replay.specs.inside.Boards.{IsWide, IsOn, IsBefore, IsReady};
+ghost use Rattle.visit_replay.specs.inside.Deeds.{IsDeedOn, form_asked};
 ghost use Rattle.visit_replay.specs.inside.OneEvent.{IsWithin};
+ghost use Rattle.visit_replay.specs.inside.Senders.{AreRight};
 ghost use Rattle.visit_replay.specs.inside.Tellings.{told_request, KnowsFresh};
 ghost use Rattle.visit_replay.specs.inside.Trails.{asked_at};
 
@@ -26,7 +28,7 @@ pub(crate) struct Board<'r> {
     nodes: u32,
     pub(crate) names: &'r [Text],
     fields: Fields<'r>,
-    // those of the page, once a form was sent
+    // what is known of the page, once a form was sent
     senders: PageSenders<'r>,
     is_listed: bool,
     at: usize,
@@ -102,31 +104,49 @@ impl<'r> Board<'r> {
         self.at = place;
     }
 
-    // Lists what may send something, if that deed needs it.
+    // Lists what may send something under the form that this deed sends, if any.
     fn prepare(&mut self, page: &'r Page, deed: &Deed)
         requires wide { IsWide self.old }
         requires few { nodes page.now ≤ self.old.nodes }
-        requires listed { self.old.is_listed ≡ true → AreListed page.now self.old }
+        requires on { IsDeedOn page.now deed.now }
+        requires listed { self.old.is_listed ≡ true → AreRight self.old.names.now page.now self.old.senders }
         ensures wide { IsWide self.new }
-        ensures listed { self.new.is_listed ≡ true → AreListed page.now self.new }
-        ensures needed { needs_senders deed.now ≡ true → self.new.is_listed ≡ true }
+        ensures listed { self.new.is_listed ≡ true → AreRight self.new.names.now page.now self.new.senders }
+        ensures ready { IsReady self.new deed.now }
         ensures rest { (self.new.nodes ≡ self.old.nodes) × (self.new.names ≡ self.old.names) × (self.new.at ≡ self.old.at)
             × (self.new.fields ≡ self.old.fields) }
     {
         match deed {
             Deed::Typed { .. } => {}
             Deed::Clicked { .. } => {}
-            Deed::Sent { .. } => self.list(page),
+            Deed::Sent { form, .. } => self.list(page, *form),
         }
     }
 
-    // Lists what may send something on the page, unless that was done.
-    fn list(&mut self, page: &'r Page)
+    // Lists what may send something under that form, unless it was listed last.
+    fn list(&mut self, page: &'r Page, form: u32)
         requires wide { IsWide self.old }
         requires few { nodes page.now ≤ self.old.nodes }
-        requires listed { self.old.is_listed ≡ true → AreListed page.now self.old }
+        requires form { form < nodes page.now }
+        requires listed { self.old.is_listed ≡ true → AreRight self.old.names.now page.now self.old.senders }
         ensures listed { self.new.is_listed ≡ true }
-        ensures senders { AreListed page.now self.new }
+        ensures form { self.new.senders.form ≡ Some form }
+        ensures right { AreRight self.new.names.now page.now self.new.senders }
+        ensures wide { IsWide self.new }
+        ensures rest { (self.new.nodes ≡ self.old.nodes) × (self.new.names ≡ self.old.names) × (self.new.at ≡ self.old.at)
+            × (self.new.fields ≡ self.old.fields) }
+    {
+        self.look_anew(page);
+        self.senders.list(page, form, self.names);
+    }
+
+    // Nothing is known of the page, if no form was sent so far.
+    fn look_anew(&mut self, page: &Page)
+        requires wide { IsWide self.old }
+        requires few { nodes page.now ≤ self.old.nodes }
+        requires listed { self.old.is_listed ≡ true → AreRight self.old.names.now page.now self.old.senders }
+        ensures listed { self.new.is_listed ≡ true }
+        ensures right { AreRight self.new.names.now page.now self.new.senders }
         ensures wide { IsWide self.new }
         ensures rest { (self.new.nodes ≡ self.old.nodes) × (self.new.names ≡ self.old.names) × (self.new.at ≡ self.old.at)
             × (self.new.fields ≡ self.old.fields) }
@@ -134,7 +154,7 @@ impl<'r> Board<'r> {
         if self.is_listed {
             return;
         }
-        self.senders.list(page, self.names);
+        self.senders.forget(page);
         self.is_listed = true;
     }
 
@@ -163,8 +183,7 @@ impl<'r> Board<'r> {
         req: u64,
     ) -> ToldForm<'s>
         requires on { IsOn trail.now.page trail.now.deeds.items self.now }
-        requires listed { self.now.is_listed ≡ true }
-        requires form { form < nodes trail.now.page }
+        requires ready { IsReady self.now (Sent form button req) }
         requires button { IsWithin button trail.now.page }
         ensures told { told_request (Form result)
             ≡ form_asked trail.now.address trail.now.page (take self.now.at trail.now.deeds.items) form button req }
@@ -177,7 +196,7 @@ impl<'r> Board<'r> {
             action: forms::action_of(trail.address.as_str(), page, form),
             pairs: SentPairs {
                 filled: self.filled(page, button),
-                senders: self.senders.under(page, form),
+                senders: self.senders.as_slice(),
             },
         }
     }

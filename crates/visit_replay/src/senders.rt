@@ -8,7 +8,7 @@ ghost use Rattle.page_tree.specs.Started.{text_started};
 ghost use Rattle.page_tree.specs.Number.{place_numbered};
 ghost use Rattle.visit_replay.specs.Form.{sent_name, sent_value, unless_empty, value_or};
 ghost use Rattle.visit_replay.specs.inside.FieldsNow.{is_of_one, pair_now};
-ghost use Rattle.visit_replay.specs.inside.Senders.{SaysFresh, IsSender, SendsThere, SendUnder, sent_all};
+ghost use Rattle.visit_replay.specs.inside.Senders.{SaysFresh, IsSender, IsSenderAt, IsSilent, SendsThere, SendUnder, sent_all};
 ghost use Rattle.visit_replay.specs.declared.forms.Filled.{Filled as PlainFilled};
 
 use crate::conflicts::is_disabled;
@@ -16,7 +16,7 @@ use page_tree::{Control, NoMemory, Page, StartText, Text};
 use std::alloc::Global;
 
 /// One of them: its number, its name, whether that is fresh, and what it sends.
-#[derive(Drop)]
+#[derive(Clone, Copy)]
 pub(crate) struct Sender<'p> {
     pub(crate) number: u32,
     pub(crate) name: &'p str,
@@ -25,7 +25,7 @@ pub(crate) struct Sender<'p> {
 }
 
 /// What a node sends: the text that it holds, or its value, if it is on or was pressed.
-#[derive(Drop)]
+#[derive(Clone, Copy)]
 pub(crate) enum MaySend<'p> {
     Text { start: StartText<'p> },
     IfOn { value: &'p str, starts_on: bool },
@@ -83,9 +83,8 @@ impl<'p> Senders<'p> {
 
 /// The node with that number, if it may send something.
 pub(crate) fn sender_at<'p>(page: &'p Page, number: u32, names: &[Text]) -> Option<Sender<'p>>
-    ensures some { IfSome result
-        (λ sender. (sender.number ≡ number) × IsSender page.now sender × SaysFresh names.now sender) }
-    ensures none { result ≡ None → (filled : PlainFilled) → filled.page.now ≡ page.now → pair_now filled number ≡ None }
+    ensures some { IfSome result (IsSenderAt names.now page.now number) }
+    ensures none { result ≡ None → IsSilent page.now number }
 {
     let name = sent_name(page, number)?;
     let sends = sends_at(page, number)?;

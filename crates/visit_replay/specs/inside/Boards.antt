@@ -1,9 +1,9 @@
 -- A page as the first deeds of a trail filled it in.
-use Rattle.std.specs.Prelude.{ℕ, ◌≡◌, ◌<◌, ◌≤◌, List, take, length, slice_get, All, IfSome, Bool, true, false}
+use Rattle.std.specs.Prelude.{ℕ, ◌≡◌, ◌<◌, ◌≤◌, List, take, length, slice_get, IfSome, Some, true}
 use Rattle.page_tree.specs.Tree.{Tree}
 use Rattle.page_tree.specs.Limits.{nodes}
 use Rattle.visit_replay.specs.inside.KeptFields.{Hold}
-use Rattle.visit_replay.specs.inside.Senders.{AreSenders, HasPlaces, SaysFresh}
+use Rattle.visit_replay.specs.inside.Senders.{AreRight, HasPlaces}
 use Rattle.visit_replay.specs.inside.Deeds.{text_behind, is_on_behind}
 use Rattle.visit_replay.specs.declared.board.Board.{Board}
 use Rattle.visit_replay.specs.declared.deeds.Deed.{Deed}
@@ -16,26 +16,22 @@ pub record IsWide (board : Board) : Type 0 where
   pub turned : board.nodes ≤ length board.fields.turned.items
   pub senders : HasPlaces board.nodes board.senders
 
--- what may send something is listed, and it is known whether its names are fresh
-abbrev pub AreListed : Tree → Board → Type 0
-AreListed page board =
-    AreSenders page (nodes page) board.senders × All (SaysFresh board.names.now) board.senders.all.items
-
 -- how far it has gone along these deeds, what the fields hold there, and what may send something, once that was listed
 pub record IsOn (page : Tree) (deeds : List Deed) (board : Board) : Type 0 where
   pub wide : IsWide board
   pub few : nodes page ≤ board.nodes
   pub within : board.at ≤ length deeds
   pub held : Hold board.fields page (text_behind page (take board.at deeds)) (is_on_behind page (take board.at deeds))
-  pub listed : board.is_listed ≡ true → AreListed page board
+  pub listed : board.is_listed ≡ true → AreRight board.names.now page board.senders
+
+-- what the form sends that this deed sends, if any, is listed
+abbrev pub IsReady : Board → Deed → Type 0
+IsReady board (Sent form button req) = (board.is_listed ≡ true) × (board.senders.form ≡ Some form)
+IsReady board other = Unit {0}
 
 -- it stands before the deed at that place, and what that needs is there
-abbrev pub needs_senders : Deed → Bool
-needs_senders (Sent form button req) = true
-needs_senders other = false
-
 pub record IsBefore (trail : Trail) (place : ℕ) (board : Board) : Type 0 where
   pub on : IsOn trail.page trail.deeds.items board
   pub at : board.at ≡ place
   pub there : place < length trail.deeds.items
-  pub listed : IfSome (slice_get trail.deeds.items place) (λ deed. needs_senders deed ≡ true → board.is_listed ≡ true)
+  pub ready : IfSome (slice_get trail.deeds.items place) (IsReady board)

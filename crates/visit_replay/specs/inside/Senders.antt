@@ -1,21 +1,24 @@
 -- The nodes under a form that may send something, as the code keeps them.
-use Rattle.std.specs.Prelude.{ℕ, ◌≡◌, ◌<◌, ◌≤◌, length, take, get_or, vec_capacity, List, [], ◌++◌, All, Bool, true, Some, IfSome, unwrap_or, codes}
+use Rattle.std.specs.Prelude.{ℕ, ◌≡◌, ◌<◌, ◌≤◌, length, get_or, slice_get, vec_capacity, List, [], ◌++◌, All, Bool, true, Some, None, IfSome, unwrap_or, codes}
 use Rattle.std.specs.BTreeMap.{get}
 use Rattle.std.specs.List.{cons_option, filter_map}
 use Rattle.std.specs.Ordering.{nat_cmp}
 use Rattle.page_tree.specs.Tree.{Tree}
+use Rattle.page_tree.specs.Limits.{nodes}
 use Rattle.page_tree.specs.Control.{control_at, start_text_at, start_checked_at}
 use Rattle.page_tree.specs.Started.{text_started}
 use Rattle.page_tree.specs.Number.{place_numbered}
 use Rattle.page_tree.specs.declared.control.Control.{Control}
 use Rattle.page_tree.specs.declared.control.Control.TheVariants as control
 use Rattle.visit_replay.specs.Form.{Pair, sent_name, value_or}
-use Rattle.visit_replay.specs.inside.FieldsNow.{OfSent, is_of_one, pair_now, pairs_now}
+use Rattle.visit_replay.specs.inside.FieldsNow.{OfSent, is_of_one, pair_now}
 use Rattle.visit_replay.specs.inside.OneEvent.{IsWithin}
 use Rattle.visit_replay.specs.declared.forms.Filled.{Filled}
 use Rattle.visit_replay.specs.declared.known_forms.KnownForms.{KnownForms}
 use Rattle.visit_replay.specs.declared.senders.Sender.{Sender}
 use Rattle.visit_replay.specs.declared.page_senders.PageSenders.{PageSenders}
+use Rattle.visit_replay.specs.declared.page_senders.Known.{Known}
+use Rattle.visit_replay.specs.declared.page_senders.Known.TheVariants.{Nothing, Silent, At}
 use Rattle.visit_replay.specs.declared.senders.MaySend.{MaySend}
 use Rattle.visit_replay.specs.declared.senders.MaySend.TheVariants.{Text, IfOn, Always, IfPressed}
 
@@ -75,18 +78,31 @@ pub record SendUnder (names : List (List ℕ)) (page : Tree) (form : ℕ) (them 
   pub pairs : (filled : Filled) → filled.page.now ≡ page → IsWithin filled.button page
       → OfSent filled form (λ pairs. sent_all filled them ≡ pairs)
 
--- how many of these stand before the node with that number
-abbrev pub started : PageSenders → ℕ → ℕ
-started them number = get_or them.starts.items number 0
+-- the node with that number may send something, and is that one
+abbrev pub IsSenderAt : List (List ℕ) → Tree → ℕ → Sender → Type 0
+IsSenderAt names page number sender = (sender.number ≡ number) × IsSender page sender × SaysFresh names sender
 
--- all of the first so many nodes that may send something, however the page is filled in
-pub record AreSenders (page : Tree) (count : ℕ) (them : PageSenders) : Type 0 where
-  pub each : All (IsSender page) them.all.items
-  pub few : length them.all.items ≤ count
-  pub whole : started them count ≡ length them.all.items
-  pub ordered : (a b : ℕ) → a ≤ b → b ≤ count → started them a ≤ started them b
-  pub pairs : (number : ℕ) → number ≤ count → (filled : Filled) → filled.page.now ≡ page
-      → sent_all filled (take (started them number) them.all.items) ≡ pairs_now filled 0 number
+-- it sends nothing, however the page is filled in
+abbrev pub IsSilent : Tree → ℕ → Type 0
+IsSilent page number = (filled : Filled) → filled.page.now ≡ page → pair_now filled number ≡ None
+
+-- what is known of it is so, where these were found
+abbrev pub IsSoOf : List (List ℕ) → Tree → List Sender → ℕ → Known → Type 0
+IsSoOf names page found number Nothing = Unit {0}
+IsSoOf names page found number Silent = IsSilent page number
+IsSoOf names page found number (At place) =
+    (place < length found) × IfSome (slice_get found place) (IsSenderAt names page number)
+
+-- what is known of each node is so
+abbrev pub KnowsNodes : List (List ℕ) → Tree → PageSenders → Type 0
+KnowsNodes names page them =
+    (number : ℕ) → number < nodes page
+    → IsSoOf names page them.found.items number (get_or them.known.items number Nothing)
+
+-- and those under the form that was listed last are listed
+pub record AreRight (names : List (List ℕ)) (page : Tree) (them : PageSenders) : Type 0 where
+  pub known : KnowsNodes names page them
+  pub under : IfSome them.form (λ form. SendUnder names page form them.all.items)
 
 -- the node with that number stands behind the others, if it may send something
 pub record AddsNode (names : List (List ℕ)) (page : Tree) (number : ℕ) (old new : List Sender) : Type 0 where
@@ -101,7 +117,7 @@ pub record AddsNode (names : List (List ℕ)) (page : Tree) (number : ℕ) (old 
 -- there is room for those of a page of so many nodes
 pub record HasPlaces (count : ℕ) (them : PageSenders) : Type 0 where
   pub all : count ≤ vec_capacity them.all
-  pub starts : count < length them.starts.items
+  pub known : count ≤ length them.known.items
 
 abbrev pub KnowsForms : Tree → KnownForms → Type 0
 KnowsForms page known =

@@ -1,26 +1,29 @@
-use Rattle.std.proofs.Common.{◌≡◌, ◌+◌, ◌<◌, All, length, get_or, set, subst, sym, ap, ◌∙◌, arith}
-use Rattle.std.proofs.lemmas.List.{get_or-set_same, get_or-set_other}
-use Rattle.std.proofs.lemmas.List.Elements.{All-append}
-use Rattle.visit_replay.specs.inside.Senders.{SaysFresh}
-use Rattle.visit_replay.proofs.BoardLaws.{next_senders}
+use Rattle.std.proofs.Common.{◌∷◌, ◌++◌, [], append-nil, refl, sym, ap, ◌∙◌, arith}
+use Rattle.std.specs.List.{cons_option}
+use Rattle.std.proofs.lemmas.List.Elements.{All-cons, All-nil}
+use Rattle.visit_replay.specs.inside.FieldsNow.{pair_now}
+use Rattle.visit_replay.specs.inside.Senders.{IsSender, SaysFresh}
 use Rattle.visit_replay.proofs.page_senders.PageSenders.take_in.Goals as goal
 
-pub returns-clause-them : goal.returns-clause-them
-returns-clause-them c =
-    let next = c.add.ensures.next in
-    let number = c.args.number in
-    let starts = c.add.new.self.starts in
-    let same = c.add.ensures.rest.0 in
-    let within : number + 1 < length starts.items = omega (arith, c.requires.there, c.requires.room.starts, ap (λ v. length v.items) same) in
-    let all = c.add.new.self.all in
-    let whole : c.len.result ≡ length all.items = omega (arith, c.len.ensures, all.ok.0) in
-    let last : get_or (set starts.items (number + 1) c.len.result) (number + 1) 0 ≡ length all.items =
-    get_or-set_same starts.items (number + 1) c.len.result 0 within ∙ whole in
-    next_senders c.args.page.now number c.args.self.now _ next.more c.requires.so_far next.items
-    (λ n few. get_or-set_other starts.items (number + 1) n c.len.result 0 (λ e. omega (arith, few, e)) ∙ ap (λ v. get_or v.items n 0) same)
-    last next.one next.each next.sends
+pub returns-in-Some-clause-next : goal.returns-in-Some-clause-next
+returns-in-Some-clause-next c =
+    let sender = c.in-Some.sender in
+    let some = c.in-Some.ensures.some in
+    record {
+      more = sender ∷ [];
+      items = c.push_reserved.ensures.items ∙ ap (λ v. v.items ++ sender ∷ []) c.sender_of.ensures.all;
+      one = omega arith;
+      each = All-cons (IsSender c.args.page.now) sender [] some.1 (All-nil (IsSender c.args.page.now));
+      marked = All-cons (SaysFresh c.args.names.now) sender [] some.2 (All-nil (SaysFresh c.args.names.now));
+      sends = λ filled on. ap (λ n. cons_option (pair_now filled n) []) some.0;
+    }
 
-pub returns-clause-marked : goal.returns-clause-marked
-returns-clause-marked c = λ marked.
-    let next = c.add.ensures.next in
-    subst (All (SaysFresh c.args.names.now)) (sym next.items) (All-append (SaysFresh c.args.names.now) c.args.self.now.all.items next.more marked next.marked)
+pub returns-in-None-clause-next : goal.returns-in-None-clause-next
+returns-in-None-clause-next c = record {
+  more = [];
+  items = ap (λ v. v.items) c.sender_of.ensures.all ∙ sym (append-nil c.args.self.now.all.items);
+  one = omega arith;
+  each = All-nil (IsSender c.args.page.now);
+  marked = All-nil (SaysFresh c.args.names.now);
+  sends = λ filled on. sym (ap (λ o. cons_option o []) (c.in-None.ensures.none refl filled on));
+}
