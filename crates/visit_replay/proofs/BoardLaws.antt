@@ -1,33 +1,23 @@
 -- A page as the first deeds of a trail filled it in, and what its forms send there.
-use Rattle.std.proofs.Common.{◌≡◌, ℕ, ◌+◌, ◌-◌, ◌<◌, ◌≤◌, Bool, List, [], ◌∷◌, ◌++◌, fold, unwrap_or, length, take, drop, get_or, All, Option, Some, option_and_then, map, inl, inr, refl, sym, ◌∙◌, ap, subst, arith, length-append, take_all}
-use Rattle.std.specs.List.{cons_option, filter_map, range_with_len}
+use Rattle.std.proofs.Common.{◌≡◌, ℕ, ◌+◌, ◌-◌, ◌<◌, ◌≤◌, Bool, List, [], ◌∷◌, ◌++◌, fold, unwrap_or, length, take, drop, get_or, Option, Some, option_and_then, refl, sym, ◌∙◌, ap, subst, arith}
 use Rattle.std.proofs.Math.Seq.{take-add}
-use Rattle.std.proofs.lemmas.Bool.Decides.{eqb_tells}
-use Rattle.std.proofs.lemmas.List.{append_cancel_left, take-append-le}
 use Rattle.std.proofs.lemmas.Option.{slice_get-get_or}
 use Rattle.std.proofs.lemmas.List.Sums.{fold-append}
-use Rattle.std.proofs.lemmas.List.Elements.{All-append, All-nil, All-take, All-drop, filter_map-append}
 use Rattle.page_tree.specs.Tree.{Tree}
-use Rattle.page_tree.specs.Limits.{nodes}
 use Rattle.page_tree.specs.Control.{start_text_at, start_checked_at}
 use Rattle.page_tree.specs.Number.{place_numbered}
-use Rattle.page_tree.specs.Under.{places_under}
-use Rattle.page_tree.proofs.Numbers.{range-append}
 use Rattle.form_urlencoded.specs.Form.{extend_pairs}
 use Rattle.visit_replay.specs.Form.{action_of, is_post, pairs_held, sent_to}
 use Rattle.visit_replay.specs.inside.OneEvent.{IsWithin, places_numbered}
 use Rattle.visit_replay.specs.inside.Deeds.{deed_request, form_asked, text_done, text_behind, is_on_done, is_on_behind}
-use Rattle.visit_replay.specs.inside.FieldsNow.{pair_now, pairs_now}
 use Rattle.visit_replay.specs.inside.KeptFields.{Hold}
 use Rattle.visit_replay.specs.inside.Senders.{SendUnder, sent_all}
 use Rattle.visit_replay.specs.inside.Trails.{asked_at}
 use Rattle.visit_replay.specs.declared.deeds.Deed.{Deed}
 use Rattle.visit_replay.specs.declared.fields.Fields.{Fields}
 use Rattle.visit_replay.specs.declared.forms.Filled.{Filled}
-use Rattle.visit_replay.specs.declared.page_senders.PageSenders.{PageSenders}
 use Rattle.visit_replay.specs.declared.senders.Sender.{Sender}
 use Rattle.visit_replay.specs.declared.trail.Trail.{Trail}
-use Rattle.visit_replay.proofs.OneSenderMore.{numbered_more, sent_under}
 use Rattle.visit_replay.proofs.Overlay.{same_hold}
 use Rattle.visit_replay.proofs.Places.{taken_here}
 

@@ -1,5 +1,5 @@
 -- What a form sends by the numbers of nodes is what it sends by their places.
-use Rattle.std.proofs.Common.{◌≡◌, ℕ, zero, suc, ◌+◌, ◌-◌, ◌<◌, ◌≤◌, ◌==◌, List, map, Bool, false, cond, [], Option, Some, None, option_map, option_and_then, codes, refl, ap, sym, ◌∙◌, arith}
+use Rattle.std.proofs.Common.{◌≡◌, ℕ, zero, suc, ◌+◌, ◌-◌, ◌<◌, ◌≤◌, ◌==◌, List, map, Bool, false, cond, Option, Some, None, option_map, option_and_then, codes, refl, ap, sym, ◌∙◌, arith}
 use Rattle.std.specs.List.{cons_option, filter_map, range_with_len}
 use Rattle.std.specs.Option.{option_map_or, IfSome}
 use Rattle.page_tree.specs.Tree.{Tree}

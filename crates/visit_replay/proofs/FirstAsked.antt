@@ -1,8 +1,8 @@
 -- The first deed of a trail that asked for something with a number.
-use Rattle.std.proofs.Common.{◌≡◌, ◌≢◌, ℕ, zero, suc, ◌+◌, ◌<◌, ◌≤◌, ◌==◌, ◌&&◌, List, [], ◌∷◌, ◌++◌, length, take, get_or, slice_get, Bool, true, false, cond, not, if◌then◌else◌, is_some, Option, Some, None, IfSome, option_map, option_and_then, inl, inr, ⊎_elim, codes, refl, sym, ap, subst, ◌∙◌, arith}
+use Rattle.std.proofs.Common.{◌≡◌, ◌≢◌, ℕ, zero, suc, ◌+◌, ◌<◌, ◌≤◌, ◌==◌, ◌&&◌, List, [], ◌∷◌, length, take, get_or, Bool, true, false, cond, not, if◌then◌else◌, is_some, Option, Some, None, IfSome, option_map, option_and_then, inl, inr, ⊎_elim, codes, refl, sym, ap, subst, ◌∙◌, arith}
 use Rattle.std.specs.BTreeMap.{BTreeMap, get}
 use Rattle.std.specs.List.{find, filter_map, range_with_len, cons_option}
-use Rattle.std.specs.Option.{option_or, option_map_or}
+use Rattle.std.specs.Option.{option_or}
 use Rattle.std.specs.Ordering.{nat_cmp}
 use Rattle.std.proofs.lemmas.Bool.{ne_eqb, cases_lt}
 use Rattle.std.proofs.lemmas.Bool.Decides.{eqb_tells}
@@ -13,7 +13,6 @@ use Rattle.page_tree.specs.Look.{attribute_at}
 use Rattle.page_tree.specs.Number.{place_numbered}
 use Rattle.visit_replay.specs.Difference.{are_alike}
 use Rattle.visit_replay.specs.Moved.{requests_of, address_now}
-use Rattle.visit_replay.specs.Form.{is_post, action_of}
 use Rattle.visit_replay.specs.Requests.{load_request, link_request}
 use Rattle.visit_replay.specs.inside.Deeds.{deed_number, deed_request, form_asked, requests_on}
 use Rattle.visit_replay.specs.inside.Differing.{asked_as, other_by}

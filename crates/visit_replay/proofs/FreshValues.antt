@@ -1,5 +1,5 @@
 -- Where the values of fresh names are left out, what counts of a request stays.
-use Rattle.std.proofs.Common.{◌≡◌, ◌≢◌, ℕ, ◌<◌, ◌==◌, List, [], ◌∷◌, ◌++◌, map, filter, drop, not, Bool, true, false, cond, ◌||◌, ◌&&◌, if◌then◌else◌, All, Option, Some, None, option_map, unwrap_or, is_some, ◌+◌, IsUtf8, codes, refl, sym, ap, ap₂, ◌∙◌, subst, ⊎_elim, append_assoc, append-nil, one-add, arith}
+use Rattle.std.proofs.Common.{◌≡◌, ◌≢◌, ℕ, ◌<◌, ◌==◌, List, [], ◌∷◌, ◌++◌, map, filter, drop, not, Bool, true, false, cond, ◌||◌, ◌&&◌, if◌then◌else◌, All, ◌+◌, IsUtf8, codes, refl, sym, ap, ap₂, ◌∙◌, subst, ⊎_elim, append_assoc, append-nil, one-add, arith}
 use Rattle.std.specs.List.{before_first, list_any, position_or_len, slice_split}
 use Rattle.std.specs.Str.{bytes_eq}
 use Rattle.std.specs.Str.Lossy.{utf8_lossy}

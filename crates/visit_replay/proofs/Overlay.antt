@@ -14,7 +14,7 @@ use Rattle.upload_reader.specs.declared.message.Event.TheVariants.{Input, Click,
 use Rattle.xpath_child.specs.Path.{Step}
 use Rattle.visit_replay.specs.Aim.{Aim, place_of_aim}
 use Rattle.visit_replay.specs.Field.{is_there, text_by, text_after, is_on_by, is_on_after, value_before, is_on_before}
-use Rattle.visit_replay.specs.inside.KeptFields.{HasRoom, Hold, Keeps, TakesIn, text_now, turned_now, is_on_now}
+use Rattle.visit_replay.specs.inside.KeptFields.{HasRoom, Hold, Keeps, TakesIn, turned_now, is_on_now}
 use Rattle.visit_replay.specs.inside.Deeds.{text_behind, is_on_behind}
 use Rattle.visit_replay.specs.inside.OneEvent.{IsNodeOf}
 use Rattle.visit_replay.specs.declared.fields.Fields.{Fields}

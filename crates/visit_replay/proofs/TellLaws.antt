@@ -1,5 +1,5 @@
 -- Requests that are told one after another along a trail.
-use Rattle.std.proofs.Common.{◌≡◌, ℕ, ◌+◌, ◌-◌, ◌<◌, ◌≤◌, List, [], ◌∷◌, length, is_some, true, false, Option, Some, None, IsSome, IfSome, unwrap_or, refl, sym, ap, subst, ◌∙◌, arith}
+use Rattle.std.proofs.Common.{◌≡◌, ℕ, ◌+◌, ◌<◌, List, [], ◌∷◌, length, is_some, true, Option, Some, None, IfSome, unwrap_or, refl, sym, ap, subst, ◌∙◌}
 use Rattle.std.specs.List.{cons_option}
 use Rattle.std.proofs.lemmas.Bool.{false≢true}
 use Rattle.std.specs.Borrow.{Bor}
@@ -8,14 +8,14 @@ use Rattle.std.proofs.lemmas.List.Elements.{All-tail}
 use Rattle.visit_replay.specs.Requests.{load_request}
 use Rattle.visit_replay.specs.inside.Boards.{IsBefore, IsOn}
 use Rattle.visit_replay.specs.inside.Marks.{AreMarks}
-use Rattle.visit_replay.specs.inside.Told.{stage_told, last_asked}
+use Rattle.visit_replay.specs.inside.Told.{stage_told}
 use Rattle.visit_replay.specs.declared.board.Board.{Board}
 use Rattle.visit_replay.specs.declared.stage.Stage.{Stage}
 use Rattle.visit_replay.specs.declared.stage.Stage.TheVariants.{Before, AtLoad}
 use Rattle.visit_replay.specs.inside.Trails.{asked_at, asked_from}
 use Rattle.visit_replay.specs.declared.requests.Request.{Request}
 use Rattle.visit_replay.specs.declared.trail.Trail.{Trail}
-use Rattle.visit_replay.proofs.TrailLaws.{asked_step, asked_past}
+use Rattle.visit_replay.proofs.TrailLaws.{asked_step}
 
 -- the next one is there
 pub told_next : (trail : Trail) (from place : ℕ) → asked_from trail from ≡ asked_from trail place → place < length trail.deeds.items → is_some (asked_at trail place) ≡ true

@@ -14,7 +14,6 @@ use Rattle.visit_replay.specs.inside.Tellings.{counted_told, pairs_told, told_co
 use Rattle.visit_replay.specs.declared.told.ToldForm.{ToldForm}
 use Rattle.visit_replay.specs.declared.told.ToldRequest.{ToldRequest}
 use Rattle.visit_replay.specs.declared.told.ToldRequest.TheVariants.{Form}
-use Rattle.visit_replay.specs.declared.forms.Filled.{Filled}
 use Rattle.visit_replay.specs.declared.senders.Sender.{Sender}
 use Rattle.visit_replay.specs.declared.sent_pairs.SentPairs.{SentPairs}
 use Rattle.visit_replay.proofs.OneSenderMore.{sent_from, told_here}

@@ -1,7 +1,6 @@
 -- A trail that takes in one event more.
 use Rattle.std.proofs.Common.{◌≡◌, ℕ, zero, suc, ◌+◌, ◌-◌, ◌<◌, ◌≤◌, ◌==◌, List, [], ◌∷◌, ◌++◌, length, take, drop, get_or, slice_get, Bool, true, false, not, if◌then◌else◌, Option, Some, None, is_some, unwrap_or, option_and_then, refl, sym, ◌∙◌, ap, ap₂, append_assoc, append-nil, length-append, ⊎_elim, arith}
 use Rattle.std.specs.List.{cons_option, filter_map, range_with_len}
-use Rattle.std.specs.Str.{bytes_eq}
 use Rattle.std.proofs.lemmas.Bool.{cases_lt}
 use Rattle.std.proofs.lemmas.List.Sums.{fold-append}
 use Rattle.std.proofs.Math.ListN.{drop_of_length-le}
@@ -14,7 +13,7 @@ use Rattle.upload_reader.specs.declared.message.Event.{Event}
 use Rattle.upload_reader.specs.declared.message.Event.TheVariants.{Input, Click, Submit}
 use Rattle.client_log.specs.declared.visit.Visit.{Visit}
 use Rattle.visit_replay.specs.Aim.{Aim, acts, place_of_aim, button_of_aim}
-use Rattle.visit_replay.specs.Field.{is_there, text_by, text_after, is_on_by, is_on_after, value_before, is_on_before}
+use Rattle.visit_replay.specs.Field.{is_there, text_after, is_on_after, value_before, is_on_before}
 use Rattle.visit_replay.specs.Form.{sent_to, sent_pair, is_post, action_of, pairs_held}
 use Rattle.visit_replay.specs.Requests.{load_request, request_at, event_request, requests_before}
 use Rattle.visit_replay.specs.inside.Deeds.{deed_of, text_done, text_behind, is_on_done, is_on_behind, deed_request, requests_from, requests_on}
@@ -22,7 +21,6 @@ use Rattle.visit_replay.specs.inside.OneEvent.{places_numbered}
 use Rattle.visit_replay.specs.inside.Told.{last_asked}
 use Rattle.visit_replay.specs.inside.Trails.{IsTrailOf, asked_at, asked_from}
 use Rattle.visit_replay.specs.declared.deeds.Deed.{Deed}
-use Rattle.visit_replay.specs.declared.requests.Request.{Request}
 use Rattle.visit_replay.specs.declared.trail.Trail.{Trail}
 use Rattle.visit_replay.proofs.Overlay.{value_nowhere, on_nowhere}
 use Rattle.visit_replay.proofs.Places.{taken_here, take_suc, last_at, some_there, some_same, none_is_some}

@@ -5,7 +5,7 @@ ghost use Rattle.page_tree.specs.Number.{place_numbered};
 ghost use Rattle.visit_replay.specs.Requests.{link_request};
 ghost use Rattle.visit_replay.specs.declared.deeds.Deed.TheVariants.{Sent};
 ghost use Rattle.visit_replay.specs.declared.told.ToldRequest.TheVariants.{Form};
-ghost use Rattle.visit_replay.specs.inside.Boards.{IsWide, IsOn, IsBefore, IsReady};
+ghost use Rattle.visit_replay.specs.inside.Boards.{IsWide, IsOn, IsBefore, IsListedFor};
 ghost use Rattle.visit_replay.specs.inside.Deeds.{IsDeedOn, form_asked};
 ghost use Rattle.visit_replay.specs.inside.OneEvent.{IsWithin};
 ghost use Rattle.visit_replay.specs.inside.Senders.{AreRight};
@@ -112,7 +112,7 @@ impl<'r> Board<'r> {
         requires listed { self.old.is_listed ≡ true → AreRight self.old.names.now page.now self.old.senders }
         ensures wide { IsWide self.new }
         ensures listed { self.new.is_listed ≡ true → AreRight self.new.names.now page.now self.new.senders }
-        ensures ready { IsReady self.new deed.now }
+        ensures ready { IsListedFor self.new deed.now }
         ensures rest { (self.new.nodes ≡ self.old.nodes) × (self.new.names ≡ self.old.names) × (self.new.at ≡ self.old.at)
             × (self.new.fields ≡ self.old.fields) }
     {
@@ -183,7 +183,7 @@ impl<'r> Board<'r> {
         req: u64,
     ) -> ToldForm<'s>
         requires on { IsOn trail.now.page trail.now.deeds.items self.now }
-        requires ready { IsReady self.now (Sent form button req) }
+        requires ready { IsListedFor self.now (Sent form button req) }
         requires button { IsWithin button trail.now.page }
         ensures told { told_request (Form result)
             ≡ form_asked trail.now.address trail.now.page (take self.now.at trail.now.deeds.items) form button req }

@@ -25,13 +25,13 @@ pub record IsOn (page : Tree) (deeds : List Deed) (board : Board) : Type 0 where
   pub listed : board.is_listed ≡ true → AreRight board.names.now page board.senders
 
 -- what the form sends that this deed sends, if any, is listed
-abbrev pub IsReady : Board → Deed → Type 0
-IsReady board (Sent form button req) = (board.is_listed ≡ true) × (board.senders.form ≡ Some form)
-IsReady board other = Unit {0}
+abbrev pub IsListedFor : Board → Deed → Type 0
+IsListedFor board (Sent form button req) = (board.is_listed ≡ true) × (board.senders.form ≡ Some form)
+IsListedFor board other = Unit {0}
 
 -- it stands before the deed at that place, and what that needs is there
 pub record IsBefore (trail : Trail) (place : ℕ) (board : Board) : Type 0 where
   pub on : IsOn trail.page trail.deeds.items board
   pub at : board.at ≡ place
   pub there : place < length trail.deeds.items
-  pub ready : IfSome (slice_get trail.deeds.items place) (IsReady board)
+  pub ready : IfSome (slice_get trail.deeds.items place) (IsListedFor board)

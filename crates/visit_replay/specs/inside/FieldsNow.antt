@@ -1,6 +1,6 @@
 -- What a form sends, by the fields as they are kept and without the events that changed them. Nodes go by their
 -- numbers.
-use Rattle.std.specs.Prelude.{◌≡◌, ℕ, ◌-◌, List, [], ◌∷◌, ◌++◌, Bool, true, false, ◌==◌, if◌then◌else◌, Option, Some, None, option_map, codes, filter, not}
+use Rattle.std.specs.Prelude.{◌≡◌, ℕ, ◌-◌, List, [], ◌∷◌, Bool, false, ◌==◌, if◌then◌else◌, Option, Some, None, filter, not}
 use Rattle.std.specs.List.{filter_map, flat_map, range_with_len}
 use Rattle.std.specs.Option.{option_map_or}
 use Rattle.page_tree.specs.Number.{place_numbered}
@@ -16,7 +16,6 @@ use Rattle.visit_replay.specs.Moved.{are_apart}
 use Rattle.visit_replay.specs.Requests.{request_at}
 use Rattle.visit_replay.specs.inside.KeptFields.{Keeps, Hold, text_now, is_on_now}
 use Rattle.visit_replay.specs.inside.OneEvent.{places_numbered}
-use Rattle.visit_replay.specs.declared.requests.Request.{Request}
 use Rattle.visit_replay.specs.declared.forms.Filled.{Filled}
 use Rattle.visit_replay.specs.declared.forms.SentPair.{SentPair}
 use Rattle.visit_replay.specs.declared.forms.SentValue.{SentValue}

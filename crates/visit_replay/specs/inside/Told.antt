@@ -1,7 +1,7 @@
 -- How far requests were told: which one is told now, and which are still to be told.
-use Rattle.std.specs.Prelude.{ℕ, ◌≡◌, ◌+◌, ◌-◌, ◌<◌, List, [], length, drop, map, Option, Some, None, IsSome, IfSome, unwrap_or, option_and_then}
+use Rattle.std.specs.Prelude.{ℕ, ◌+◌, ◌-◌, List, length, Option, Some, None, option_and_then}
 use Rattle.visit_replay.specs.Requests.{load_request}
-use Rattle.visit_replay.specs.inside.Boards.{IsWide, IsOn, IsBefore}
+use Rattle.visit_replay.specs.inside.Boards.{IsOn, IsBefore}
 use Rattle.visit_replay.specs.inside.Deeds.{requests_on}
 use Rattle.visit_replay.specs.inside.Trails.{asked_at, asked_from}
 use Rattle.visit_replay.specs.declared.board.Board.{Board}

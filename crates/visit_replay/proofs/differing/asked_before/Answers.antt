@@ -1,10 +1,9 @@
-use Rattle.std.proofs.Common.{◌≡◌, ◌<◌, ◌≤◌, length, slice_get, Some, None, IfSome, subst, refl, ap, sym, ◌∙◌, arith}
+use Rattle.std.proofs.Common.{◌≡◌, ◌<◌, length, slice_get, Some, None, subst, sym, ◌∙◌, arith}
 use Rattle.page_tree.specs.Limits.{nodes}
-use Rattle.upload_reader.specs.Session.{request_of}
 use Rattle.visit_replay.specs.Aim.{by_path}
 use Rattle.visit_replay.specs.inside.Differing.{IsTargetOf}
 use Rattle.visit_replay.specs.inside.OneEvent.{IsWithin}
-use Rattle.visit_replay.proofs.Asking.{aims_there, asked_nothing, asked_where, none_asked, stands_in}
+use Rattle.visit_replay.proofs.Asking.{aims_there, asked_nothing, asked_where, stands_in}
 use Rattle.visit_replay.proofs.TrailLaws.{last_made}
 use Rattle.visit_replay.proofs.differing.asked_before.Goals as goal
 

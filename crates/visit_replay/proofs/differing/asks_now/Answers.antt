@@ -1,13 +1,12 @@
-use Rattle.std.proofs.Common.{◌≡◌, ◌<◌, ◌≤◌, length, slice_get, subst, sym, ap, ◌∙◌, take, Some, None, refl, arith}
+use Rattle.std.proofs.Common.{◌≡◌, ◌<◌, length, slice_get, subst, sym, ap, ◌∙◌, Some, arith}
 use Rattle.page_tree.specs.Limits.{nodes}
-use Rattle.upload_reader.specs.Session.{request_of}
 use Rattle.visit_replay.specs.Aim.{by_element, aim_of, place_of_aim}
 use Rattle.visit_replay.specs.Difference.{asks_now, passing_over}
 use Rattle.visit_replay.specs.inside.Differing.{KnowsInputs}
 use Rattle.visit_replay.specs.inside.OneEvent.{AimsAt, IsWithin}
 use Rattle.visit_replay.specs.inside.Trails.{IsTrailOf}
 use Rattle.visit_replay.specs.declared.conflicts.Located.TheVariants.{Bad, Idle, At}
-use Rattle.visit_replay.proofs.Asking.{asks_nothing, asks_nowhere, asks_where, beside_looks, stands_in}
+use Rattle.visit_replay.proofs.Asking.{asks_nowhere, asks_where, beside_looks, stands_in}
 use Rattle.visit_replay.proofs.TrailLaws.{last_made}
 use Rattle.visit_replay.proofs.differing.asks_now.Goals as goal
 

@@ -1,7 +1,5 @@
-use Rattle.std.proofs.Common.{◌≡◌, ℕ, ◌≤◌, ◌∷◌, length, map, slice_get, Some, IfSome, subst, sym, ap, ◌∙◌}
+use Rattle.std.proofs.Common.{◌≡◌, ℕ, ◌≤◌, length, map, slice_get, Some, IfSome, subst, ◌∙◌}
 use Rattle.upload_reader.specs.Session.{request_of}
-use Rattle.visit_replay.specs.Difference.{was_other}
-use Rattle.visit_replay.specs.inside.Marks.{AreMarks}
 use Rattle.visit_replay.specs.inside.Told.{told_marked}
 use Rattle.visit_replay.specs.inside.Trails.{asked_from}
 use Rattle.visit_replay.proofs.FormerLaws.{all_other}

@@ -1,4 +1,4 @@
-use Rattle.std.proofs.Common.{◌≡◌, ◌<◌, [], ◌∷◌, Option, None, Some, All, length, take, take_all, get_or, is_some, false, refl, sym, ◌∙◌, subst, arith}
+use Rattle.std.proofs.Common.{◌≡◌, ◌<◌, [], ◌∷◌, None, All, length, take, take_all, get_or, sym, ◌∙◌, subst, arith}
 use Rattle.std.proofs.lemmas.List.Elements.{All-append, All-cons, All-nil}
 use Rattle.visit_replay.proofs.Places.{taken_here, read_here}
 use Rattle.visit_replay.proofs.ToldLaws.{is_none}

@@ -1,6 +1,5 @@
-use Rattle.std.proofs.Common.{◌≡◌, true, false, if◌then◌else◌, Some, None, option_and_then, ap, subst, sym, refl, ◌∙◌}
+use Rattle.std.proofs.Common.{◌≡◌, true, false, if◌then◌else◌, Some, None, ap, subst, sym, refl, ◌∙◌}
 use Rattle.visit_replay.specs.Difference.{are_alike}
-use Rattle.visit_replay.specs.inside.Differing.{other_by}
 use Rattle.visit_replay.specs.inside.FirstDeeds.{first_asked}
 use Rattle.visit_replay.specs.inside.Tellings.{told_request}
 use Rattle.visit_replay.specs.inside.Trails.{asked_at}

@@ -1,4 +1,4 @@
-use Rattle.std.proofs.Common.{◌≡◌, ◌+◌, ◌<◌, length, is_some, true, false, sym, ap, ◌∙◌, subst, arith}
+use Rattle.std.proofs.Common.{◌≡◌, ◌+◌, ◌<◌, length, is_some, true, false, sym, ◌∙◌, subst, arith}
 use Rattle.visit_replay.specs.inside.Trails.{asked_at}
 use Rattle.visit_replay.proofs.FirstAsked.{HasFirstOf, first_more, first_stays}
 use Rattle.visit_replay.proofs.first_deeds.first_by_number.Goals.{then-asks+in_ok-put_first, else-asks}

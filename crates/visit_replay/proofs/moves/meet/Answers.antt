@@ -1,9 +1,8 @@
-use Rattle.std.proofs.Common.{◌≡◌, ◌≢◌, ℕ, ◌==◌, ◌∙◌, if◌then◌else◌, get_or, Bool, true, false, Some, None, option_map, ap, sym, rules}
+use Rattle.std.proofs.Common.{◌≡◌, ℕ, ◌==◌, ◌∙◌, if◌then◌else◌, false, Some, None, option_map, ap, sym, rules}
 use Rattle.std.specs.BTreeMap.{get}
 use Rattle.std.specs.Ordering.{nat_cmp}
-use Rattle.visit_replay.specs.Moved.{are_apart, own_request, address_now}
+use Rattle.visit_replay.specs.Moved.{are_apart, own_request}
 use Rattle.visit_replay.specs.inside.Differing.{asked_as}
-use Rattle.visit_replay.specs.inside.Moves.{is_pending}
 use Rattle.visit_replay.proofs.FirstAsked.{address_is}
 use Rattle.visit_replay.proofs.Looking.{met_one, none_apart, same_keys}
 use Rattle.visit_replay.proofs.moves.meet.Goals as goal

@@ -1,4 +1,4 @@
-use Rattle.std.proofs.Common.{◌≡◌, Some, None, option_map, option_and_then, refl, ap, sym, ◌∙◌}
+use Rattle.std.proofs.Common.{◌≡◌, Some, None, refl, ap, ◌∙◌}
 use Rattle.visit_replay.specs.inside.FirstDeeds.{first_asked}
 use Rattle.visit_replay.specs.inside.Tellings.{told_request}
 use Rattle.visit_replay.specs.inside.Trails.{asked_at}

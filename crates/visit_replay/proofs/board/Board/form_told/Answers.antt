@@ -1,4 +1,4 @@
-use Rattle.std.proofs.Common.{IfSome, All, take, subst, sym, ap, ◌∙◌, arith}
+use Rattle.std.proofs.Common.{IfSome, All, take, subst, sym, ap, ◌∙◌}
 use Rattle.page_tree.specs.Number.{place_numbered}
 use Rattle.visit_replay.specs.Form.{action_of}
 use Rattle.visit_replay.specs.inside.Senders.{IsSender, SaysFresh, SendUnder}

@@ -1,6 +1,6 @@
 use Rattle.std.proofs.Common.{◌≡◌, Some, take, slice_get, IfSome, subst, sym, ap, ◌∙◌, arith}
 use Rattle.std.proofs.lemmas.Option.{slice_get-get_or}
-use Rattle.visit_replay.specs.inside.Boards.{IsReady}
+use Rattle.visit_replay.specs.inside.Boards.{IsListedFor}
 use Rattle.visit_replay.specs.inside.Deeds.{text_behind, is_on_behind}
 use Rattle.visit_replay.specs.inside.KeptFields.{Hold}
 use Rattle.visit_replay.proofs.board.Board.go_to.Goals as goal
@@ -26,5 +26,5 @@ returns-clause-before c =
       };
       at = rest.2 ∙ c.advance.ensures.at;
       there = c.requires.there;
-      ready = subst (λ o. IfSome o (IsReady new)) (sym here) c.prepare.ensures.ready;
+      ready = subst (λ o. IfSome o (IsListedFor new)) (sym here) c.prepare.ensures.ready;
     }

@@ -1,4 +1,4 @@
-use Rattle.std.proofs.Common.{not, if◌then◌else◌, subst, sym}
+use Rattle.std.proofs.Common.{if◌then◌else◌, subst, sym}
 use Rattle.std.specs.Str.{bytes_eq}
 use Rattle.page_tree.specs.Number.{place_numbered}
 use Rattle.visit_replay.specs.inside.Deeds.{IsDeedOn, text_done, is_on_done}

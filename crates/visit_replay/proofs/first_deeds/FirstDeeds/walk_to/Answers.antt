@@ -1,4 +1,4 @@
-use Rattle.std.proofs.Common.{◌≡◌, ◌<◌, ◌≤◌, arith, sym, ◌∙◌}
+use Rattle.std.proofs.Common.{◌≡◌, ◌≤◌, arith, sym, ◌∙◌}
 use Rattle.visit_replay.specs.inside.Deeds.{deed_number}
 use Rattle.visit_replay.proofs.FirstAsked.{found_here, passed_more}
 use Rattle.visit_replay.proofs.first_deeds.FirstDeeds.walk_to.Goals as goal

@@ -1,4 +1,4 @@
-use Rattle.std.proofs.Common.{ℕ, ◌≡◌, ◌<◌, None, length, get_or}
+use Rattle.std.proofs.Common.{ℕ, ◌≡◌, ◌<◌, None, get_or}
 use Rattle.visit_replay.specs.inside.Senders.{HasPlaces}
 use Rattle.visit_replay.specs.declared.page_senders.Known.TheVariants.{Nothing}
 use Rattle.visit_replay.proofs.page_senders.PageSenders.forget.Given as goal
