@@ -1,6 +1,6 @@
 //! The lanes of a round are dealt to a few threads. Each takes its lanes one behind another, and records what it reads: what is read of a file is at hand, so
 //! nothing is gained by another thread that records it; and on one processor nothing by a thread beside the one that calls.
-ghost use Rattle.std.specs.Prelude.{◌≡◌, ◌≤◌, [], length, map, IfOk};
+ghost use Rattle.std.specs.Prelude.{◌≡◌, ◌≤◌, [], false, length, map, IfOk};
 ghost use Rattle.std.specs.List.{All, AllByRecursion, AllZip};
 ghost use Rattle.std.specs.Vec.{vec_capacity};
 ghost use Rattle.lanes_in_turn.specs.Round.{AreRoundLanes};
@@ -13,13 +13,18 @@ use byte_streams::Source;
 use lanes_in_turn::{Asks, LaneResult, Stop, take_alone};
 use page_tree::NoMemory;
 use round_robin::{collect, deal};
+use std::alloc::Global;
 use std::sync::Wait;
 use std::thread;
 use std::thread::Threads;
+use thread_heap::make_room;
 use upload_reader::Client;
 
 /// The most threads of a round.
 const MAX_THREADS: usize = 4;
+
+/// What is kept of so many items fills about a block of a thread's heap.
+const HEAP_ITEMS: u64 = 160;
 
 /// What a thread took of its lanes, and why it stopped.
 #[derive(Drop)]
@@ -107,7 +112,7 @@ fn take_at_once<F: Source + Drop + Send, T: AllocGlobal + Threads + Wait + Sync>
         &|hand| -> TakenHand<F>
             requires { IsFreshHand hand }
             ensures { TakesByOne never 0 hand.items result.lanes.items result.stop }
-        { take_hand(rt, hand) },
+        { take_hand(rt.alloc(), rt, hand) },
     )?;
     Ok(taken)
 }
@@ -123,18 +128,22 @@ fn take_in_turn<F: Source + Drop, T: AllocGlobal + Wait>(
 {
     let mut taken = Vec::with_capacity(rt.alloc(), hands.len())?;
     for hand in hands {
-        taken.push_reserved(take_hand(rt, hand));
+        taken.push_reserved(take_hand(rt.alloc(), rt, hand));
     }
     Ok(taken)
 }
 
 // One lane behind another. Where memory is refused at one, the others go on.
-fn take_hand<F: Source + Drop, W: Wait>(rt: &W, hand: Vec<(Client, LaneResult<F>)>) -> TakenHand<F>
+fn take_hand<F: Source + Drop, W: Wait>(
+    alloc: Global,
+    rt: &W,
+    hand: Vec<(Client, LaneResult<F>)>,
+) -> TakenHand<F>
     requires { IsFreshHand hand }
     ensures { TakesByOne never 0 hand.items result.lanes.items result.stop }
 {
     let halt = Asks {
-        halt: &|_items: u64| false,
+        halt: &|items: u64| goes_on(alloc, items),
     };
     let mut lanes = hand;
     let mut stop = Stop::None;
@@ -142,6 +151,16 @@ fn take_hand<F: Source + Drop, W: Wait>(rt: &W, hand: Vec<(Client, LaneResult<F>
         stop = both_stops(stop, take_alone(rt, &mut lanes[k], &halt));
     }
     TakenHand { lanes, stop }
+}
+
+// Behind so many items of a lane: it is never stopped, but there is room for more now and then.
+fn goes_on(alloc: Global, items: u64) -> bool
+    ensures { result ≡ false }
+{
+    if items.is_multiple_of(HEAP_ITEMS) {
+        make_room(alloc);
+    }
+    false
 }
 
 fn all_taken<F: Source + Drop>(

@@ -17,7 +17,11 @@ use own_pages::WithOwnPage;
 use page_tree::{NoMemory, Page};
 use site_hooks::SiteHooks;
 use std::alloc::Global;
+use thread_heap::make_room;
 use visit_replay::{Finding, Outcome, Patch, replay};
+
+/// So often there is room for a block in a worker's heap: what is kept of so many visits mostly fits there.
+const HEAP_VISITS: usize = 8;
 
 /// A visit's number in the list with what the visit gives by itself.
 #[derive(Debug, Drop)]
@@ -126,6 +130,9 @@ fn with_one<'p, H: SiteHooks>(
         number some.items more.items)) }
 {
     let mut done = done?;
+    if done.len().is_multiple_of(HEAP_VISITS) {
+        make_room(alloc);
+    }
     let visit = visits[number as usize];
     let own = page_at(own_pages, number);
     let outcome = replay_visit(alloc, hooks, own, patch, finding, pages, last, visit)?;

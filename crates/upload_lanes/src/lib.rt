@@ -5,7 +5,6 @@
 
 mod alone;
 mod gate;
-mod heap;
 mod packing;
 mod parties;
 mod party;

@@ -11,7 +11,6 @@ ghost use Rattle.upload_reader.specs.Upload.{IsUntouched, NothingMore};
 ghost use Rattle.upload_lanes.specs.inside.Sent.{parts, ReadsOn, GivesRead, IsPutting, IsHeld, HasPut, IsUploaded, Sends, is_done};
 
 use crate::gate::Gate;
-use crate::heap::{Heap, READ};
 use crate::sent::{Parcel, Priced, Sent};
 use byte_streams::Source;
 use lane_queue::{LaneQueue, Put, Putter};
@@ -19,7 +18,11 @@ use std::alloc::AllocError;
 use std::snapshot::Snapshot;
 use std::sync::{Arc, Wait};
 use std::thread::{Promise, PromisedHandle, Scope};
+use thread_heap::Heap;
 use upload_reader::{Ending, Next, Upload};
+
+/// What is kept of so many messages that an uploader reads fills about a block of its heap.
+const READ: u32 = 160;
 
 /// What an uploader hands back.
 #[derive(Drop)]
