@@ -74,7 +74,7 @@ impl<'p> Looks<'p> {
     }
 
     /// The page.
-    pub fn page(&self) -> &Page
+    pub fn page(&self) -> &'p Page
         ensures { result.now ≡ self.now.0 }
     {
         self.page

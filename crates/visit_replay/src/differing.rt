@@ -22,7 +22,6 @@ use crate::difference::{Contrast, Difference};
 use crate::finding::Finding;
 use crate::first_deeds::FirstDeeds;
 use crate::former::Former;
-use crate::known_inputs::KnownInputs;
 use crate::known_paths::KnownPaths;
 use crate::lookups::Lookups;
 use crate::outcome::{ConflictKind, Outcome};
@@ -33,7 +32,7 @@ use crate::single::Single;
 use crate::told::{ToldRequest, are_sent_alike};
 use crate::trail::Trail;
 use client_log::Visit;
-use page_looks::{FreshNames, Looks};
+use page_looks::FreshNames;
 use page_tree::{NoMemory, Page, Text};
 use site_hooks::SiteHooks;
 use std::alloc::{AllocError, Global};
@@ -92,7 +91,7 @@ pub fn told_beside(
             ..
         } => {
             let k = at.saturating_sub(1) as usize;
-            changed_beside(alloc, &page.looks, &mut page.inputs, visit, k)
+            changed_beside(alloc, page, visit, k)
         }
         Outcome::Conflict { .. } => Ok(Difference::none()),
     }
@@ -398,28 +397,25 @@ fn changed<H: SiteHooks>(
             Difference::of(alloc, Contrast::Changed { was, now: None })
         }
         Some(new) => {
-            let looks = Looks::of(alloc, &new, fresh)?;
-            let mut inputs = KnownInputs::new(alloc, &new);
-            changed_beside(alloc, &looks, &mut inputs, visit, k)
+            let mut page = RepairedPage::of(alloc, &new, fresh)?;
+            changed_beside(alloc, &mut page, visit, k)
         }
     }
 }
 
-// The same beside the page there, whose looks were made, and of which these hidden inputs are known.
+// The same beside the page there, whose looks were made.
 fn changed_beside(
     alloc: Global,
-    looks: &Looks<'_>,
-    inputs: &mut KnownInputs<'_>,
+    page: &mut RepairedPage<'_>,
     visit: &Visit,
     k: usize,
 ) -> Result<Difference, NoMemory>
-    requires { KnowsInputs looks.now.0 inputs.old }
-    ensures known { KnowsInputs looks.now.0 inputs.new }
+    ensures page { page.new ≡ page.old }
     ensures told { IfOk result (λ it. it
-        ≡ Some (Changed (was_asked visit.now k) (asks_now looks.now.1 visit.now looks.now.0 k))) }
+        ≡ Some (Changed (was_asked visit.now k) (asks_now page.old.1 visit.now page.old.0 k))) }
 {
     let was = asked_before(alloc, visit, k)?;
-    let now = asks_now(alloc, looks, inputs, visit, k)?;
+    let now = asks_now(alloc, page, visit, k)?;
     Difference::of(alloc, Contrast::Changed { was, now })
 }
 
@@ -446,14 +442,12 @@ fn asked_before(alloc: Global, visit: &Visit, k: usize) -> Result<Option<Single>
 
 fn asks_now(
     alloc: Global,
-    looks: &Looks<'_>,
-    inputs: &mut KnownInputs<'_>,
+    page: &mut RepairedPage<'_>,
     visit: &Visit,
     k: usize,
 ) -> Result<Option<Single>, NoMemory>
-    requires { KnowsInputs looks.now.0 inputs.old }
-    ensures known { KnowsInputs looks.now.0 inputs.new }
-    ensures asks { IfOk result (λ request. request ≡ asks_now looks.now.1 visit.now looks.now.0 k) }
+    ensures page { page.new ≡ page.old }
+    ensures asks { IfOk result (λ request. request ≡ asks_now page.old.1 visit.now page.old.0 k) }
 {
     let events = visit.events.as_slice();
     if k >= events.len() {
@@ -463,17 +457,20 @@ fn asks_now(
     if event.request() == 0 {
         return Ok(None);
     }
-    let beside = looks.beside(alloc, &visit.page)?;
+    let beside = page.beside(alloc, &visit.page)?;
     let (target, button) = match passing_over(&beside, event) {
         Located::Bad(_kind) => return Ok(None),
         Located::Idle => return Ok(None),
         Located::At { target, button } => (target, button),
     };
     let aiming = Aiming::ByElement(beside);
-    let new = looks.page();
-    let mut lookups = Lookups::new(alloc, &visit.page, new, inputs.take(alloc));
+    let new = page.page();
+    let mut lookups = Lookups::new(alloc, &visit.page, new, page.take_inputs(alloc));
     let mut trail = trail_beside(alloc, &aiming, visit, new, k, &mut lookups)?;
-    *inputs = lookups.repaired;
+    page.keep_inputs(lookups.repaired);
+    if let Aiming::ByElement(beside) = aiming {
+        page.keep(beside);
+    }
     trail.note(event, target, button)?;
     Ok(Single::of(trail))
 }

@@ -22,7 +22,6 @@ use crate::requests::Requests;
 use crate::touched::{Touched, has_strayed};
 use crate::trail::Trail;
 use client_log::Visit;
-use page_looks::Looks;
 use page_tree::{NoMemory, Page};
 use site_hooks::SiteHooks;
 use std::alloc::Global;
@@ -69,7 +68,7 @@ pub fn replay_beside<H: SiteHooks>(
         → answer ≡ outcome (site_by H.page_of H.signals hooks.now patch.now (Some page.old.1)) visit.now) }
 {
     if affected(patch, visit) {
-        by_looks(alloc, hooks, &page.looks, &mut page.inputs, visit)
+        by_looks(alloc, hooks, page, visit)
     } else {
         Ok(Outcome::Untouched)
     }
@@ -92,32 +91,32 @@ fn find_on<H: SiteHooks>(
             replay_on(alloc, hooks, &Aiming::ByPath, visit, new, &mut lookups)
         }
         Some(fresh) => {
-            let looks = Looks::of(alloc, new, fresh)?;
-            let mut inputs = KnownInputs::new(alloc, new);
-            by_looks(alloc, hooks, &looks, &mut inputs, visit)
+            let mut page = RepairedPage::of(alloc, new, fresh)?;
+            by_looks(alloc, hooks, &mut page, visit)
         }
     }
 }
 
-// On a page whose looks were made, and of which these hidden inputs are known.
+// On a page whose looks were made.
 fn by_looks<H: SiteHooks>(
     alloc: Global,
     hooks: &H,
-    looks: &Looks<'_>,
-    inputs: &mut KnownInputs<'_>,
+    page: &mut RepairedPage<'_>,
     visit: &Visit,
 ) -> Result<Outcome, NoMemory>
-    requires { KnowsInputs looks.now.0 inputs.old }
-    ensures known { KnowsInputs looks.now.0 inputs.new }
-    ensures answer { IfOk result (λ answer. answer ≡ on_page (Some looks.now.1) visit.now
-        (H.signals hooks.now visit.now.address visit.now.page) (Some looks.now.0)) }
+    ensures page { page.new ≡ page.old }
+    ensures answer { IfOk result (λ answer. answer ≡ on_page (Some page.old.1) visit.now
+        (H.signals hooks.now visit.now.address visit.now.page) (Some page.old.0)) }
 {
-    let beside = looks.beside(alloc, &visit.page)?;
+    let beside = page.beside(alloc, &visit.page)?;
     let aiming = Aiming::ByElement(beside);
-    let new = looks.page();
-    let mut lookups = Lookups::new(alloc, &visit.page, new, inputs.take(alloc));
+    let new = page.page();
+    let mut lookups = Lookups::new(alloc, &visit.page, new, page.take_inputs(alloc));
     let answer = replay_on(alloc, hooks, &aiming, visit, new, &mut lookups)?;
-    *inputs = lookups.repaired;
+    page.keep_inputs(lookups.repaired);
+    if let Aiming::ByElement(beside) = aiming {
+        page.keep(beside);
+    }
     Ok(answer)
 }
 

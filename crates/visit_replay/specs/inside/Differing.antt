@@ -4,6 +4,7 @@ use Rattle.std.specs.BTreeMap.{get}
 use Rattle.std.specs.List.{find, filter}
 use Rattle.std.specs.Ordering.{nat_cmp}
 use Rattle.std.specs.Str.{bytes_eq}
+use Rattle.page_looks.specs.Counterpart.{PagePair}
 use Rattle.page_looks.specs.Sending.{without_fresh}
 use Rattle.page_tree.specs.Tree.{Tree}
 use Rattle.page_tree.specs.Number.{place_numbered}
@@ -82,3 +83,7 @@ AreCompared fresh all =
 -- the same where events find their places by their elements
 abbrev pub KnowsTexts : Option (List (List ℕ)) → Comparisons → Type 0
 KnowsTexts same compared = IfSome same (λ fresh. AreCompared fresh compared.all.items)
+
+-- that page was set beside a recorded one last
+abbrev pub IsLastBeside : Tree × List (List ℕ) → Option PagePair → Type 0
+IsLastBeside looks last = IfSome last (λ both. (both.new ≡ looks.0) × (both.fresh ≡ looks.1))

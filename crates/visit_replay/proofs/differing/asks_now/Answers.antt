@@ -2,7 +2,6 @@ use Rattle.std.proofs.Common.{◌≡◌, ◌<◌, length, slice_get, subst, sym,
 use Rattle.page_tree.specs.Limits.{nodes}
 use Rattle.visit_replay.specs.Aim.{by_element, aim_of, place_of_aim}
 use Rattle.visit_replay.specs.Difference.{asks_now, passing_over}
-use Rattle.visit_replay.specs.inside.Differing.{KnowsInputs}
 use Rattle.visit_replay.specs.inside.OneEvent.{AimsAt, IsWithin}
 use Rattle.visit_replay.specs.inside.Trails.{IsTrailOf}
 use Rattle.visit_replay.specs.declared.conflicts.Located.TheVariants.{Bad, Idle, At}
@@ -17,8 +16,8 @@ returns-in-Bad-clause-asks c =
     let below : c.args.k < length c.as_slice-events.result.now = omega arith in
     let at : slice_get visit.events c.args.k ≡ Some event = stands_in visit c.as_slice-events.result.now c.args.k event c.as_slice-events.ensures below c.index-events-k.is in
     let aims : AimsAt c.in_ok-beside.beside.new (passing_over c.in_ok-beside.beside.old c.in_ok-beside.beside.new event) (Bad c.in-Bad._kind) = rw c.in-Bad.is at c.passing_over.ensures in
-    let here = subst (λ b. AimsAt b.new (passing_over b.old b.new event) (Bad c.in-Bad._kind)) c.in_ok-beside.ensures aims in
-    asks_nowhere c.args.looks.now.1 visit c.args.looks.now.0 c.args.k event at (ap place_of_aim here)
+    let here = subst (λ b. AimsAt b.new (passing_over b.old b.new event) (Bad c.in-Bad._kind)) c.in_ok-beside.ensures.both aims in
+    asks_nowhere c.args.page.now.1 visit c.args.page.now.0 c.args.k event at (ap place_of_aim here)
 
 pub returns-in-Idle-clause-asks : goal.returns-in-Idle-clause-asks
 returns-in-Idle-clause-asks c =
@@ -27,23 +26,16 @@ returns-in-Idle-clause-asks c =
     let below : c.args.k < length c.as_slice-events.result.now = omega arith in
     let at : slice_get visit.events c.args.k ≡ Some event = stands_in visit c.as_slice-events.result.now c.args.k event c.as_slice-events.ensures below c.index-events-k.is in
     let aims : AimsAt c.in_ok-beside.beside.new (passing_over c.in_ok-beside.beside.old c.in_ok-beside.beside.new event) Idle = rw c.in-Idle.is at c.passing_over.ensures in
-    let here = subst (λ b. AimsAt b.new (passing_over b.old b.new event) Idle) c.in_ok-beside.ensures aims in
-    asks_nowhere c.args.looks.now.1 visit c.args.looks.now.0 c.args.k event at (ap place_of_aim here)
-
-pub trail_beside-requires-clause-known : goal.trail_beside-requires-clause-known
-trail_beside-requires-clause-known c =
-    let known : KnowsInputs c.page-new.result.now c.take.result = rw (c.page-new.ensures, c.take.ensures.taken) c.requires in
-    c.new-lookups.ensures known
-
-pub returns-in_err-trail-clause-known : goal.returns-in_err-trail-clause-known
-returns-in_err-trail-clause-known c = c.take.ensures.left c.args.looks.now.0 c.requires
+    let here = subst (λ b. AimsAt b.new (passing_over b.old b.new event) Idle) c.in_ok-beside.ensures.both aims in
+    asks_nowhere c.args.page.now.1 visit c.args.page.now.0 c.args.k event at (ap place_of_aim here)
 
 pub note-requires-clause-there : goal.note-requires-clause-there
 note-requires-clause-there c =
     let visit = c.args.visit.now in
     let event = c.index-events-k.result in
     let new = c.page-new.result.now in
-    let pair : c.in_ok-beside.beside ≡ beside_looks visit.page (new, c.args.looks.now.1) = c.in_ok-beside.ensures ∙ ap (λ n. beside_looks visit.page (n, c.args.looks.now.1)) (sym c.page-new.ensures) in
+    let there : new ≡ c.args.page.now.0 = c.page-new.ensures ∙ ap (λ p. p.0) c.in_ok-beside.ensures.page in
+    let pair : c.in_ok-beside.beside ≡ beside_looks visit.page (new, c.args.page.now.1) = c.in_ok-beside.ensures.both ∙ ap (λ n. beside_looks visit.page (n, c.args.page.now.1)) (sym there) in
     let aims : AimsAt c.in_ok-beside.beside.new (passing_over c.in_ok-beside.beside.old c.in_ok-beside.beside.new event) (At c.in-At.target c.in-At.button) = rw c.in-At.is at c.passing_over.ensures in
     let here = subst (λ b. AimsAt b.new (passing_over b.old b.new event) (At c.in-At.target c.in-At.button)) pair aims in
     subst (λ p. c.in-At.target < nodes p) (sym c.in_ok-trail.ensures.trail.page) here.0
@@ -53,7 +45,8 @@ note-requires-clause-button c =
     let visit = c.args.visit.now in
     let event = c.index-events-k.result in
     let new = c.page-new.result.now in
-    let pair : c.in_ok-beside.beside ≡ beside_looks visit.page (new, c.args.looks.now.1) = c.in_ok-beside.ensures ∙ ap (λ n. beside_looks visit.page (n, c.args.looks.now.1)) (sym c.page-new.ensures) in
+    let there : new ≡ c.args.page.now.0 = c.page-new.ensures ∙ ap (λ p. p.0) c.in_ok-beside.ensures.page in
+    let pair : c.in_ok-beside.beside ≡ beside_looks visit.page (new, c.args.page.now.1) = c.in_ok-beside.ensures.both ∙ ap (λ n. beside_looks visit.page (n, c.args.page.now.1)) (sym there) in
     let aims : AimsAt c.in_ok-beside.beside.new (passing_over c.in_ok-beside.beside.old c.in_ok-beside.beside.new event) (At c.in-At.target c.in-At.button) = rw c.in-At.is at c.passing_over.ensures in
     let here = subst (λ b. AimsAt b.new (passing_over b.old b.new event) (At c.in-At.target c.in-At.button)) pair aims in
     subst (IsWithin c.in-At.button) (sym c.in_ok-trail.ensures.trail.page) here.1
@@ -61,12 +54,13 @@ note-requires-clause-button c =
 pub returns-clause-asks : goal.returns-clause-asks
 returns-clause-asks c =
     let visit = c.args.visit.now in
-    let fresh = c.args.looks.now.1 in
+    let fresh = c.args.page.now.1 in
     let event = c.index-events-k.result in
     let new = c.page-new.result.now in
+    let there : new ≡ c.args.page.now.0 = c.page-new.ensures ∙ ap (λ p. p.0) c.in_ok-beside.ensures.page in
     let below : c.args.k < length c.as_slice-events.result.now = omega arith in
     let at : slice_get visit.events c.args.k ≡ Some event = stands_in visit c.as_slice-events.result.now c.args.k event c.as_slice-events.ensures below c.index-events-k.is in
-    let pair : c.in_ok-beside.beside ≡ beside_looks visit.page (new, fresh) = c.in_ok-beside.ensures ∙ ap (λ n. beside_looks visit.page (n, fresh)) (sym c.page-new.ensures) in
+    let pair : c.in_ok-beside.beside ≡ beside_looks visit.page (new, fresh) = c.in_ok-beside.ensures.both ∙ ap (λ n. beside_looks visit.page (n, fresh)) (sym there) in
     let aims : AimsAt c.in_ok-beside.beside.new (passing_over c.in_ok-beside.beside.old c.in_ok-beside.beside.new event) (At c.in-At.target c.in-At.button) = rw c.in-At.is at c.passing_over.ensures in
     let here = subst (λ b. AimsAt b.new (passing_over b.old b.new event) (At c.in-At.target c.in-At.button)) pair aims in
     let walked : IsTrailOf (by_element fresh visit.page new) visit new c.args.k c.in_ok-trail.trail =
@@ -75,4 +69,4 @@ returns-clause-asks c =
     ∙ last_made (by_element fresh visit.page new) visit new c.args.k event c.in-At.target c.in-At.button c.in_ok-trail.trail c.note.new.self walked
     c.in_ok-note.ensures.deeds c.note.ensures.address c.note.ensures.page
     ∙ asks_where fresh visit new c.args.k event c.in-At.target c.in-At.button at here.2
-    ∙ ap (λ page. asks_now fresh visit page c.args.k) c.page-new.ensures
+    ∙ ap (λ page. asks_now fresh visit page c.args.k) there

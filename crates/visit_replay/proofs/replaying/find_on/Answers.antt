@@ -11,8 +11,8 @@ replay_on-requires-clause-known g c =
 pub returns-in-None : goal.returns-in-None
 returns-in-None g c = rw (← c.in-None.ensures) c.replay_on.ensures.answer
 
-pub returns-in_ok-looks-in-Some : goal.returns-in_ok-looks-in-Some
-returns-in_ok-looks-in-Some g c =
+pub returns-in_ok-page-in-Some : goal.returns-in_ok-page-in-Some
+returns-in_ok-page-in-Some g c =
     let visit = c.args.visit.now in
-    IfOk-weaker c.by_looks.result _ _ (λ answer is. found_by c.in_ok-looks-in-Some.looks visit c.args.new.now c.in-Some.fresh.now c.args.finding.now
-    (g.H.SiteLaw.signals c.args.hooks.now visit.address visit.page) answer c.in_ok-looks-in-Some.ensures c.in-Some.ensures is) c.by_looks.ensures.answer
+    IfOk-weaker c.by_looks.result _ _ (λ answer is. found_by c.in_ok-page-in-Some.page visit c.args.new.now c.in-Some.fresh.now c.args.finding.now
+    (g.H.SiteLaw.signals c.args.hooks.now visit.address visit.page) answer c.in_ok-page-in-Some.ensures c.in-Some.ensures is) c.by_looks.ensures.answer
