@@ -33,9 +33,18 @@ struct TakenHand<F: Source> {
     stop: Stop,
 }
 
-/// Takes lanes of which nothing was taken to their ends, each unless memory is refused.
+/// Whether threads can run beside one another here.
+pub(crate) fn has_processors(rt: &impl Threads) -> bool {
+    match thread::available_parallelism(rt) {
+        Ok(count) => count.get() > 1,
+        Err(_) => true,
+    }
+}
+
+/// Takes lanes of which nothing was taken to their ends, each unless memory is refused: by threads at once, or by the thread that calls.
 pub(crate) fn take_to_ends<F: Source + Drop + Send, T: AllocGlobal + Threads + Wait + Sync>(
     rt: &T,
+    at_once: bool,
     lanes: Vec<(Client, LaneResult<F>)>,
 ) -> Result<(Vec<(Client, LaneResult<F>)>, Stop), NoMemory>
     requires fresh { AllByRecursion IsFreshLane lanes.items }
@@ -46,7 +55,7 @@ pub(crate) fn take_to_ends<F: Source + Drop + Send, T: AllocGlobal + Threads + W
     let count = lanes.len();
     let back = Vec::with_capacity(rt.alloc(), count)?;
     let hands = deal(rt.alloc(), lanes, threads_of(count))?;
-    let (taken, stop) = take_hands(rt, hands)?;
+    let (taken, stop) = take_hands(rt, at_once, hands)?;
     Ok((collect(taken, back, count), stop))
 }
 
@@ -63,37 +72,31 @@ fn threads_of(lanes: usize) -> usize
 // What was taken of all hands, and why that stopped.
 fn take_hands<F: Source + Drop + Send, T: AllocGlobal + Threads + Wait + Sync>(
     rt: &T,
+    at_once: bool,
     hands: Vec<Vec<(Client, LaneResult<F>)>>,
 ) -> Result<(Vec<Vec<(Client, LaneResult<F>)>>, Stop), NoMemory>
     requires fresh { All IsFreshHand hands.items }
     ensures { IfOk result (λ all. TakeEach (λ hand. TakesByOne never 0 hand.items) hands.items all.0.items all.1) }
 {
     let back = Vec::with_capacity(rt.alloc(), hands.len())?;
-    let taken = take_each(rt, hands)?;
+    let taken = take_each(rt, at_once, hands)?;
     Ok(all_taken(taken, back))
 }
 
-// What was taken of each hand: by a thread of its own, where threads can run beside one another.
+// What was taken of each hand: by a thread of its own, or by the thread that calls.
 fn take_each<F: Source + Drop + Send, T: AllocGlobal + Threads + Wait + Sync>(
     rt: &T,
+    at_once: bool,
     hands: Vec<Vec<(Client, LaneResult<F>)>>,
 ) -> Result<Vec<TakenHand<F>>, NoMemory>
     requires fresh { All IsFreshHand hands.items }
     ensures { IfOk result (λ taken.
         AllZip (λ hand one. TakesByOne never 0 hand.items one.lanes.items one.stop) hands.items taken.items) }
 {
-    if has_processors(rt) {
+    if at_once {
         take_at_once(rt, hands)
     } else {
         take_in_turn(rt, hands)
-    }
-}
-
-// Whether threads can run beside one another here.
-fn has_processors(rt: &impl Threads) -> bool {
-    match thread::available_parallelism(rt) {
-        Ok(count) => count.get() > 1,
-        Err(_) => true,
     }
 }
 

@@ -22,9 +22,11 @@ use std::thread::Threads;
 use upload_lanes::{Gathered, LaneResult};
 use upload_reader::{Client, Upload};
 
-/// A round of these, some uploads, each behind the log of its client, which is moved out of those of all clients. Their sources are let go.
+/// A round of these, some uploads, each behind the log of its client, which is moved out of those of all clients: taken by threads at once, or by the thread that
+/// calls. Their sources are let go.
 pub(crate) fn take_own<F: Source + Drop + Send, T: AllocGlobal + Threads + Wait + Sync>(
     rt: &T,
+    at_once: bool,
     clients: &mut IndexMap<Client, LaneResult<F>>,
     uploads: Vec<Upload<F>>,
     quota: Quota,
@@ -36,7 +38,7 @@ pub(crate) fn take_own<F: Source + Drop + Send, T: AllocGlobal + Threads + Wait 
     ensures others { OnOk result (IsSameBehind (clients_of uploads.items) clients.old.entries clients.new.entries) }
 {
     let fresh = move_out(rt.alloc(), clients, uploads, quota)?;
-    let (lanes, stop) = take_to_ends(rt, fresh)?;
+    let (lanes, stop) = take_to_ends(rt, at_once, fresh)?;
     Ok(Gathered {
         clients: close_all(rt.alloc(), lanes)?,
         stop,

@@ -9,6 +9,7 @@ ghost use Rattle.replay_folder.specs.declared.names.Named.{Named as PlainNamed};
 
 use crate::ends::UploadEnd;
 use crate::greeting::greet_named;
+use crate::hands::has_processors;
 use crate::names::Named;
 use crate::open_round::{
     OpenRound, RoundName, TakenFiles, first_round, has_client, hold_end, hold_upload, is_short,
@@ -43,13 +44,14 @@ pub(crate) fn take_files<
 ) -> Result<TakenFiles<F>, NoMemory>
     ensures { IfOk result (HasTakenSoFar (WasRead F.answers F.remaining) (O.opened opener.now) quota named.now) }
 {
+    let at_once = has_processors(rt);
     let mut round = first_round(rt.alloc());
     for one in named {
         watcher.tell(round.taken.ends.len(), named.len());
-        let more = take_named(rt, opener, one, quota, round)?;
-        round = close_full(rt, quota, more)?;
+        let more = take_named(rt, at_once, opener, one, quota, round)?;
+        round = close_full(rt, at_once, quota, more)?;
     }
-    close_round(rt, quota, round)
+    close_round(rt, at_once, quota, round)
 }
 
 // One more. Where it can't be opened beside the uploads of the round, these are taken first, and it is tried once more.
@@ -59,6 +61,7 @@ fn take_named<
     T: AllocGlobal + Threads + Wait + Sync,
 >(
     rt: &T,
+    at_once: bool,
     opener: &O,
     named: &Named,
     quota: Quota,
@@ -76,13 +79,13 @@ fn take_named<
     }
     match greet_named(rt.alloc(), opener, named)? {
         Err(end) => if may_open_alone(round.uploads.as_slice(), &end) {
-            let next = open_next(rt, quota, round)?;
+            let next = open_next(rt, at_once, quota, round)?;
             take_alone(rt.alloc(), opener, named, next)
         } else {
             hold_end(round, end)
         },
         Ok(upload) => {
-            let round = make_room(rt, quota, round, upload.client())?;
+            let round = make_room(rt, at_once, quota, round, upload.client())?;
             if is_short(round.taken.status) {
                 leave_unread(round)
             } else {
@@ -116,6 +119,7 @@ fn take_alone<F: Source + Drop, O: OpensUploads<File = F>>(
 // Without an upload of that client: a round that has one is taken first.
 fn make_room<F: Source + Drop + Send, T: AllocGlobal + Threads + Wait + Sync>(
     rt: &T,
+    at_once: bool,
     quota: Quota,
     round: OpenRound<F>,
     client: &Client,
@@ -130,7 +134,7 @@ fn make_room<F: Source + Drop + Send, T: AllocGlobal + Threads + Wait + Sync>(
         list_any (λ upload. bytes_eq client.now upload.client) more.uploads.items ≡ false) }
 {
     if has_client(round.uploads.as_slice(), client) {
-        return open_next(rt, quota, round);
+        return open_next(rt, at_once, quota, round);
     }
     Ok(round)
 }
@@ -138,6 +142,7 @@ fn make_room<F: Source + Drop + Send, T: AllocGlobal + Threads + Wait + Sync>(
 // With room for one more: a round that is full is taken first.
 fn close_full<F: Source + Drop + Send, T: AllocGlobal + Threads + Wait + Sync>(
     rt: &T,
+    at_once: bool,
     quota: Quota,
     round: OpenRound<F>,
 ) -> Result<OpenRound<F>, NoMemory>
@@ -148,7 +153,7 @@ fn close_full<F: Source + Drop + Send, T: AllocGlobal + Threads + Wait + Sync>(
     ensures few { IfOk result (λ more. length more.uploads.items < max_round_lanes) }
 {
     if round.uploads.len() >= MAX_ROUND_LANES as usize {
-        return open_next(rt, quota, round);
+        return open_next(rt, at_once, quota, round);
     }
     Ok(round)
 }
@@ -156,6 +161,7 @@ fn close_full<F: Source + Drop + Send, T: AllocGlobal + Threads + Wait + Sync>(
 // Takes the round; the next one is empty.
 fn open_next<F: Source + Drop + Send, T: AllocGlobal + Threads + Wait + Sync>(
     rt: &T,
+    at_once: bool,
     quota: Quota,
     round: OpenRound<F>,
 ) -> Result<OpenRound<F>, NoMemory>
@@ -165,13 +171,14 @@ fn open_next<F: Source + Drop + Send, T: AllocGlobal + Threads + Wait + Sync>(
     ensures made { IfOk result (MakesRoom (WasRead F.answers F.remaining) quota round) }
     ensures empty { IfOk result (λ next. next.uploads.items ≡ []) }
 {
-    let taken = close_round(rt, quota, round)?;
+    let taken = close_round(rt, at_once, quota, round)?;
     Ok(next_round(rt.alloc(), taken))
 }
 
 // Takes the round, and tells what became of its names.
 fn close_round<F: Source + Drop + Send, T: AllocGlobal + Threads + Wait + Sync>(
     rt: &T,
+    at_once: bool,
     quota: Quota,
     round: OpenRound<F>,
 ) -> Result<TakenFiles<F>, NoMemory>
@@ -199,7 +206,7 @@ fn close_round<F: Source + Drop + Send, T: AllocGlobal + Threads + Wait + Sync>(
         });
     }
     let mut clients = gathered.clients;
-    let own = take_own(rt, &mut clients, uploads, quota)?;
+    let own = take_own(rt, at_once, &mut clients, uploads, quota)?;
     let (stop, status) = (own.stop, status_of(&own));
     let ends = tell_all(&own, ends, held)?;
     put_back(&mut clients, own.clients)?;
