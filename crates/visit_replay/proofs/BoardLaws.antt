@@ -1,57 +1,47 @@
 -- A page as the first deeds of a trail filled it in, and what its forms send there.
-use Rattle.std.proofs.Common.{◌≡◌, ℕ, ◌+◌, ◌-◌, ◌<◌, ◌≤◌, Bool, List, [], ◌∷◌, ◌++◌, fold, unwrap_or, length, take, drop, get_or, Option, Some, option_and_then, refl, sym, ◌∙◌, ap, subst, arith}
-use Rattle.std.proofs.Math.Seq.{take-add}
+use Rattle.std.proofs.Common.{◌≡◌, ℕ, suc, ◌+◌, ◌<◌, Bool, List, [], ◌∷◌, ◌++◌, All, length, take, get_or, slice_get, Option, Some, option_and_then, refl, sym, ◌∙◌, ap, subst, arith}
 use Rattle.std.proofs.lemmas.Option.{slice_get-get_or}
-use Rattle.std.proofs.lemmas.List.Sums.{fold-append}
 use Rattle.page_tree.specs.Tree.{Tree}
-use Rattle.page_tree.specs.Control.{start_text_at, start_checked_at}
 use Rattle.page_tree.specs.Number.{place_numbered}
 use Rattle.form_urlencoded.specs.Form.{extend_pairs}
 use Rattle.visit_replay.specs.Form.{action_of, is_post, pairs_held, sent_to}
 use Rattle.visit_replay.specs.inside.OneEvent.{IsWithin, places_numbered}
-use Rattle.visit_replay.specs.inside.Deeds.{deed_request, form_asked, text_done, text_behind, is_on_done, is_on_behind}
+use Rattle.visit_replay.specs.inside.Deed.{Deed}
+use Rattle.visit_replay.specs.inside.Deeds.{IsDeedOn, deed_request, form_asked, text_done, text_behind, is_on_done, is_on_behind}
 use Rattle.visit_replay.specs.inside.KeptFields.{Hold}
 use Rattle.visit_replay.specs.inside.Senders.{SendUnder, sent_all}
 use Rattle.visit_replay.specs.inside.Trails.{asked_at}
-use Rattle.visit_replay.specs.declared.deeds.Deed.{Deed}
 use Rattle.visit_replay.specs.declared.fields.Fields.{Fields}
 use Rattle.visit_replay.specs.declared.forms.Filled.{Filled}
 use Rattle.visit_replay.specs.declared.senders.Sender.{Sender}
 use Rattle.visit_replay.specs.declared.trail.Trail.{Trail}
 use Rattle.visit_replay.proofs.Overlay.{same_hold}
-use Rattle.visit_replay.proofs.Places.{taken_here}
+use Rattle.visit_replay.proofs.Places.{take_suc, some_same}
+use Rattle.visit_replay.proofs.TrailLaws.{text_more, is_on_more}
 
 -- ---- deeds were taken in
 
 -- one more of these
-pub hold_more : (page : Tree) (text : List ℕ → List ℕ) (on : List ℕ → Bool) (deeds : List Deed) (i : ℕ) (deed : Deed) (fields : Fields) → i < length deeds → deed ≡ get_or deeds i deed
-    → Hold fields page (λ place. text_done page place (fold (text_done page place) (text place) (take i deeds)) deed) (λ place. is_on_done page place (fold (is_on_done page place) (on place) (take i deeds)) deed)
-    → Hold fields page (λ place. fold (text_done page place) (text place) (take (i + 1) deeds)) (λ place. fold (is_on_done page place) (on place) (take (i + 1) deeds))
-hold_more page text on deeds i deed fields below is held =
-    let more : take (i + 1) deeds ≡ take i deeds ++ deed ∷ [] = taken_here deeds i deed below is in
-    same_hold fields page (λ place. text_done page place (fold (text_done page place) (text place) (take i deeds)) deed) (λ place. fold (text_done page place) (text place) (take (i + 1) deeds))
-    (λ place. is_on_done page place (fold (is_on_done page place) (on place) (take i deeds)) deed) (λ place. fold (is_on_done page place) (on place) (take (i + 1) deeds))
-    (λ place. ap (fold (text_done page place) (text place)) more ∙ fold-append (text_done page place) (text place) (take i deeds) (deed ∷ []))
-    (λ place. ap (fold (is_on_done page place) (on place)) more ∙ fold-append (is_on_done page place) (on place) (take i deeds) (deed ∷ [])) held
+pub hold_more : (page : Tree) (deeds : List Deed) (i : ℕ) (deed : Deed) (fields : Fields) → slice_get deeds i ≡ Some deed
+    → Hold fields page (λ place. text_done page place (text_behind page (take i deeds) place) deed) (λ place. is_on_done page place (is_on_behind page (take i deeds) place) deed)
+    → Hold fields page (text_behind page (take (i + 1) deeds)) (is_on_behind page (take (i + 1) deeds))
+hold_more page deeds i deed fields at held =
+    let next : i + 1 ≡ suc i = omega arith in
+    let more : take (i + 1) deeds ≡ take i deeds ++ deed ∷ [] = ap (λ n. take n deeds) next ∙ take_suc deeds i deed at in
+    same_hold fields page (λ place. text_done page place (text_behind page (take i deeds) place) deed) (text_behind page (take (i + 1) deeds))
+    (λ place. is_on_done page place (is_on_behind page (take i deeds) place) deed) (is_on_behind page (take (i + 1) deeds))
+    (λ place. ap (λ ds. text_behind page ds place) more ∙ text_more page (take i deeds) deed place)
+    (λ place. ap (λ ds. is_on_behind page ds place) more ∙ is_on_more page (take i deeds) deed place) held
 
--- those from one place up to another
-pub hold_on : (page : Tree) (deeds : List Deed) (at place : ℕ) (fields : Fields) → at ≤ place
-    → Hold fields page (λ p. fold (text_done page p) (text_behind page (take at deeds) p) (take (place - at) (drop at deeds))) (λ p. fold (is_on_done page p) (is_on_behind page (take at deeds) p) (take (place - at) (drop at deeds)))
-    → Hold fields page (text_behind page (take place deeds)) (is_on_behind page (take place deeds))
-hold_on page deeds at place fields up held =
-    let next = take (place - at) (drop at deeds) in
-    let far : place ≡ at + (place - at) = omega (arith, up) in
-    let whole : take place deeds ≡ take at deeds ++ next = ap (λ n. take n deeds) far ∙ take-add at (place - at) deeds in
-    same_hold fields page (λ p. fold (text_done page p) (text_behind page (take at deeds) p) next) (text_behind page (take place deeds))
-    (λ p. fold (is_on_done page p) (is_on_behind page (take at deeds) p) next) (is_on_behind page (take place deeds))
-    (λ p. ap (λ ds. text_behind page ds p) whole ∙ fold-append (text_done page p) (unwrap_or (start_text_at p page) []) (take at deeds) next)
-    (λ p. ap (λ ds. is_on_behind page ds p) whole ∙ fold-append (is_on_done page p) (start_checked_at p page) (take at deeds) next) held
+-- each is of nodes of the page
+pub deed_on : (page : Tree) (deeds : List Deed) (place : ℕ) (deed : Deed) → All (IsDeedOn page) deeds → place < length deeds → slice_get deeds place ≡ Some deed → IsDeedOn page deed
+deed_on page deeds place deed are below at =
+    subst (IsDeedOn page) (some_same (get_or deeds place deed) deed (sym (slice_get-get_or deeds place deed below) ∙ at)) (are place deed below)
 
 -- what the deed at that place asks for
-pub asked_by : (trail : Trail) (place : ℕ) (deed : Deed) → place < length trail.deeds.items → deed ≡ get_or trail.deeds.items place deed
+pub asked_by : (trail : Trail) (place : ℕ) (deed : Deed) → slice_get trail.deeds.items place ≡ Some deed
     → asked_at trail place ≡ deed_request trail.address trail.page (take place trail.deeds.items) deed
-asked_by trail place deed below is =
-    ap (option_and_then (deed_request trail.address trail.page (take place trail.deeds.items))) (slice_get-get_or trail.deeds.items place deed below ∙ ap Some (sym is))
+asked_by trail place deed at = ap (option_and_then (deed_request trail.address trail.page (take place trail.deeds.items))) at
 
 -- ---- what a form sends
 

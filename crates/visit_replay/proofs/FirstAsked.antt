@@ -1,5 +1,5 @@
 -- The first deed of a trail that asked for something with a number.
-use Rattle.std.proofs.Common.{◌≡◌, ◌≢◌, ℕ, zero, suc, ◌+◌, ◌<◌, ◌≤◌, ◌==◌, ◌&&◌, List, [], ◌∷◌, length, take, get_or, Bool, true, false, cond, not, if◌then◌else◌, is_some, Option, Some, None, IfSome, option_map, option_and_then, inl, inr, ⊎_elim, codes, refl, sym, ap, subst, ◌∙◌, arith}
+use Rattle.std.proofs.Common.{◌≡◌, ◌≢◌, ℕ, zero, suc, ◌+◌, ◌<◌, ◌≤◌, ◌==◌, ◌&&◌, List, [], ◌∷◌, length, take, slice_get, Bool, true, false, cond, not, if◌then◌else◌, is_some, Option, Some, None, IfSome, option_map, option_and_then, inl, inr, ⊎_elim, codes, refl, sym, ap, subst, ◌∙◌, arith}
 use Rattle.std.specs.BTreeMap.{BTreeMap, get}
 use Rattle.std.specs.List.{find, filter_map, range_with_len, cons_option}
 use Rattle.std.specs.Option.{option_or}
@@ -7,19 +7,17 @@ use Rattle.std.specs.Ordering.{nat_cmp}
 use Rattle.std.proofs.lemmas.Bool.{ne_eqb, cases_lt}
 use Rattle.std.proofs.lemmas.Bool.Decides.{eqb_tells}
 use Rattle.std.proofs.lemmas.List.Folds.{find-append}
-use Rattle.std.proofs.lemmas.Option.{slice_get-get_or}
 use Rattle.page_tree.specs.Tree.{Tree}
 use Rattle.page_tree.specs.Look.{attribute_at}
 use Rattle.page_tree.specs.Number.{place_numbered}
 use Rattle.visit_replay.specs.Difference.{are_alike}
 use Rattle.visit_replay.specs.Moved.{requests_of, address_now}
 use Rattle.visit_replay.specs.Requests.{load_request, link_request}
+use Rattle.visit_replay.specs.inside.Deed.{Deed, Typed, Clicked, Sent}
 use Rattle.visit_replay.specs.inside.Deeds.{deed_number, deed_request, form_asked, requests_on}
 use Rattle.visit_replay.specs.inside.Differing.{asked_as, other_by}
 use Rattle.visit_replay.specs.inside.FirstDeeds.{is_asked_as, first_asked, HavePassed}
 use Rattle.visit_replay.specs.inside.Trails.{asked_at, asked_from}
-use Rattle.visit_replay.specs.declared.deeds.Deed.{Deed}
-use Rattle.visit_replay.specs.declared.deeds.Deed.TheVariants.{Typed, Clicked, Sent}
 use Rattle.visit_replay.specs.declared.outcome.Outcome.{Outcome}
 use Rattle.visit_replay.specs.declared.requests.Method.TheVariants.{Get}
 use Rattle.visit_replay.specs.declared.requests.Request.{Request}
@@ -54,20 +52,20 @@ deed_numbered address page before (Sent form button req) r is =
 
 -- ---- by what number it asked
 
-pub asked_numbered : (trail : Trail) (place : ℕ) (deed : Deed) → place < length trail.deeds.items → deed ≡ get_or trail.deeds.items place deed → (r : Request)
+pub asked_numbered : (trail : Trail) (place : ℕ) (deed : Deed) → slice_get trail.deeds.items place ≡ Some deed → (r : Request)
     → asked_at trail place ≡ Some r → r.number ≡ deed_number deed
-asked_numbered trail place deed below is r asked =
+asked_numbered trail place deed at r asked =
     let items = trail.deeds.items in
     deed_numbered trail.address trail.page (take place items) deed r
-    (sym (ap (option_and_then (deed_request trail.address trail.page (take place items))) (slice_get-get_or items place deed below ∙ ap Some (sym is))) ∙ asked)
+    (sym (ap (option_and_then (deed_request trail.address trail.page (take place items))) at) ∙ asked)
 
 with_number : (o : Option Request) (n number : ℕ) → is_some o ≡ true → ((r : Request) → o ≡ Some r → r.number ≡ n) → is_asked_as number o ≡ (n == number)
 with_number None n number some all = cc
 with_number (Some r) n number some all = ap (λ m. m == number) (all r refl)
 
-pub asked_so : (trail : Trail) (place : ℕ) (deed : Deed) → place < length trail.deeds.items → deed ≡ get_or trail.deeds.items place deed → is_some (asked_at trail place) ≡ true
+pub asked_so : (trail : Trail) (place : ℕ) (deed : Deed) → slice_get trail.deeds.items place ≡ Some deed → is_some (asked_at trail place) ≡ true
     → (number : ℕ) → is_asked_as number (asked_at trail place) ≡ (deed_number deed == number)
-asked_so trail place deed below is some number = with_number (asked_at trail place) (deed_number deed) number some (asked_numbered trail place deed below is)
+asked_so trail place deed at some number = with_number (asked_at trail place) (deed_number deed) number some (asked_numbered trail place deed at)
 
 not_asked : (trail : Trail) (place number : ℕ) → is_some (asked_at trail place) ≡ false → is_asked_as number (asked_at trail place) ≡ false
 not_asked trail place number none = go (asked_at trail place) none
@@ -107,21 +105,21 @@ split : (P : ℕ → Type 0) (from place : ℕ) → ((k : ℕ) → k < from → 
 split P from place before between k less = ⊎_elim (λ first. before k first) (λ later. between k later less) (cases_lt k from)
 
 pub passed_more : (trail : Trail) (from last place : ℕ) (deed : Deed) (more : ℕ) → HavePassed trail from last → ((k : ℕ) → from ≤ k → k < place → asked_at trail k ≡ None)
-    → place < length trail.deeds.items → deed ≡ get_or trail.deeds.items place deed → last ≤ more → deed_number deed ≤ more → HavePassed trail (place + 1) more
-passed_more trail from last place deed more passed none below is less here =
+    → slice_get trail.deeds.items place ≡ Some deed → last ≤ more → deed_number deed ≤ more → HavePassed trail (place + 1) more
+passed_more trail from last place deed more passed none stands less here =
     split (λ k. IfSome (asked_at trail k) (λ r. r.number ≤ more)) place (place + 1)
     (split (λ k. IfSome (asked_at trail k) (λ r. r.number ≤ more)) from place (λ k first. raised (asked_at trail k) last more less (passed k first)) (λ k later before. at_most (asked_at trail k) more (none k later before)))
     (λ k at most. let same : k ≡ place = omega (arith, at, most) in
-    subst (λ n. IfSome (asked_at trail n) (λ r. r.number ≤ more)) (sym same) (below_it (asked_at trail place) (deed_number deed) more (asked_numbered trail place deed below is) here))
+    subst (λ n. IfSome (asked_at trail n) (λ r. r.number ≤ more)) (sym same) (below_it (asked_at trail place) (deed_number deed) more (asked_numbered trail place deed stands) here))
 
 pub found_here : (trail : Trail) (from last place : ℕ) (deed : Deed) (number : ℕ) → HavePassed trail from last → last < number → ((k : ℕ) → from ≤ k → k < place → asked_at trail k ≡ None)
-    → place < length trail.deeds.items → deed ≡ get_or trail.deeds.items place deed → is_some (asked_at trail place) ≡ true → deed_number deed ≡ number → first_asked trail number ≡ Some place
-found_here trail from last place deed number passed above none below is some same =
+    → place < length trail.deeds.items → slice_get trail.deeds.items place ≡ Some deed → is_some (asked_at trail place) ≡ true → deed_number deed ≡ number → first_asked trail number ≡ Some place
+found_here trail from last place deed number passed above none below stands some same =
     let p : ℕ → Bool = λ k. is_asked_as number (asked_at trail k) in
     let all : (k : ℕ) → k < place → p k ≡ false = split (λ k. p k ≡ false) from place (λ k first. smaller (asked_at trail k) last number (passed k first) above) (λ k later before. none_as (asked_at trail k) number (none k later before)) in
     let here : 0 + place ≡ place = omega arith in
     first_in_range p 0 (length trail.deeds.items) place below (λ k less. let there : 0 + k ≡ k = omega arith in ap p there ∙ all k less)
-    (ap p here ∙ asked_so trail place deed below is some number ∙ rw same (is_itself number)) ∙ ap Some here
+    (ap p here ∙ asked_so trail place deed stands some number ∙ rw same (is_itself number)) ∙ ap Some here
 
 -- ---- by a map
 
@@ -151,13 +149,13 @@ one_more p place =
 abbrev pub HasFirstOf : Trail → ℕ → BTreeMap ℕ ℕ → Type 0
 HasFirstOf trail n places = (number : ℕ) → get nat_cmp places number ≡ find (λ place. is_asked_as number (asked_at trail place)) (range_with_len 0 n)
 
-pub first_more : (trail : Trail) (place : ℕ) (deed : Deed) (old new : BTreeMap ℕ ℕ) → place < length trail.deeds.items → deed ≡ get_or trail.deeds.items place deed → is_some (asked_at trail place) ≡ true
+pub first_more : (trail : Trail) (place : ℕ) (deed : Deed) (old new : BTreeMap ℕ ℕ) → slice_get trail.deeds.items place ≡ Some deed → is_some (asked_at trail place) ≡ true
     → ((other : ℕ) → get nat_cmp new other ≡ (if not (is_some (get nat_cmp old (deed_number deed))) && deed_number deed == other then Some place else get nat_cmp old other))
     → HasFirstOf trail place old → HasFirstOf trail (place + 1) new
-first_more trail place deed old new below is some put first number =
+first_more trail place deed old new stands some put first number =
     put number ∙ more_kept (deed_number deed) number place (get nat_cmp old)
     ∙ ap (λ o. option_or o (next_if (deed_number deed == number) place)) (first number)
-    ∙ ap (λ b. option_or (find (λ k. is_asked_as number (asked_at trail k)) (range_with_len 0 place)) (next_if b place)) (sym (asked_so trail place deed below is some number))
+    ∙ ap (λ b. option_or (find (λ k. is_asked_as number (asked_at trail k)) (range_with_len 0 place)) (next_if b place)) (sym (asked_so trail place deed stands some number))
     ∙ sym (one_more (λ k. is_asked_as number (asked_at trail k)) place)
 
 pub first_stays : (trail : Trail) (place : ℕ) (places : BTreeMap ℕ ℕ) → is_some (asked_at trail place) ≡ false → HasFirstOf trail place places → HasFirstOf trail (place + 1) places

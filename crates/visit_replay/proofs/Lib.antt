@@ -26,5 +26,6 @@ pub mod TrailLaws
 pub mod ToldLaws
 pub mod TellLaws
 pub mod BoardLaws
+pub mod KeptDeeds
 pub mod FormerLaws
 pub mod NodesKnown

@@ -16,11 +16,11 @@ use Rattle.visit_replay.specs.Aim.{Aim, acts, place_of_aim, button_of_aim}
 use Rattle.visit_replay.specs.Field.{is_there, text_after, is_on_after, value_before, is_on_before}
 use Rattle.visit_replay.specs.Form.{sent_to, sent_pair, is_post, action_of, pairs_held}
 use Rattle.visit_replay.specs.Requests.{load_request, request_at, event_request, requests_before}
+use Rattle.visit_replay.specs.inside.Deed.{Deed}
 use Rattle.visit_replay.specs.inside.Deeds.{deed_of, text_done, text_behind, is_on_done, is_on_behind, deed_request, requests_from, requests_on}
 use Rattle.visit_replay.specs.inside.OneEvent.{places_numbered}
 use Rattle.visit_replay.specs.inside.Told.{last_asked}
 use Rattle.visit_replay.specs.inside.Trails.{IsTrailOf, asked_at, asked_from}
-use Rattle.visit_replay.specs.declared.deeds.Deed.{Deed}
 use Rattle.visit_replay.specs.declared.trail.Trail.{Trail}
 use Rattle.visit_replay.proofs.Overlay.{value_nowhere, on_nowhere}
 use Rattle.visit_replay.proofs.Places.{taken_here, take_suc, last_at, some_there, some_same, none_is_some}

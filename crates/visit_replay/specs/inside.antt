@@ -2,7 +2,9 @@ pub mod FieldsNow
 pub mod KeptFields
 pub mod OneEvent
 pub mod Senders
+pub mod Deed
 pub mod Deeds
+pub mod KeptDeeds
 pub mod Trails
 pub mod Boards
 pub mod Tellings

@@ -3,16 +3,17 @@ ghost use Rattle.std.specs.Prelude.{ℕ, List, ◌≡◌, ◌<◌, ◌≤◌, tr
 ghost use Rattle.page_tree.specs.Limits.{nodes};
 ghost use Rattle.page_tree.specs.Number.{place_numbered};
 ghost use Rattle.visit_replay.specs.Requests.{link_request};
-ghost use Rattle.visit_replay.specs.declared.deeds.Deed.TheVariants.{Sent};
 ghost use Rattle.visit_replay.specs.declared.told.ToldRequest.TheVariants.{Form};
 ghost use Rattle.visit_replay.specs.inside.Boards.{IsWide, IsOn, IsBefore, IsListedFor};
+ghost use Rattle.visit_replay.specs.inside.Deed.{Sent};
 ghost use Rattle.visit_replay.specs.inside.Deeds.{IsDeedOn, form_asked};
+ghost use Rattle.visit_replay.specs.inside.KeptDeeds.{deed_seen};
 ghost use Rattle.visit_replay.specs.inside.OneEvent.{IsWithin};
 ghost use Rattle.visit_replay.specs.inside.Senders.{AreRight};
 ghost use Rattle.visit_replay.specs.inside.Tellings.{told_request, KnowsFresh};
 ghost use Rattle.visit_replay.specs.inside.Trails.{asked_at};
 
-use crate::deeds::Deed;
+use crate::deeds::SeenDeed;
 use crate::fields::Fields;
 use crate::forms::{self, Filled};
 use crate::page_senders::PageSenders;
@@ -74,7 +75,7 @@ impl<'r> Board<'r> {
     {
         self.rewind(trail, place);
         self.advance(trail, place);
-        self.prepare(&trail.page, &trail.deeds[place]);
+        self.prepare(&trail.page, trail.deeds.seen(place));
     }
 
     // Behind the load again, if it has gone past that place.
@@ -100,26 +101,26 @@ impl<'r> Board<'r> {
         ensures at { self.new.at ≡ place }
         ensures rest { (self.new.nodes ≡ self.old.nodes) × (self.new.names ≡ self.old.names) }
     {
-        self.fields.take_all(&trail.deeds[self.at..place]);
+        self.fields.take_all(&trail.deeds, self.at, place);
         self.at = place;
     }
 
     // Lists what may send something under the form that this deed sends, if any.
-    fn prepare(&mut self, page: &'r Page, deed: &Deed)
+    fn prepare(&mut self, page: &'r Page, deed: SeenDeed<'_>)
         requires wide { IsWide self.old }
         requires few { nodes page.now ≤ self.old.nodes }
-        requires on { IsDeedOn page.now deed.now }
+        requires on { IsDeedOn page.now (deed_seen deed) }
         requires listed { self.old.is_listed ≡ true → AreRight self.old.names.now page.now self.old.senders }
         ensures wide { IsWide self.new }
         ensures listed { self.new.is_listed ≡ true → AreRight self.new.names.now page.now self.new.senders }
-        ensures ready { IsListedFor self.new deed.now }
+        ensures ready { IsListedFor self.new (deed_seen deed.entry) }
         ensures rest { (self.new.nodes ≡ self.old.nodes) × (self.new.names ≡ self.old.names) × (self.new.at ≡ self.old.at)
             × (self.new.fields ≡ self.old.fields) }
     {
         match deed {
-            Deed::Typed { .. } => {}
-            Deed::Clicked { .. } => {}
-            Deed::Sent { form, .. } => self.list(page, *form),
+            SeenDeed::Typed { .. } => {}
+            SeenDeed::Clicked { .. } => {}
+            SeenDeed::Sent { form, .. } => self.list(page, form),
         }
     }
 
@@ -164,13 +165,13 @@ impl<'r> Board<'r> {
         ensures told { option_map told_request result ≡ asked_at trail.now place }
         ensures marked { IfSome result (KnowsFresh self.now.names.now) }
     {
-        match &trail.deeds[place] {
-            Deed::Typed { .. } => None,
-            Deed::Clicked { req: 0, .. } => None,
-            Deed::Clicked { node, req } => link_told(&trail.page, *node, *req),
-            Deed::Sent { req: 0, .. } => None,
-            Deed::Sent { form, button, req } => {
-                Some(ToldRequest::Form(self.form_told(trail, *form, *button, *req)))
+        match trail.deeds.seen(place) {
+            SeenDeed::Typed { .. } => None,
+            SeenDeed::Clicked { req: 0, .. } => None,
+            SeenDeed::Clicked { node, req } => link_told(&trail.page, node, req),
+            SeenDeed::Sent { req: 0, .. } => None,
+            SeenDeed::Sent { form, button, req } => {
+                Some(ToldRequest::Form(self.form_told(trail, form, button, req)))
             }
         }
     }

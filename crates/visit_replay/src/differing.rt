@@ -136,7 +136,11 @@ fn kept_for(own: Trail, marks: &[Option<u32>]) -> Option<Trail>
     ensures within { AreMarks own marks.now → IfSome result (λ kept. AreMarks kept marks.now) }
     ensures told { map (told_marked result) marks.now ≡ map (told_marked (Some own)) marks.now }
 {
-    if is_any_there(marks) { Some(own) } else { None }
+    if is_any_there(marks) {
+        Some(own.fitted())
+    } else {
+        None
+    }
 }
 
 fn is_any_there(marks: &[Option<u32>]) -> bool

@@ -1,5 +1,5 @@
 //! The fields of a page that events have changed so far.
-ghost use Rattle.std.specs.Prelude.{ℕ, List, ◌≡◌, ◌==◌, ◌<◌, ◌≤◌, [], All, Bool, fold, length, IfOk, None, Some, if◌then◌else◌, not, get_or};
+ghost use Rattle.std.specs.Prelude.{ℕ, List, ◌≡◌, ◌==◌, ◌<◌, ◌≤◌, [], All, Bool, take, length, IfOk, None, Some, if◌then◌else◌, not, get_or};
 ghost use Rattle.page_tree.specs.Tree.{Tree};
 ghost use Rattle.page_tree.specs.Limits.{nodes};
 ghost use Rattle.upload_reader.specs.declared.message.Event.{Event as PlainEvent};
@@ -7,8 +7,9 @@ ghost use Rattle.visit_replay.specs.Aim.{Aim};
 ghost use Rattle.visit_replay.specs.inside.KeptFields.{HasRoom, Hold, TakesIn, turned_now};
 ghost use Rattle.visit_replay.specs.inside.OneEvent.{IsNodeOf};
 ghost use Rattle.visit_replay.specs.inside.Deeds.{IsDeedOn, text_behind, is_on_behind, text_done, is_on_done};
+ghost use Rattle.visit_replay.specs.inside.KeptDeeds.{deed_seen};
 
-use crate::deeds::Deed;
+use crate::deeds::{Deeds, SeenDeed};
 use page_tree::{Control, NoMemory, Page};
 use std::alloc::Global;
 use upload_reader::Event;
@@ -72,31 +73,33 @@ impl<'a> Fields<'a> {
         }
     }
 
-    /// Takes in these deeds, one after another.
-    pub(crate) fn take_all(&mut self, deeds: &'a [Deed])
-        ensures held { (page : Tree) (text : List ℕ → List ℕ) (on : List ℕ → Bool) → All (IsDeedOn page) deeds.now
-            → Hold self.old page text on → Hold self.new page (λ place. fold (text_done page place) (text place) deeds.now)
-            (λ place. fold (is_on_done page place) (on place) deeds.now) }
+    /// Takes in deeds from one place up to another, one after another.
+    pub(crate) fn take_all(&mut self, deeds: &'a Deeds, from: usize, to: usize)
+        requires up { from ≤ to }
+        requires there { to ≤ length deeds.now.items }
+        ensures held { (page : Tree) → All (IsDeedOn page) deeds.now.items
+            → Hold self.old page (text_behind page (take from deeds.now.items)) (is_on_behind page (take from deeds.now.items))
+            → Hold self.new page (text_behind page (take to deeds.now.items)) (is_on_behind page (take to deeds.now.items)) }
         ensures room { (length self.new.texts.items ≡ length self.old.texts.items)
             × (length self.new.turned.items ≡ length self.old.turned.items) }
     {
-        for deed in deeds {
-            self.take_in(deed);
+        for place in from..to {
+            self.take_in(deeds.seen(place));
         }
     }
 
     // Takes in one deed more.
-    fn take_in(&mut self, deed: &'a Deed)
-        ensures held { (page : Tree) (text : List ℕ → List ℕ) (on : List ℕ → Bool) → IsDeedOn page deed.now
-            → Hold self.old page text on → Hold self.new page (λ place. text_done page place (text place) deed.now)
-            (λ place. is_on_done page place (on place) deed.now) }
+    fn take_in(&mut self, deed: SeenDeed<'a>)
+        ensures held { (page : Tree) (text : List ℕ → List ℕ) (on : List ℕ → Bool) → IsDeedOn page (deed_seen deed.entry)
+            → Hold self.old page text on → Hold self.new page (λ place. text_done page place (text place) (deed_seen deed.entry))
+            (λ place. is_on_done page place (on place) (deed_seen deed.entry)) }
         ensures room { (length self.new.texts.items ≡ length self.old.texts.items)
             × (length self.new.turned.items ≡ length self.old.turned.items) }
     {
         match deed {
-            Deed::Typed { field, value } => self.type_into(*field, value.as_str()),
-            Deed::Clicked { node, .. } => self.turn(*node),
-            Deed::Sent { .. } => {}
+            SeenDeed::Typed { field, value } => self.type_into(field, value),
+            SeenDeed::Clicked { node, .. } => self.turn(node),
+            SeenDeed::Sent { .. } => {}
         }
     }
 

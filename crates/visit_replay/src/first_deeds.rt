@@ -68,7 +68,7 @@ impl FirstDeeds {
             return None;
         }
         while let Some(place) = trail.asking_from(self.from) {
-            let here = trail.deeds[place].request();
+            let here = trail.deeds.seen(place).request();
             if here > number {
                 return None;
             }
@@ -90,7 +90,7 @@ fn first_by_number(alloc: Global, trail: &Trail) -> Result<BTreeMap<u64, usize>,
     let mut places = BTreeMap::new(alloc);
     for place in 0..trail.deeds.len() {
         if trail.asks(place) {
-            put_first(&mut places, trail.deeds[place].request(), place)?;
+            put_first(&mut places, trail.deeds.seen(place).request(), place)?;
         }
     }
     Ok(places)

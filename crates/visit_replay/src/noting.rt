@@ -1,11 +1,11 @@
 //! What is noted on a trail, and what that asks for.
-ghost use Rattle.std.specs.Prelude.{ℕ, ◌≡◌, ◌≤◌, ◌<◌, ◌++◌, [], ◌∷◌, true, length, IfOk, OnOk, IfSome, is_some, None};
+ghost use Rattle.std.specs.Prelude.{ℕ, ◌≡◌, ◌≤◌, ◌<◌, ◌+◌, ◌^◌, ◌++◌, [], ◌∷◌, true, length, IfOk, OnOk, IfSome, is_some, None};
 ghost use Rattle.page_tree.specs.Limits.{nodes};
 ghost use Rattle.visit_replay.specs.inside.Deeds.{deed_of};
 ghost use Rattle.visit_replay.specs.inside.OneEvent.{IsWithin};
 ghost use Rattle.visit_replay.specs.inside.Trails.{asked_at, asked_from};
 
-use crate::deeds::Deed;
+use crate::deeds::{Deeds, SeenDeed};
 use crate::trail::Trail;
 use page_tree::{NoMemory, Page, Text};
 use std::alloc::Global;
@@ -19,7 +19,7 @@ impl Trail {
         Ok(Trail {
             address: Text::from_str(alloc, address)?,
             page: page.copy()?,
-            deeds: Vec::new(alloc),
+            deeds: Deeds::new(alloc),
         })
     }
 
@@ -36,9 +36,17 @@ impl Trail {
         ensures address { self.new.address ≡ self.old.address }
         ensures page { self.new.page ≡ self.old.page }
     {
-        let deed = Deed::of(event, number, button)?;
-        self.deeds.push(deed)?;
+        self.deeds.push(event, number, button)?;
         Ok(())
+    }
+
+    /// The same, without room for further events.
+    pub(crate) fn fitted(self) -> Trail
+        ensures { result ≡ self }
+    {
+        let mut trail = self;
+        trail.deeds.fit();
+        trail
     }
 
     /// Where the next deed stands, from that place on, which asks for something.
@@ -48,6 +56,7 @@ impl Trail {
             × (asked_from self.now from ≡ asked_from self.now place)) }
         ensures passed { IfSome result (λ place. (k : ℕ) → from ≤ k → k < place → asked_at self.now k ≡ None) }
         ensures asks { IfSome result (λ place. is_some (asked_at self.now place) ≡ true) }
+        ensures next { IfSome result (λ place. place + 1 < 2 ^ 64) }
     {
         for place in from..self.deeds.len() {
             if self.asks(place) {
@@ -62,12 +71,12 @@ impl Trail {
         requires { place < length self.now.deeds.items }
         ensures { result ≡ is_some (asked_at self.now place) }
     {
-        match &self.deeds[place] {
-            Deed::Typed { .. } => false,
-            Deed::Clicked { node, req } => {
-                *req != 0 && self.page.attribute_of(*node, "href").is_some()
+        match self.deeds.seen(place) {
+            SeenDeed::Typed { .. } => false,
+            SeenDeed::Clicked { node, req } => {
+                req != 0 && self.page.attribute_of(node, "href").is_some()
             }
-            Deed::Sent { req, .. } => *req != 0,
+            SeenDeed::Sent { req, .. } => req != 0,
         }
     }
 }

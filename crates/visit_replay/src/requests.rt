@@ -85,7 +85,9 @@ impl Requests {
         ensures made { (aim : PlainEvent → Aim) (visit : Visit) (new : Tree) (n : ℕ) → IsTrailOf aim visit new n trail
             → result ≡ requests_before aim visit.address new visit.events n }
     {
-        Requests { trail: Some(trail) }
+        Requests {
+            trail: Some(trail.fitted()),
+        }
     }
 
     /// With their whole texts, which may be long.

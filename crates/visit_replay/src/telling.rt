@@ -87,6 +87,7 @@ impl<'r> RequestTelling<'r> {
         let Some(trail) = self.trail else {
             return false;
         };
+        trail.deeds.within_memory();
         let from = match self.stage {
             Stage::Before => {
                 self.stage = Stage::AtLoad;

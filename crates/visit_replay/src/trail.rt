@@ -3,7 +3,7 @@ ghost use Rattle.std.specs.Prelude.{All};
 ghost use Rattle.std.proofs.Props.{props};
 ghost use Rattle.visit_replay.specs.inside.Deeds.{IsDeedOn};
 
-use crate::deeds::Deed;
+use crate::deeds::Deeds;
 use page_tree::{Page, Text};
 
 /// A visit's address, the page that it was replayed on, whose table is shared, and what it did there.
@@ -11,6 +11,6 @@ use page_tree::{Page, Text};
 pub(crate) struct Trail {
     pub(crate) address: Text,
     pub(crate) page: Page,
-    pub(crate) deeds: Vec<Deed>,
+    pub(crate) deeds: Deeds,
     ghost within: { All (IsDeedOn page) deeds.items } by { Prim.hlevel props },
 }

@@ -4,10 +4,9 @@ use Rattle.page_tree.specs.Tree.{Tree}
 use Rattle.page_tree.specs.Limits.{nodes}
 use Rattle.visit_replay.specs.inside.KeptFields.{Hold}
 use Rattle.visit_replay.specs.inside.Senders.{AreRight, HasPlaces}
+use Rattle.visit_replay.specs.inside.Deed.{Deed, Sent}
 use Rattle.visit_replay.specs.inside.Deeds.{text_behind, is_on_behind}
 use Rattle.visit_replay.specs.declared.board.Board.{Board}
-use Rattle.visit_replay.specs.declared.deeds.Deed.{Deed}
-use Rattle.visit_replay.specs.declared.deeds.Deed.TheVariants.{Sent}
 use Rattle.visit_replay.specs.declared.trail.Trail.{Trail}
 
 -- it has room for pages of so many nodes

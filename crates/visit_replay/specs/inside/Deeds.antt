@@ -11,10 +11,9 @@ use Rattle.upload_reader.specs.declared.message.Event.{Event}
 use Rattle.upload_reader.specs.declared.message.Event.TheVariants.{Input, Click, Submit}
 use Rattle.visit_replay.specs.Form.{sent_to, is_post, action_of, pairs_held}
 use Rattle.visit_replay.specs.Requests.{load_request, link_request}
+use Rattle.visit_replay.specs.inside.Deed.{Deed, Typed, Clicked, Sent}
 use Rattle.visit_replay.specs.inside.OneEvent.{IsWithin, places_numbered}
 use Rattle.visit_replay.specs.declared.requests.Request.{Request}
-use Rattle.visit_replay.specs.declared.deeds.Deed.{Deed}
-use Rattle.visit_replay.specs.declared.deeds.Deed.TheVariants.{Typed, Clicked, Sent}
 
 -- ---- deeds
 

@@ -1,8 +1,9 @@
-use Rattle.std.proofs.Common.{◌≡◌, Some, take, slice_get, IfSome, subst, sym, ap, ◌∙◌, arith}
-use Rattle.std.proofs.lemmas.Option.{slice_get-get_or}
+use Rattle.std.proofs.Common.{take, IfSome, subst, sym, ◌∙◌, arith}
 use Rattle.visit_replay.specs.inside.Boards.{IsListedFor}
 use Rattle.visit_replay.specs.inside.Deeds.{text_behind, is_on_behind}
+use Rattle.visit_replay.specs.inside.KeptDeeds.{deed_seen}
 use Rattle.visit_replay.specs.inside.KeptFields.{Hold}
+use Rattle.visit_replay.proofs.BoardLaws.{deed_on}
 use Rattle.visit_replay.proofs.board.Board.go_to.Goals as goal
 
 pub returns-clause-before : goal.returns-clause-before
@@ -13,8 +14,6 @@ returns-clause-before c =
     let new = c.prepare.new.self in
     let on = c.advance.ensures.on in
     let rest = c.prepare.ensures.rest in
-    let deed = c.index.result.now in
-    let here : slice_get deeds c.args.place ≡ Some deed = slice_get-get_or deeds c.args.place deed c.requires.there ∙ ap Some (sym c.index.ensures) in
     record {
       on = record {
         wide = c.prepare.ensures.wide;
@@ -26,5 +25,10 @@ returns-clause-before c =
       };
       at = rest.2 ∙ c.advance.ensures.at;
       there = c.requires.there;
-      ready = subst (λ o. IfSome o (IsListedFor new)) (sym here) c.prepare.ensures.ready;
+      ready = subst (λ o. IfSome o (IsListedFor new)) (sym c.seen.ensures) c.prepare.ensures.ready;
     }
+
+pub prepare-requires-clause-on : goal.prepare-requires-clause-on
+prepare-requires-clause-on c =
+    let trail = c.args.trail.now in
+    deed_on trail.page trail.deeds.items c.args.place (deed_seen c.seen.result) trail.within c.requires.there c.seen.ensures

@@ -10,6 +10,6 @@ returns-in-None c =
     let last = c.in_ok-last.last in
     let less = c.in_ok-last.ensures.1 in
     let some = c.in_ok-last.ensures.0 in
-    let here : last ≡ length items - 1 = omega (arith, less, c.len.ensures, trail.deeds.ok.0) in
-    let below : last < length items = omega (arith, less, some, c.len.ensures, trail.deeds.ok.0) in
+    let here : last ≡ length items - 1 = omega (arith, less, c.len.ensures) in
+    let below : last < length items = omega (arith, less, some, c.len.ensures) in
     sym (ap (asked_at trail) (sym here) ∙ last_none trail last below (c.asking_from.ensures.none c.in-None.is))
