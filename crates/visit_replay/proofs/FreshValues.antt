@@ -31,7 +31,7 @@ use Rattle.visit_replay.proofs.LeftBehind.{joined, joined_first}
 not_ampersand : (b : ℕ) → IsSerializedByte b → b ≢ 38
 not_ampersand b is = ⊎_elim (λ kept. λ e. grind (arith, nat_tests)) (λ other. λ e. grind arith) is.allowed
 
-not_equals : (b : ℕ) → IsSerializedByte b → b ≢ 61
+pub not_equals : (b : ℕ) → IsSerializedByte b → b ≢ 61
 not_equals b is = ⊎_elim (λ kept. λ e. grind (arith, nat_tests)) (λ other. λ e. grind arith) is.allowed
 
 not_hash : (b : ℕ) → IsSerializedByte b → b ≢ 35
@@ -62,7 +62,7 @@ no_ampersand pair = pair_is (λ b. (b == 38) ≡ false) (λ b is. ne_eqb b 38 (n
 
 -- ---- a pair, and its name
 
-name_of : (name value : List ℕ) → before_first (λ c. c == 61) (serialize_pair (name, value)) ≡ byte_serialize name
+pub name_of : (name value : List ℕ) → before_first (λ c. c == 61) (serialize_pair (name, value)) ≡ byte_serialize name
 name_of name value =
     ap (before_first (λ c. c == 61)) (append_assoc (byte_serialize name) (61 ∷ []) (byte_serialize value))
     ∙ split_once_before_at 61 (byte_serialize name) (byte_serialize value) (All-weaker IsSerializedByte (λ b. b ≢ 61) not_equals (byte_serialize name) (All-byte_serialize name))
@@ -77,7 +77,7 @@ none_left_out (pair ∷ rest) = ap (λ l. pair ∷ l) (none_left_out rest)
 
 -- ---- pairs that count
 
-parts : (pair : Pair) (pairs : List Pair) → slice_split (λ c. c == 38) (joined [] (pair ∷ pairs)) ≡ map serialize_pair (pair ∷ pairs)
+pub parts : (pair : Pair) (pairs : List Pair) → slice_split (λ c. c == 38) (joined [] (pair ∷ pairs)) ≡ map serialize_pair (pair ∷ pairs)
 parts pair [] = ap (slice_split (λ c. c == 38)) (append-nil (serialize_pair pair)) ∙ slice_split_none (λ c. c == 38) (serialize_pair pair) (no_ampersand pair)
 parts pair (next ∷ pairs) =
     slice_split_at (λ c. c == 38) (serialize_pair pair) 38 (joined [] (next ∷ pairs)) (no_ampersand pair) refl ∙ ap (λ l. serialize_pair pair ∷ l) (parts next pairs)

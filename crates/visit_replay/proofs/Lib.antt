@@ -29,3 +29,4 @@ pub mod BoardLaws
 pub mod KeptDeeds
 pub mod FormerLaws
 pub mod NodesKnown
+pub mod ApartForms

@@ -4,6 +4,7 @@ ghost use Rattle.upload_reader.specs.Session.{request_of};
 ghost use Rattle.visit_replay.specs.Aim.{by_path};
 ghost use Rattle.visit_replay.specs.Difference.{are_alike, difference, was_asked, was_other, asks_now};
 ghost use Rattle.visit_replay.specs.declared.difference.Contrast.TheVariants.{Changed};
+ghost use Rattle.visit_replay.specs.declared.told.ToldRequest.TheVariants.{Form};
 ghost use Rattle.visit_replay.specs.inside.Boards.{IsOn};
 ghost use Rattle.visit_replay.specs.inside.Deeds.{requests_on};
 ghost use Rattle.visit_replay.specs.inside.Differing.{AreCompared, AreLookedUp, KnowsInputs, KnowsPaths, other_by};
@@ -29,7 +30,7 @@ use crate::passing::passing_over;
 use crate::repaired_page::RepairedPage;
 use crate::requests::Requests;
 use crate::single::Single;
-use crate::told::{ToldRequest, are_sent_alike};
+use crate::told::{ToldForm, ToldRequest, are_pairs_alike};
 use crate::trail::Trail;
 use client_log::Visit;
 use page_looks::FreshNames;
@@ -315,8 +316,8 @@ fn as_mark(place: usize) -> Result<u32, NoMemory>
     }
 }
 
-// Whether both ask for the same, but for the values of fresh names. Links are compared by their addresses, and what forms send pair by pair; only where that
-// differs both are made, without these values.
+// Whether both ask for the same, but for the values of fresh names. Links are compared by their addresses, and forms by what they send, pair by pair. Others are made,
+// without these values: no visit has such ones, since an event asks by links alone or by forms, and by the forms' one method, or has changed (K11).
 fn is_alike(
     alloc: Global,
     fresh: &[Text],
@@ -342,13 +343,41 @@ fn is_alike(
             Ok(!apart)
         }
         (ToldRequest::Form(before), ToldRequest::Form(now)) => {
-            if are_sent_alike(alloc, before, now)? {
-                return Ok(true);
+            match are_submits_alike(alloc, fresh, before, now, compared)? {
+                Some(alike) => Ok(alike),
+                None => are_made_alike(alloc, fresh, was, is, compared),
             }
-            are_made_alike(alloc, fresh, was, is, compared)
         }
         _ => are_made_alike(alloc, fresh, was, is, compared),
     }
+}
+
+// The same of two forms, but where they send the same and one of them alone is posted.
+fn are_submits_alike(
+    alloc: Global,
+    fresh: &[Text],
+    was: &ToldForm<'_>,
+    is: &ToldForm<'_>,
+    compared: &mut Comparisons,
+) -> Result<Option<bool>, NoMemory>
+    requires was { KnowsFresh fresh.now (Form was.now) }
+    requires is { KnowsFresh fresh.now (Form is.now) }
+    requires known { AreCompared fresh.now compared.old.all.items }
+    ensures known { OnOk result (AreCompared fresh.now compared.new.all.items) }
+    ensures alike { IfOk result (λ told. IfSome told
+        (λ alike. alike ≡ are_alike fresh.now (told_request (Form was.now)) (told_request (Form is.now)))) }
+{
+    if !are_pairs_alike(alloc, &was.pairs, &is.pairs)? {
+        return Ok(Some(false));
+    }
+    if was.post != is.post {
+        return Ok(None);
+    }
+    if was.post {
+        let apart = compared.differ(alloc, fresh, was.action, is.action)?;
+        return Ok(Some(!apart));
+    }
+    Ok(Some(was.goes_with(is)))
 }
 
 // The same, where both are made without these values.

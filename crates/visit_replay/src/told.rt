@@ -1,12 +1,12 @@
 //! Requests as they are told: by what is on the page and what was typed there, not as texts of their own.
-ghost use Rattle.std.specs.Prelude.{ℕ, List, ◌≡◌, ◌≤◌, ◌<◌, [], ◌++◌, All, true, None, is_some, if◌then◌else◌, length, drop, slice_get, IfOk, IsTrue, codes, option_map, option_and_then};
-ghost use Rattle.form_urlencoded.specs.Form.{extend_pairs};
-ghost use Rattle.visit_replay.specs.Difference.{are_alike};
+ghost use Rattle.std.specs.Prelude.{ℕ, List, ◌≡◌, ◌≢◌, ◌≤◌, ◌<◌, [], ◌++◌, All, true, None, is_some, if◌then◌else◌, length, drop, slice_get, IfOk, IsTrue, IsFalse, codes, option_map, option_and_then};
+ghost use Rattle.std.specs.Str.{bytes_eq};
+ghost use Rattle.form_urlencoded.specs.Form.{byte_serialize, extend_pairs, serialize_pair};
 ghost use Rattle.visit_replay.specs.Form.{bare, sent_to};
 ghost use Rattle.visit_replay.specs.declared.told.ToldRequest.TheVariants.{Form};
 ghost use Rattle.visit_replay.specs.inside.FieldsNow.{pair_of, told, value_sent};
 ghost use Rattle.visit_replay.specs.inside.Senders.{SaysCounted, SaysFresh, sent_all};
-ghost use Rattle.visit_replay.specs.inside.Tellings.{counted_told, pair_told, pairs_told, told_request, told_counted, KnowsFresh};
+ghost use Rattle.visit_replay.specs.inside.Tellings.{counted_told, encoded_told, pair_told, pairs_told, told_request, told_counted, KnowsFresh};
 
 use crate::address::bare;
 use crate::forms::{SentPair, SentValue, encoded, sent_by, whole};
@@ -99,6 +99,17 @@ impl<'w> ToldForm<'w> {
         } else {
             bare(self.action)
         }
+    }
+
+    // Whether both go there. Nothing is looked for in two actions that are equal.
+    pub(crate) fn goes_with(&self, other: &ToldForm<'_>) -> bool
+        ensures { result ≡ bytes_eq (if self.now.post then self.now.action.now else bare self.now.action.now)
+            (if other.now.post then other.now.action.now else bare other.now.action.now) }
+    {
+        if self.post == other.post && self.action == other.action {
+            return true;
+        }
+        self.start() == other.start()
     }
 }
 
@@ -200,25 +211,18 @@ fn bare_request(
     })
 }
 
-/// Whether two forms send the same to one place, in the same way. Pairs of fresh names are passed over.
-pub(crate) fn are_sent_alike(
+/// Whether two forms send the same, but for the pairs of fresh names.
+pub(crate) fn are_pairs_alike(
     alloc: Global,
-    was: &ToldForm<'_>,
-    is: &ToldForm<'_>,
+    was: &SentPairs<'_>,
+    is: &SentPairs<'_>,
 ) -> Result<bool, NoMemory>
-    ensures { IfOk result (λ alike. IsTrue alike → (names : List (List ℕ)) → KnowsFresh names (Form was.now)
-        → KnowsFresh names (Form is.now) → are_alike names (told_request (Form was.now)) (told_request (Form is.now)) ≡ true) }
-{
-    if was.post != is.post || was.start() != is.start() {
-        return Ok(false);
-    }
-    are_pairs_alike(alloc, &was.pairs, &is.pairs)
-}
-
-fn are_pairs_alike(alloc: Global, was: &SentPairs<'_>, is: &SentPairs<'_>) -> Result<bool, NoMemory>
-    ensures { IfOk result (λ alike. IsTrue alike → (names : List (List ℕ)) → All (SaysFresh names) was.now.senders.now
-        → All (SaysFresh names) is.now.senders.now
+    ensures alike { IfOk result (λ alike. IsTrue alike
+        → (names : List (List ℕ)) → All (SaysFresh names) was.now.senders.now → All (SaysFresh names) is.now.senders.now
         → told true names (pairs_told was.now) ≡ told true names (pairs_told is.now)) }
+    ensures apart { IfOk result (λ alike. IsFalse alike
+        → (names : List (List ℕ)) → All (SaysFresh names) was.now.senders.now → All (SaysFresh names) is.now.senders.now
+        → encoded_told names was.now ≢ encoded_told names is.now) }
 {
     let mut at = 0;
     for place in 0..was.places() {
@@ -229,7 +233,7 @@ fn are_pairs_alike(alloc: Global, was: &SentPairs<'_>, is: &SentPairs<'_>) -> Re
         let Some(now) = is.counted_at(at) else {
             return Ok(false);
         };
-        if before.name != now.name || !are_values_same(alloc, before.value, now.value)? {
+        if !are_same(alloc, &before, &now)? {
             return Ok(false);
         }
         at += 1;
@@ -237,13 +241,40 @@ fn are_pairs_alike(alloc: Global, was: &SentPairs<'_>, is: &SentPairs<'_>) -> Re
     Ok(is.next_counted(at) == is.places())
 }
 
+fn are_same(alloc: Global, was: &SentPair<'_>, is: &SentPair<'_>) -> Result<bool, NoMemory>
+    ensures same { IfOk result (λ same. IsTrue same → pair_of was.now ≡ pair_of is.now) }
+    ensures apart { IfOk result (λ same. IsFalse same
+        → serialize_pair (pair_of was.now) ≢ serialize_pair (pair_of is.now)) }
+{
+    if !are_words_same(was.name, is.name) {
+        return Ok(false);
+    }
+    are_values_same(alloc, was.value, is.value)
+}
+
 fn are_values_same(alloc: Global, was: SentValue<'_>, is: SentValue<'_>) -> Result<bool, NoMemory>
-    ensures { IfOk result (λ same. IsTrue same → value_sent was.entry ≡ value_sent is.entry) }
+    ensures same { IfOk result (λ same. IsTrue same → value_sent was.entry ≡ value_sent is.entry) }
+    ensures apart { IfOk result (λ same. IsFalse same
+        → byte_serialize (value_sent was.entry) ≢ byte_serialize (value_sent is.entry)) }
 {
     if let (SentValue::Text(was), SentValue::Text(is)) = (was, is) {
-        return Ok(was == is);
+        return Ok(are_words_same(was, is));
     }
     let was = whole(alloc, was)?;
     let is = whole(alloc, is)?;
-    Ok(was.as_str() == is.as_str())
+    Ok(are_words_same(was.as_str(), is.as_str()))
+}
+
+// Words that differ are written as others.
+fn are_words_same(was: &str, is: &str) -> bool
+    ensures same { IsTrue result → was.now ≡ is.now }
+    ensures apart { IsFalse result → byte_serialize was.now ≢ byte_serialize is.now }
+{
+    is_word(was, is)
+}
+
+fn is_word(was: &str, is: &str) -> bool
+    ensures { result ≡ bytes_eq was.now is.now }
+{
+    was == is
 }

@@ -1,6 +1,6 @@
 -- Requests as they are told: what each told one is, and which are still to be told.
-use Rattle.std.specs.Prelude.{ℕ, List, [], All, true, if◌then◌else◌, Option, None}
-use Rattle.form_urlencoded.specs.Form.{extend_pairs}
+use Rattle.std.specs.Prelude.{ℕ, List, [], All, map, true, if◌then◌else◌, Option, None}
+use Rattle.form_urlencoded.specs.Form.{extend_pairs, serialize_pair}
 use Rattle.visit_replay.specs.Form.{Pair, sent_to}
 use Rattle.visit_replay.specs.Requests.{load_request}
 use Rattle.visit_replay.specs.inside.FieldsNow.{pair_now, told}
@@ -23,6 +23,10 @@ pairs_told pairs = sent_all pairs.filled pairs.senders.now
 -- of those that count, whose names aren't fresh
 abbrev pub counted_told : SentPairs → Sender → Option Pair
 counted_told pairs sender = if sender.is_fresh then None else pair_told pairs sender
+
+-- the same, each as it is written, without the pairs of these names
+abbrev pub encoded_told : List (List ℕ) → SentPairs → List (List ℕ)
+encoded_told names pairs = map serialize_pair (told true names (pairs_told pairs))
 
 -- the request that is told
 abbrev pub told_request : ToldRequest → Request
