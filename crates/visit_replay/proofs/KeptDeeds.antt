@@ -8,7 +8,7 @@ use lib.ListN.{get_or-append}
 use Rattle.page_tree.specs.inside.Cuts.{IsCut}
 use Rattle.page_tree.proofs.Cutting.{cut_added}
 use Rattle.visit_replay.specs.inside.Deed.{Typed, Sent}
-use Rattle.visit_replay.specs.inside.KeptDeeds.{no_submit, deed_kept, IsKept}
+use Rattle.visit_replay.specs.inside.KeptDeeds.{no_submit, deed_kept, IsBacked}
 use Rattle.visit_replay.specs.declared.deeds.KeptDeed.{KeptDeed}
 use Rattle.visit_replay.specs.declared.deeds.KeptDeed.TheVariants as kept
 use Rattle.visit_replay.specs.declared.deeds.Submit.{Submit}
@@ -36,23 +36,23 @@ part_added typed text valid =
     (ap (λ texts. get_or texts 0 []) same, are.0)
 
 module _ (typed text : List ℕ) (submits : List Submit) (valid : IsUtf8 text) where
-  stays : (d : KeptDeed) → IsKept typed submits d → (deed_kept (typed ++ text) submits d ≡ deed_kept typed submits d) × IsKept (typed ++ text) submits d
+  stays : (d : KeptDeed) → IsBacked typed submits d → (deed_kept (typed ++ text) submits d ≡ deed_kept typed submits d) × IsBacked (typed ++ text) submits d
   stays (kept.Typed field start end) is = let (same, still) = part_stays typed text start end valid is in (ap (Typed field) same, still)
   stays (kept.Clicked node req) is = (refl, tt)
   stays (kept.Sent form at) is = (refl, is)
 
-  pub typed_added : (ds : List KeptDeed) (field start end : ℕ) → start ≡ length typed → end ≡ length (typed ++ text) → All (IsKept typed submits) ds
+  pub typed_added : (ds : List KeptDeed) (field start end : ℕ) → start ≡ length typed → end ≡ length (typed ++ text) → All (IsBacked typed submits) ds
       → (map (deed_kept (typed ++ text) submits) (ds ++ kept.Typed field start end ∷ []) ≡ map (deed_kept typed submits) ds ++ Typed field text ∷ [])
-      × All (IsKept (typed ++ text) submits) (ds ++ kept.Typed field start end ∷ [])
+      × All (IsBacked (typed ++ text) submits) (ds ++ kept.Typed field start end ∷ [])
   typed_added ds field start end starts ends are =
       let (same, is) = part_added typed text valid in
-      let P : KeptDeed → Type 0 = IsKept (typed ++ text) submits in
+      let P : KeptDeed → Type 0 = IsBacked (typed ++ text) submits in
       let one : KeptDeed = kept.Typed field start end in
       let here : P one = rw (starts, ends) is in
       let there : deed_kept (typed ++ text) submits one ≡ Typed field text = rw (starts, ends) (ap (Typed field) same) in (
         map-append (deed_kept (typed ++ text) submits) ds (one ∷ [])
-            ∙ ap₂ (λ front last. front ++ last ∷ []) (same_mapped (deed_kept (typed ++ text) submits) (deed_kept typed submits) (IsKept typed submits) (λ d is. (stays d is).0) ds are) there,
-        All-append P ds (one ∷ []) (all_mapped (IsKept typed submits) P (λ d is. (stays d is).1) ds are) (All-cons P one [] here (All-nil P)),
+            ∙ ap₂ (λ front last. front ++ last ∷ []) (same_mapped (deed_kept (typed ++ text) submits) (deed_kept typed submits) (IsBacked typed submits) (λ d is. (stays d is).0) ds are) there,
+        All-append P ds (one ∷ []) (all_mapped (IsBacked typed submits) P (λ d is. (stays d is).1) ds are) (All-cons P one [] here (All-nil P)),
       )
 
 -- ---- a submit more
@@ -65,14 +65,14 @@ module _ (typed : List ℕ) (submits : List Submit) (button : Option ℕ) (req :
   last_read [] x d = refl
   last_read (y ∷ xs) x d = last_read xs x d
 
-  unchanged : (d : KeptDeed) → IsKept typed submits d → deed_kept typed more d ≡ deed_kept typed submits d
+  unchanged : (d : KeptDeed) → IsBacked typed submits d → deed_kept typed more d ≡ deed_kept typed submits d
   unchanged (kept.Typed field start end) is = refl
   unchanged (kept.Clicked node req) is = refl
   unchanged (kept.Sent form at) is = ap (λ s. Sent form s.button s.req) (get_or-append submits (record { button = button; req = req } ∷ []) no_submit at is)
 
-  pub sent_added : (ds : List KeptDeed) (form at : ℕ) → at ≡ length submits → All (IsKept typed submits) ds
+  pub sent_added : (ds : List KeptDeed) (form at : ℕ) → at ≡ length submits → All (IsBacked typed submits) ds
       → map (deed_kept typed (submits ++ record { button = button; req = req } ∷ [])) (ds ++ kept.Sent form at ∷ []) ≡ map (deed_kept typed submits) ds ++ Sent form button req ∷ []
   sent_added ds form at here are =
       map-append (deed_kept typed more) ds (kept.Sent form at ∷ [])
-      ∙ ap₂ (λ front last. front ++ last ∷ []) (same_mapped (deed_kept typed more) (deed_kept typed submits) (IsKept typed submits) unchanged ds are)
+      ∙ ap₂ (λ front last. front ++ last ∷ []) (same_mapped (deed_kept typed more) (deed_kept typed submits) (IsBacked typed submits) unchanged ds are)
       (ap (λ n. let s = get_or more n no_submit in Sent form s.button s.req) here ∙ ap (λ s. Sent form s.button s.req) (last_read submits (record { button = button; req = req }) no_submit))

@@ -75,11 +75,11 @@ impl Model for Deeds {
 
     ghost Value = { DeedList };
 
-    ghost use Rattle.visit_replay.specs.inside.KeptDeeds.{deed_kept, IsKept};
+    ghost use Rattle.visit_replay.specs.inside.KeptDeeds.{deed_kept, IsBacked};
 
     ghost view = { λ d. record { items = map (deed_kept (string_bytes d.typed) d.submits.items) d.kept.items } };
 
-    ghost invariant = { λ d. All (IsKept (string_bytes d.typed) d.submits.items) d.kept.items };
+    ghost invariant = { λ d. All (IsBacked (string_bytes d.typed) d.submits.items) d.kept.items };
 }
 
 impl Deeds {

@@ -25,7 +25,7 @@ deed_kept typed submits (kept.Sent form at) =
     let submit = get_or submits at no_submit in Sent form submit.button submit.req
 
 -- what it needs besides is there
-abbrev pub IsKept : List ℕ → List Submit → KeptDeed → Type 0
-IsKept typed submits (kept.Typed field start end) = IsCut typed start end
-IsKept typed submits (kept.Clicked node req) = Unit {0}
-IsKept typed submits (kept.Sent form at) = at < length submits
+abbrev pub IsBacked : List ℕ → List Submit → KeptDeed → Type 0
+IsBacked typed submits (kept.Typed field start end) = IsCut typed start end
+IsBacked typed submits (kept.Clicked node req) = Unit {0}
+IsBacked typed submits (kept.Sent form at) = at < length submits
