@@ -1,22 +1,18 @@
 -- What all visits give, given back client by client.
-use Rattle.std.proofs.Common.{◌≡◌, ℕ, ◌+◌, ◌<◌, List, [], ◌∷◌, ◌++◌, length, map, take, drop, get_or, flat_map, Option, refl, sym, ap, ◌∙◌, arith, append_assoc}
+use Rattle.std.proofs.Common.{◌≡◌, ℕ, ◌+◌, ◌<◌, List, [], ◌∷◌, ◌++◌, length, map, zip, take, drop, get_or, flat_map, Option, refl, sym, ap, ◌∙◌, arith, append_assoc}
 use Rattle.std.proofs.Math.Seq.{take-append_seam}
 use Rattle.std.proofs.lemmas.List.{map-append, length-map, drop_more}
 use Rattle.std.specs.Borrow.{Bor}
 use Rattle.client_log.specs.declared.visit.Visit.{Visit}
-use Rattle.visit_replay.specs.Following.{behind_parents, outcomes}
+use Rattle.visit_replay.specs.Following.{Replayed, behind_parents, outcomes}
 use Rattle.visit_replay.specs.Outcome.{outcome}
 use Rattle.visit_replay.specs.RepairedSite.{RepairedSite}
 use Rattle.visit_replay.specs.declared.outcome.Outcome.{Outcome}
 use Rattle.page_tree.specs.Tree.{Tree}
 use Rattle.replay_workers.specs.Work.{with_own_page, own_outcomes, own_page_outcomes, outcomes_with_own}
 use Rattle.replay_workers.specs.declared.pool.KeptVisits.{KeptVisits}
-use Rattle.replay_workers.specs.inside.Clients.{own_pages_of, visits_of_all, followed, follow_all}
+use Rattle.replay_workers.specs.inside.Clients.{own_pages_of, visits_of_all, parts_of_all, followed, follow_all}
 use Rattle.replay_workers.proofs.Placing.{zip_own}
-
--- with what is followed of the others, it comes to what is followed of all
-abbrev pub IsGivenTo : Option (List (List ℕ)) → List (Bor (List Visit)) → List (Bor (List Visit)) → List Outcome → List Outcome → List (List Outcome) → Type 0
-IsGivenTo same clients others own rest all = all ++ follow_all same others rest ≡ follow_all same clients own
 
 pub drop_here : {A : Type 0} (xs : List A) (i : ℕ) (x : A) → i < length xs → x ≡ get_or xs i x → drop i xs ≡ x ∷ drop (i + 1) xs
 drop_here xs i x below is = drop_more xs i x below ∙ ap (λ y. y ∷ drop (i + 1) xs) (sym is)
@@ -26,15 +22,14 @@ drop_front [] ys = refl
 drop_front (x ∷ xs) ys = drop_front xs ys
 
 -- one client more
-pub one_given : (same : Option (List (List ℕ))) (clients others : List (Bor (List Visit))) (visits : Bor (List Visit)) (own front rest next one : List Outcome) (all : List (List Outcome))
-    → IsGivenTo same clients (visits ∷ others) own rest all → length front ≡ length visits.now → front ++ next ≡ rest
-    → one ≡ followed same visits.now front → IsGivenTo same clients others own next (all ++ one ∷ [])
-one_given same clients others visits own front rest next one all before size split is =
+pub one_cut : (others : List (Bor (List Visit))) (visits : Bor (List Visit)) (front rest next : List Outcome) (parts whole : List (List Replayed))
+    → parts ++ parts_of_all (visits ∷ others) rest ≡ whole → length front ≡ length visits.now → front ++ next ≡ rest
+    → (parts ++ zip visits.now front ∷ []) ++ parts_of_all others next ≡ whole
+one_cut others visits front rest next parts whole before size split =
     let first : take (length visits.now) rest ≡ front = rw (← split, ← size) (take-append_seam front next) in
     let behind : drop (length visits.now) rest ≡ next = rw (← split, ← size) (drop_front front next) in
-    append_assoc all (one ∷ []) (follow_all same others next)
-    ∙ ap (λ tail. all ++ tail)
-    (ap (λ o. o ∷ follow_all same others next) (is ∙ ap (followed same visits.now) (sym first)) ∙ ap (λ more. followed same visits.now (take (length visits.now) rest) ∷ follow_all same others more) (sym behind))
+    append_assoc parts (zip visits.now front ∷ []) (parts_of_all others next)
+    ∙ ap (λ tail. parts ++ tail) (ap (λ own. zip visits.now own ∷ parts_of_all others next) (sym first) ∙ ap (λ more. zip visits.now (take (length visits.now) rest) ∷ parts_of_all others more) (sym behind))
     ∙ before
 
 -- what all clients' visits give by themselves, cut by client
@@ -67,7 +62,7 @@ module _ (site : RepairedSite) (own_page : List ℕ → ℕ → Option Tree) whe
   one_followed : (client : List ℕ) (visits : List Visit) (kept : List (Bor (List Visit))) (pages : List (Option Tree)) (outs : List Outcome) (all : List (List Outcome))
       → outs ≡ own_page_outcomes site (own_pages_of own_page client visits ++ pages) (visits ++ visits_of_all kept)
       → follow_all site.same kept (own_page_outcomes site pages (visits_of_all kept)) ≡ all
-      → followed site.same visits (take (length visits) outs) ∷ follow_all site.same kept (drop (length visits) outs) ≡ outcomes_with_own site own_page client visits ∷ all
+      → followed site.same (zip visits (take (length visits) outs)) ∷ follow_all site.same kept (drop (length visits) outs) ≡ outcomes_with_own site own_page client visits ∷ all
   one_followed client visits kept pages outs all is others =
       let own = map (on_own client) visits in
       let more = own_page_outcomes site pages (visits_of_all kept) in

@@ -6,5 +6,6 @@ pub mod Working
 pub mod OwnPages
 pub mod Placing
 pub mod ByClient
+pub mod HandLists
 pub mod Named
 pub mod Ordering

@@ -3,13 +3,14 @@ ghost use Rattle.std.specs.Prelude.{◌≡◌, ◌≤◌, ◌++◌, length, map,
 ghost use Rattle.std.specs.List.{flat_map};
 ghost use Rattle.std.specs.Vec.Iter.{into_iter_items};
 ghost use Rattle.own_pages.specs.OwnPages.{own_page_at};
-ghost use Rattle.replay_workers.specs.inside.Clients.{plain_page, own_pages_of, visits_of_all, follow_all};
+ghost use Rattle.replay_workers.specs.inside.Clients.{plain_page, own_pages_of, visits_of_all, parts_of_all, followed};
 
 use crate::pool::KeptVisits;
 use client_log::Visit;
 use own_pages::OwnPages;
 use page_tree::Page;
 use std::alloc::{AllocError, Global};
+use std::marker::Model;
 use std::vec::IntoIter;
 use visit_replay::{Finding, Outcome, follow_parents};
 
@@ -84,23 +85,54 @@ fn add_pages<'a>(
     Ok(())
 }
 
-/// What each client's visits give behind their parents, by what all give by themselves.
-pub(crate) fn follow_each(
-    alloc: Global,
-    finding: &Finding,
-    clients: &[&[Visit]],
+/// A client's visits, and what each gives by itself. Contracts see each visit with that.
+#[derive(Drop)]
+pub(crate) struct ClientPart<'a> {
+    visits: &'a [Visit],
     own: Vec<Outcome>,
-) -> Result<Vec<Vec<Outcome>>, AllocError>
+}
+
+impl<'a> Model for ClientPart<'a> {
+    ghost use Rattle.std.specs.Prelude.{◌≡◌, List, length, zip};
+    ghost use Rattle.std.specs.Coded.{codes};
+    ghost use Rattle.page_tree.specs.contracts.page.Page as pages;
+    ghost use Rattle.visit_replay.specs.Following.{Replayed};
+
+    ghost Value = { List Replayed };
+
+    ghost coded = { Prim.hlevel (codes, pages.the_row.coded) };
+
+    ghost view = { λ p. zip p.visits.now p.own.items };
+
+    ghost invariant = { λ p. length p.own.items ≡ length p.visits.now };
+}
+
+impl<'a> ClientPart<'a> {
+    /// What they give behind their parents.
+    pub(crate) fn follow(self, alloc: Global, finding: &Finding) -> Result<Vec<Outcome>, AllocError>
+        ensures { IfOk result (λ all. all.items ≡ followed finding.now self.entry) }
+    {
+        let Self { visits, own } = self;
+        follow_parents(alloc, finding, visits, own)
+    }
+}
+
+/// Each client's visits with what they give by themselves, cut from what all give.
+pub(crate) fn parts_of<'a>(
+    alloc: Global,
+    clients: &[&'a [Visit]],
+    own: Vec<Outcome>,
+) -> Result<Vec<ClientPart<'a>>, AllocError>
     requires { length own.items ≡ length (visits_of_all clients.now) }
-    ensures { IfOk result (λ all. map (λ one. one.items) all.items ≡ follow_all finding.now clients.now own.items) }
+    ensures { IfOk result (λ parts. parts.items ≡ parts_of_all clients.now own.items) }
 {
-    let mut all = Vec::with_capacity(alloc, clients.len())?;
+    let mut parts = Vec::with_capacity(alloc, clients.len())?;
     let mut rest = own.into_iter();
     for visits in clients {
         let own = take_front(alloc, &mut rest, visits.len())?;
-        all.push_reserved(follow_parents(alloc, finding, visits, own)?);
+        parts.push_reserved(ClientPart { visits, own });
     }
-    Ok(all)
+    Ok(parts)
 }
 
 // So many from the front. There are no fewer.

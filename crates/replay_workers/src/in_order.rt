@@ -96,16 +96,16 @@ fn beside_numbers(
 ) -> Result<Vec<Done>, AllocError>
     ensures { IfOk result (λ done. done.items ≡ map as_done (zip all.now own.items)) }
 {
-    let mut done = Vec::new(alloc);
+    let mut done = Vec::with_capacity(alloc, all.len())?;
     let mut own = own.into_iter();
     for one in all {
         let Some(outcome) = own.next() else {
             break;
         };
-        done.push(Done {
+        done.push_reserved(Done {
             number: one.number,
             outcome,
-        })?;
+        });
     }
     Ok(done)
 }

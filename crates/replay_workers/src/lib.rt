@@ -1,5 +1,6 @@
 //! The visits of several clients replayed by several worker threads, which divide the list of them all among themselves: each draws numbers, and the visit at a
-//! number that it drew is its own to replay. Then each visit follows its parent among its client's, on the thread that calls.
+//! number that it drew is its own to replay. Then each visit follows its parent among its client's: the clients are
+//! dealt to as many threads.
 //!
 //! What a contract says of the numbers that threads draw is said by seats. A seat is one worker's, and knows which numbers it drew (in proofs alone).
 #![tactic(auto)]
@@ -7,6 +8,7 @@
 mod by_client;
 mod claims;
 mod fault;
+mod hands;
 mod in_order;
 mod last_page;
 mod pool;

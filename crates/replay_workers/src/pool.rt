@@ -14,9 +14,10 @@ ghost use Rattle.replay_workers.specs.inside.Shares.{PlacesAll, PlacesThese};
 ghost use Rattle.replay_workers.specs.SitePages.{ArePagesOf};
 ghost use Rattle.replay_workers.specs.declared.fault.PoolFault.TheVariants.{BadWorkers, NoMemory};
 
-use crate::by_client::{follow_each, in_one_list, lists_of, pages_by_visit};
+use crate::by_client::{in_one_list, lists_of, pages_by_visit};
 use crate::claims::Claims;
 use crate::fault::PoolFault;
+use crate::hands::follow_each;
 use crate::in_order::{by_address, by_number, pages_in_order, visits_of};
 use crate::seat::Seat;
 use crate::share::{Done, Share, work_with};
@@ -61,7 +62,7 @@ pub fn replay_all<H: SiteHooks, R: AllocGlobal + Threads + Sync>(
         finding,
         visits.as_slice(),
     )?;
-    Ok(follow_each(rt.alloc(), finding, clients, own)?)
+    Ok(follow_each(rt, rt.alloc(), workers, finding, clients, own)?)
 }
 
 /// A client, and the visits that are kept of it.
@@ -99,7 +100,7 @@ pub fn replay_owned<H: SiteHooks, R: AllocGlobal + Threads + Sync>(
     let pages = pages_by_visit(alloc, own, clients)?;
     let own_pages = pages.as_slice();
     let outcomes = replay_with_pages(rt, alloc, workers, hooks, patch, finding, all, own_pages)?;
-    Ok(follow_each(alloc, finding, lists, outcomes)?)
+    Ok(follow_each(rt, alloc, workers, finding, lists, outcomes)?)
 }
 
 // What each visit gives by itself.

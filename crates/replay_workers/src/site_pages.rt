@@ -39,8 +39,13 @@ pub fn pages_of<'a, H: SiteHooks>(
     if finding.names().is_none() {
         return Ok(pages);
     }
+    let mut before = None;
     for visit in visits {
         let address = visit.address.as_str();
+        if before == Some(address) {
+            continue;
+        }
+        before = Some(address);
         if affected(patch, visit) && !pages.places.contains_key(address) {
             add_page(hooks, address, &mut pages)?;
         }

@@ -4,7 +4,7 @@ use Rattle.std.specs.List.{flat_map}
 use Rattle.std.specs.Borrow.{Bor}
 use Rattle.page_tree.specs.Tree.{Tree}
 use Rattle.client_log.specs.declared.visit.Visit.{Visit}
-use Rattle.visit_replay.specs.Following.{behind_parents}
+use Rattle.visit_replay.specs.Following.{Replayed, behind_parents}
 use Rattle.visit_replay.specs.declared.outcome.Outcome.{Outcome}
 
 -- a page of a visit's own, if it has one
@@ -23,13 +23,17 @@ own_pages_of own_page client visits = map (λ visit. own_page client visit.numbe
 abbrev pub visits_of_all : List (Bor (List Visit)) → List Visit
 visits_of_all clients = flat_map (λ visits. visits.now) clients
 
+-- each visit with what it gives by itself, client by client: the first that all give are those of the first client's
+abbrev pub parts_of_all : List (Bor (List Visit)) → List Outcome → List (List Replayed)
+parts_of_all [] own = []
+parts_of_all (visits ∷ clients) own =
+    zip visits.now (take (length visits.now) own) ∷ parts_of_all clients (drop (length visits.now) own)
+
 module _ (same : Option (List (List ℕ))) where
   -- what visits give behind their parents, by what each gives by itself
-  abbrev pub followed : List Visit → List Outcome → List Outcome
-  followed visits own = map (λ one. one.1) (behind_parents same (zip visits own))
+  abbrev pub followed : List Replayed → List Outcome
+  followed visits = map (λ one. one.1) (behind_parents same visits)
 
-  -- the same client by client: the first that all give by themselves are those of the first client's visits
+  -- the same client by client
   abbrev pub follow_all : List (Bor (List Visit)) → List Outcome → List (List Outcome)
-  follow_all [] own = []
-  follow_all (visits ∷ clients) own =
-      followed visits.now (take (length visits.now) own) ∷ follow_all clients (drop (length visits.now) own)
+  follow_all clients own = map followed (parts_of_all clients own)

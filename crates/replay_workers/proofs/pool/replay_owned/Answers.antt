@@ -7,8 +7,8 @@ use Rattle.replay_workers.proofs.ByClient.{followed_with_own}
 use Rattle.replay_workers.proofs.OwnPages.{page_count}
 use Rattle.replay_workers.proofs.pool.replay_owned.Goals as goal
 
-pub follow_each-requires : goal.follow_each-requires
-follow_each-requires g c =
+pub follow_each-requires-clause-count : goal.follow_each-requires-clause-count
+follow_each-requires-clause-count g c κs within =
     let site = site_by g.H.SiteLaw.page_of g.H.SiteLaw.signals c.args.hooks.now c.args.patch.now c.args.finding.now in
     ap length c.in_ok-outcomes.ensures
     ∙ page_count site (map plain_page c.as_slice-own_pages.result.now) (map (λ visit. visit.now) c.as_slice-all.result.now)
