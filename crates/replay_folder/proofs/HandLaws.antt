@@ -1,7 +1,7 @@
 -- Lanes that one thread takes one behind another, and the hands of all threads.
-use Rattle.std.proofs.Common.{◌≡◌, ℕ, zero, suc, ◌+◌, ◌≤◌, ◌<◌, List, [], ◌∷◌, ◌++◌, length, map, slice_get, slice_set, slice_index_or, Bool, true, false, ◌&&◌, is_some, Some, refl, sym, ap, ap₂, subst, ◌∙◌, arith, append_assoc, append-nil, true≢false}
+use Rattle.std.proofs.Common.{◌≡◌, ℕ, zero, suc, ◌+◌, ◌≤◌, ◌<◌, List, [], ◌∷◌, ◌++◌, length, map, slice_get, slice_set, slice_index_or, Bool, true, false, ◌&&◌, is_some, Some, Result, Ok, IfOk, refl, sym, ap, ap₂, subst, ◌∙◌, arith, append_assoc, append-nil, true≢false}
 use Rattle.std.specs.List.{AllByRecursion, AllZip}
-use Rattle.std.proofs.lemmas.List.{length-append}
+use Rattle.std.proofs.lemmas.List.{length-append, length-map}
 use Rattle.std.proofs.lemmas.Option.{get_or_from_slice_get, slice_get_within}
 use Rattle.lanes_in_turn.specs.Round.{have_ended}
 use Rattle.lanes_in_turn.specs.Taking.{GaveMore, IsFreshLane, Stops, TakesLane, is_ended, never, refused_by}
@@ -65,6 +65,17 @@ get_front [] more k x at = cc
 get_front (y ∷ front) more zero x at = at
 get_front (y ∷ front) more (suc k) x at = get_front front more k x at
 
+index_map : {A B : Type 0} (f : A → B) (all : List A) (k : ℕ) (one : A) → slice_index_or (map f all) k (f one) ≡ f (slice_index_or all k one)
+index_map f [] zero one = refl
+index_map f [] (suc k) one = refl
+index_map f (x ∷ all) zero one = refl
+index_map f (x ∷ all) (suc k) one = index_map f all k one
+
+get_behind : {A : Type 0} (front more : List A) (k n : ℕ) (x : A) → n ≡ length front + k → slice_get more k ≡ Some x → slice_get (front ++ more) n ≡ Some x
+get_behind [] more k n x is at = let same : k ≡ n = omega (arith, is) in subst (λ j. slice_get more j ≡ Some x) same at
+get_behind (y ∷ front) more k zero x is at = absurd (omega (arith, is))
+get_behind (y ∷ front) more k (suc n) x is at = get_behind front more k n x (omega (arith, is)) at
+
 all_behind : {A : Type 0} (P : A → Type 0) (front : List A) (x : A) (rest : List A) → AllByRecursion P (front ++ x ∷ rest) → P x
 all_behind P [] x rest all = all.0
 all_behind P (y ∷ front) x rest all = all_behind P front x rest all.1
@@ -74,6 +85,20 @@ zip_weaker P Q goes [] [] all = tt
 zip_weaker P Q goes [] (y ∷ ys) all = all
 zip_weaker P Q goes (x ∷ xs) [] all = all
 zip_weaker P Q goes (x ∷ xs) (y ∷ ys) all = (goes x y all.0, zip_weaker P Q goes xs ys all.1)
+
+zip_join : {X Y : Type 0} (P : X → Y → Type 0) (xs : List X) (ys : List Y) → AllZip P xs ys → (us : List X) (vs : List Y) → AllZip P us vs → AllZip P (xs ++ us) (ys ++ vs)
+zip_join P [] [] all us vs more = more
+zip_join P [] (y ∷ ys) all us vs more = absurd all
+zip_join P (x ∷ xs) [] all us vs more = absurd all
+zip_join P (x ∷ xs) (y ∷ ys) all us vs more = (all.0, zip_join P xs ys all.1 us vs more)
+
+pub all_front : {A : Type 0} (P : A → Type 0) (front rest : List A) → AllByRecursion P (front ++ rest) → AllByRecursion P front
+all_front P [] rest all = tt
+all_front P (x ∷ front) rest all = (all.0, all_front P front rest all.1)
+
+pub all_rest : {A : Type 0} (P : A → Type 0) (front rest : List A) → AllByRecursion P (front ++ rest) → AllByRecursion P rest
+all_rest P [] rest all = all
+all_rest P (x ∷ front) rest all = all_rest P front rest all.1
 
 -- ---- one lane behind another
 
@@ -89,7 +114,7 @@ module _ {R : Type 0} where
       by true c d e is = is
       by false c d e is = refl
 
-  abbrev HasRefused : Lanes R → Type 0
+  abbrev pub HasRefused : Lanes R → Type 0
   HasRefused lanes = (k : ℕ) × (lane : List ℕ × LaneResult R) × (slice_get lanes k ≡ Some lane) × GaveMore lane.1
 
   -- the first of these lanes were taken, and it stopped so
@@ -199,6 +224,38 @@ module _ {R : Type 0} where
           let size : length lanes ≡ length taking.done + length (lane ∷ left) = ap length (taking.lanes_are ∙ ap (λ l. taking.done ++ l) is) ∙ length-append taking.done (lane ∷ left) in
           absurd (omega (arith, size, taking.count_is, all))
 
+-- ---- a hand by two threads
+
+module _ {R : Type 0} where
+  ended_join : (lanes more : Lanes R) → have_ended (lanes ++ more) ≡ (have_ended lanes && have_ended more)
+  ended_join [] more = refl
+  ended_join (one ∷ lanes) more = by (is_some one.1.end) _ _ _ (ended_join lanes more)
+    where
+      by : (b c d e : Bool) → c ≡ (d && e) → (b && c) ≡ ((b && d) && e)
+      by true c d e is = is
+      by false c d e is = refl
+
+  refused_join : (la lb : Lanes R) (a b : Stop) → (a ≡ stops.Asked → ⊥) → (a ≡ stops.Memory → HasRefused la) → (b ≡ stops.Memory → HasRefused lb) → both_stops a b ≡ stops.Memory → HasRefused (la ++ lb)
+  refused_join la lb stops.Memory b unasked left right is = let (k, lane, at, gave) = left refl in (k, lane, get_front la lb k lane at, gave)
+  refused_join la lb stops.None b unasked left right is = let (k, lane, at, gave) = right is in (length la + k, lane, get_behind la lb k (length la + k) lane refl at, gave)
+  refused_join la lb stops.Asked b unasked left right is = absurd (unasked refl)
+
+  pub both_taken : (fa la fb lb : Lanes R) (a b : Stop) → TakesByOne never 0 fa la a → TakesByOne never 0 fb lb b → TakesByOne never 0 (fa ++ fb) (la ++ lb) (both_stops a b)
+  both_taken fa la fb lb a b one other =
+      let all = both_stops a b in
+      let left = refused_left a b in
+      let right = refused_right a b in record {
+        each = zip_join (TakesLane (0 + refused_by all)) fa la
+            (zip_weaker (TakesLane (0 + refused_by a)) (TakesLane (0 + refused_by all)) (takes_more (0 + refused_by a) (0 + refused_by all) (omega (arith, left))) fa la one.each) fb lb
+            (zip_weaker (TakesLane (0 + refused_by b)) (TakesLane (0 + refused_by all)) (takes_more (0 + refused_by b) (0 + refused_by all) (omega (arith, right))) fb lb other.each);
+        stops = record {
+          lesser = λ n less. refl;
+          asked = λ is. absurd (unasked_both a b (λ here. true≢false (one.stops.asked here)) (λ here. true≢false (other.stops.asked here)) is);
+          ended = ended_join la lb ∙ ap₂ (λ (x y : Bool). x && y) one.stops.ended other.stops.ended ∙ sym (ended_both a b);
+          refused = refused_join la lb a b (λ here. true≢false (one.stops.asked here)) one.stops.refused other.stops.refused;
+        };
+      }
+
 -- ---- the hands of all threads
 
 module _ {R : Type 0} where
@@ -228,6 +285,17 @@ module _ {R : Type 0} where
           let is_hand : call.0 ≡ hand = sym (call.1 hand) ∙ get_or_from_slice_get hands k hand hand hand_at in
           let is_one : slice_index_or taken k one ≡ one = get_or_from_slice_get taken k one one one_at in
           subst (λ o. IsTakenHand hand o) is_one (subst (λ h. IsTakenHand h (slice_index_or taken k one)) is_hand call.2)
+
+  -- the same where calls may be refused, and none was
+  pub hands_tried : {E : Type 0} (hands : List (Hand R)) (results : List (Result (TakenHand R) E)) (taken : List (TakenHand R)) → map Ok taken ≡ results → length results ≡ length hands
+      → ((k : ℕ) (one : Result (TakenHand R) E) → k < length hands → (hand : Hand R) × ((d : Hand R) → slice_index_or hands k d ≡ hand) × IfOk (slice_index_or results k one) (IsTakenHand hand))
+      → AllZip IsTakenHand hands taken
+  hands_tried hands results taken are size each = hands_at_once hands taken (sym (length-map taken Ok) ∙ ap length are ∙ size) by_call
+    where
+      by_call : (k : ℕ) (one : TakenHand R) → k < length hands → (hand : Hand R) × ((d : Hand R) → slice_index_or hands k d ≡ hand) × IsTakenHand hand (slice_index_or taken k one)
+      by_call k one within =
+          let call = each k (Ok one) within in
+          (call.0, call.1, subst (λ r. IfOk r (IsTakenHand call.0)) (ap (λ l. slice_index_or l k (Ok one)) (sym are) ∙ index_map Ok taken k one) call.2)
 
   -- with whatever is taken of the rest, all of them have been taken
   abbrev pub TakesRest : List (Hand R) → List (TakenHand R) → List (Hand R) → Type 0

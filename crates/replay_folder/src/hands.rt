@@ -1,7 +1,8 @@
-//! The lanes of a round are dealt to a few threads. Each takes its lanes one behind another, and records what it reads: what is read of a file is at hand, so
+//! The lanes of a round are dealt to a few hands. A thread takes a half of one, lane behind lane, and records what it reads: what is read of a file is at hand, so
 //! nothing is gained by another thread that records it; and on one processor nothing by a thread beside the one that calls.
-ghost use Rattle.std.specs.Prelude.{◌≡◌, ◌≤◌, [], false, length, map, IfOk};
+ghost use Rattle.std.specs.Prelude.{◌≡◌, ◌≤◌, ◌++◌, [], false, length, map, Ok, IfOk};
 ghost use Rattle.std.specs.List.{All, AllByRecursion, AllZip};
+ghost use Rattle.std.specs.Thread.{IsSync};
 ghost use Rattle.std.specs.Vec.{vec_capacity};
 ghost use Rattle.lanes_in_turn.specs.Round.{AreRoundLanes};
 ghost use Rattle.lanes_in_turn.specs.Taking.{IsFreshLane, never};
@@ -20,8 +21,8 @@ use std::thread::Threads;
 use thread_heap::make_room;
 use upload_reader::Client;
 
-/// The most threads of a round.
-const MAX_THREADS: usize = 4;
+/// The most hands of a round.
+const MAX_HANDS: usize = 4;
 
 /// What is kept of so many items fills about a block of a thread's heap.
 const HEAP_ITEMS: u64 = 160;
@@ -54,19 +55,15 @@ pub(crate) fn take_to_ends<F: Source + Drop + Send, T: AllocGlobal + Threads + W
 {
     let count = lanes.len();
     let back = Vec::with_capacity(rt.alloc(), count)?;
-    let hands = deal(rt.alloc(), lanes, threads_of(count))?;
+    let hands = deal(rt.alloc(), lanes, hands_of(count))?;
     let (taken, stop) = take_hands(rt, at_once, hands)?;
     Ok((collect(taken, back, count), stop))
 }
 
-fn threads_of(lanes: usize) -> usize
+fn hands_of(lanes: usize) -> usize
     ensures { result ≡ recorders_of lanes }
 {
-    if lanes < MAX_THREADS {
-        lanes
-    } else {
-        MAX_THREADS
-    }
+    if lanes < MAX_HANDS { lanes } else { MAX_HANDS }
 }
 
 // What was taken of all hands, and why that stopped.
@@ -100,7 +97,7 @@ fn take_each<F: Source + Drop + Send, T: AllocGlobal + Threads + Wait + Sync>(
     }
 }
 
-// Each hand by a thread of its own.
+// Each hand by two threads, a half each. So there are more of them than processors: where one has to wait for its processor, the others do more.
 fn take_at_once<F: Source + Drop + Send, T: AllocGlobal + Threads + Wait + Sync>(
     rt: &T,
     hands: Vec<Vec<(Client, LaneResult<F>)>>,
@@ -112,12 +109,66 @@ fn take_at_once<F: Source + Drop + Send, T: AllocGlobal + Threads + Wait + Sync>
     let taken = thread::map_vec(
         rt,
         hands,
-        &|hand| -> TakenHand<F>
+        &|hand| -> Result<TakenHand<F>, NoMemory>
             requires { IsFreshHand hand }
-            ensures { TakesByOne never 0 hand.items result.lanes.items result.stop }
-        { take_hand(rt.alloc(), rt, hand) },
+            ensures { IfOk result (λ one. TakesByOne never 0 hand.items one.lanes.items one.stop) }
+        { take_halves(rt, hand) },
     )?;
-    Ok(taken)
+    each_of(rt.alloc(), taken)
+}
+
+// All of them, if none was refused.
+fn each_of<F: Source + Drop>(
+    alloc: Global,
+    taken: Vec<Result<TakenHand<F>, NoMemory>>,
+) -> Result<Vec<TakenHand<F>>, NoMemory>
+    ensures { IfOk result (λ each. map Ok each.items ≡ taken.items) }
+{
+    let mut each = Vec::with_capacity(alloc, taken.len())?;
+    for one in taken {
+        each.push_reserved(one?);
+    }
+    Ok(each)
+}
+
+// A hand by two threads. The thread that calls takes its second half.
+fn take_halves<F: Source + Drop + Send, T: AllocGlobal + Threads + Wait + Sync>(
+    rt: &T,
+    hand: Vec<(Client, LaneResult<F>)>,
+) -> Result<TakenHand<F>, NoMemory>
+    requires { IsFreshHand hand }
+    ensures { IfOk result (λ one. TakesByOne never 0 hand.items one.lanes.items one.stop) }
+{
+    if hand.len() < 2 {
+        return Ok(take_hand(rt.alloc(), rt, hand));
+    }
+    let mut first = hand;
+    let second = first.split_off(first.len() / 2)?;
+    let (a, b) = thread::join(
+        rt,
+        move || -> TakenHand<F>
+            requires { IsSync T.row × AllByRecursion IsFreshLane first.items }
+            ensures { TakesByOne never 0 first.items result.lanes.items result.stop }
+        { take_hand(rt.alloc(), rt, first) },
+        move || -> TakenHand<F>
+            requires { IsSync T.row × AllByRecursion IsFreshLane second.items }
+            ensures { TakesByOne never 0 second.items result.lanes.items result.stop }
+        { take_hand(rt.alloc(), rt, second) },
+    );
+    joined(a, b)
+}
+
+fn joined<F: Source + Drop>(a: TakenHand<F>, b: TakenHand<F>) -> Result<TakenHand<F>, NoMemory>
+    ensures { IfOk result (λ both. (both.lanes.items ≡ a.lanes.items ++ b.lanes.items)
+        × (both.stop ≡ both_stops a.stop b.stop)) }
+{
+    let mut lanes = a.lanes;
+    let mut more = b.lanes;
+    lanes.append(&mut more)?;
+    Ok(TakenHand {
+        lanes,
+        stop: both_stops(a.stop, b.stop),
+    })
 }
 
 // One hand behind another, by the thread that calls.
@@ -142,7 +193,7 @@ fn take_hand<F: Source + Drop, W: Wait>(
     rt: &W,
     hand: Vec<(Client, LaneResult<F>)>,
 ) -> TakenHand<F>
-    requires { IsFreshHand hand }
+    requires { AllByRecursion IsFreshLane hand.items }
     ensures { TakesByOne never 0 hand.items result.lanes.items result.stop }
 {
     let halt = Asks {

@@ -9,7 +9,7 @@ loop-k-init g c = record { size = omega arith; taking = takes_none c.args.hand.i
 
 pub take_alone-requires-clause-fresh : goal.take_alone-requires-clause-fresh
 take_alone-requires-clause-fresh g c κs within =
-    next_fresh c.args.hand.items c.loop-k.lanes.items c.loop-k.k c.loop-k.stop c.loop-k.invariant.taking (omega arith) c.index_mut.result.now c.index_mut.ensures.value c.requires.fresh
+    next_fresh c.args.hand.items c.loop-k.lanes.items c.loop-k.k c.loop-k.stop c.loop-k.invariant.taking (omega arith) c.index_mut.result.now c.index_mut.ensures.value c.requires
 
 pub loop-k-preserved : goal.loop-k-preserved
 loop-k-preserved g c =

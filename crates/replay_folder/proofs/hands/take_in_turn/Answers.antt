@@ -1,4 +1,4 @@
-use Rattle.std.proofs.Common.{◌≡◌, ◌∷◌, ◌++◌, [], length, ap, subst, sym, ◌∙◌, arith, rules}
+use Rattle.std.proofs.Common.{◌≡◌, ◌∷◌, [], length, ap, subst, sym, ◌∙◌, arith, rules}
 use Rattle.std.specs.List.{All}
 use Rattle.std.proofs.lemmas.List.{length-append, nil_from_length}
 use Rattle.std.proofs.lemmas.List.Elements.{All-head, All-tail}
@@ -9,7 +9,7 @@ use Rattle.replay_folder.proofs.hands.take_in_turn.Goals as goal
 pub take_hand-requires-after_bounds : goal.take_hand-requires-after_bounds
 take_hand-requires-after_bounds g c κs within =
     let first : c.loop-hand.hand-iterator.rest.items ≡ c.in-Some.hand ∷ c.next.new.self.rest.items = search rules in
-    All-head IsFreshHand c.in-Some.hand c.next.new.self.rest.items (subst (All IsFreshHand) first c.loop-hand.invariant.fresh)
+    (All-head IsFreshHand c.in-Some.hand c.next.new.self.rest.items (subst (All IsFreshHand) first c.loop-hand.invariant.fresh)).fresh
 
 pub loop-hand-preserved : goal.loop-hand-preserved
 loop-hand-preserved g c =
