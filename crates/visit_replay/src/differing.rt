@@ -109,7 +109,7 @@ fn all_former(
 ) -> Result<Former, NoMemory>
     ensures { IfOk result (λ all. all ≡ map (was_other fresh.now visit.now) requests.now) }
 {
-    match &requests.trail {
+    match requests.trail() {
         None => Ok(Former::new(alloc)),
         Some(trail) => former_of(alloc, fresh, visit, trail),
     }

@@ -82,8 +82,8 @@ pub(crate) fn trail_of(outcome: &Outcome) -> Option<&Trail>
 {
     match outcome {
         Outcome::Untouched => None,
-        Outcome::Done { requests } => requests.trail.as_ref(),
-        Outcome::Conflict { requests, .. } => requests.trail.as_ref(),
+        Outcome::Done { requests } => requests.trail(),
+        Outcome::Conflict { requests, .. } => requests.trail(),
     }
 }
 

@@ -4,6 +4,7 @@ ghost use Rattle.visit_replay.specs.Conflict.{conflict_code};
 
 use crate::requests::Requests;
 use std::fmt;
+use std::mem::size_of;
 
 /// Why a visit can't be replayed as it was. Its text is its code, as `K5`.
 #[derive(Clone, Copy, Debug, PartialEq, Eq)]
@@ -68,3 +69,6 @@ pub enum Outcome {
         kind: ConflictKind,
     },
 }
+
+// Those of all visits stand in lists, of untouched ones too.
+const _: () = prove!(size_of::<Outcome>() <= 40);

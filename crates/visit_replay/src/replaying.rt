@@ -150,11 +150,11 @@ fn replay_on<'v, H: SiteHooks>(
             &mut trail,
         )? {
             let at = i as u64 + 1;
-            let requests = Requests::of(trail);
+            let requests = Requests::of(alloc, trail)?;
             return Ok(Outcome::Conflict { requests, at, kind });
         }
     }
-    finish(hooks, visit, new, Requests::of(trail))
+    finish(hooks, visit, new, Requests::of(alloc, trail)?)
 }
 
 // Behind the last event: K8, K9, or done.

@@ -1,5 +1,6 @@
 //! Requests, and whether they go elsewhere now.
 ghost use Rattle.std.specs.Prelude.{ℕ, ◌≡◌, ◌<◌, [], ◌∷◌, ◌++◌, not, All, Some, unwrap_or, IfOk, OnOk, codes};
+ghost use Rattle.std.specs.Option.{option_map_or};
 ghost use Rattle.std.specs.Str.{bytes_eq};
 ghost use Rattle.form_urlencoded.specs.Form.{extend_pairs};
 ghost use Rattle.page_tree.specs.Limits.{nodes};
@@ -32,6 +33,7 @@ use page_looks::without_fresh;
 use page_tree::{NoMemory, Text};
 use std::alloc::Global;
 use std::marker::Model;
+use std::mem::size_of;
 use upload_reader::Event;
 
 /// How a request is made: by opening a page, or by a link or a form.
@@ -54,10 +56,13 @@ pub struct Request {
 }
 
 /// Requests, in the order in which they are made. Contracts see them as a list. What makes them is kept, and not their texts: `RequestTelling` tells them one after another.
+/// It is kept behind a pointer: outcomes are moved about by lists, those of visits without requests too.
 #[derive(Debug, Drop)]
 pub struct Requests {
-    pub(crate) trail: Option<Trail>,
+    trail: Option<Box<Trail>>,
 }
+
+const _: () = prove!(size_of::<Requests>() <= 16);
 
 impl Model for Requests {
     ghost use Rattle.std.specs.Prelude.{[], List};
@@ -67,7 +72,8 @@ impl Model for Requests {
 
     ghost Value = { List Request };
 
-    ghost view = { λ r. option_map_or (λ t. requests_on t.address t.page t.deeds.items) r.trail [] };
+    ghost view = { λ r. option_map_or
+        (λ t. requests_on t.value.address t.value.page t.value.deeds.items) r.trail [] };
 }
 
 impl Requests {
@@ -80,13 +86,24 @@ impl Requests {
 
     /// Those of a trail, the load first.
     #[tactic(auto, using(crate::proofs::TrailLaws::trail_makes))]
-    pub(crate) fn of(trail: Trail) -> Requests
-        ensures these { result ≡ requests_on trail.address trail.page trail.deeds.items }
-        ensures made { (aim : PlainEvent → Aim) (visit : Visit) (new : Tree) (n : ℕ) → IsTrailOf aim visit new n trail
-            → result ≡ requests_before aim visit.address new visit.events n }
+    pub(crate) fn of(alloc: Global, trail: Trail) -> Result<Requests, NoMemory>
+        ensures these { IfOk result (λ them. them ≡ requests_on trail.address trail.page trail.deeds.items) }
+        ensures made { IfOk result (λ them. (aim : PlainEvent → Aim) (visit : Visit) (new : Tree) (n : ℕ)
+            → IsTrailOf aim visit new n trail → them ≡ requests_before aim visit.address new visit.events n) }
     {
-        Requests {
-            trail: Some(trail.fitted()),
+        Ok(Requests {
+            trail: Some(Box::new(alloc, trail.fitted())?),
+        })
+    }
+
+    /// The trail that makes them, if anything does.
+    pub(crate) fn trail(&self) -> Option<&Trail>
+        ensures { self.now ≡ option_map_or
+            (λ t. requests_on t.now.address t.now.page t.now.deeds.items) result [] }
+    {
+        match &self.trail {
+            None => None,
+            Some(trail) => Some(trail),
         }
     }
 

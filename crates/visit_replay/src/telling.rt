@@ -56,7 +56,7 @@ impl<'r> RequestTelling<'r> {
         ensures { self.new ≡ (None, requests.now) }
     {
         self.stage = Stage::Before;
-        match &requests.trail {
+        match requests.trail() {
             None => self.trail = None,
             Some(trail) => {
                 trail.page.within_limits();

@@ -16,7 +16,7 @@ returns-in-Some-clause-answer g c =
     let bad : Some c.in-Some.kind ≡ conflict_of same_names visit.page new visit.events c.loop-i.i = sym c.in-Some.is ∙ c.in_ok-kind.ensures.conflict in
     let same : c.step.new.trail ≡ c.loop-i.trail = rw c.in-Some.is at c.in_ok-kind.ensures.stays in
     rw (stopped same_names visit.page new visit.events c.loop-i.i c.in-Some.kind c.loop-i.invariant.good (omega (arith, c.loop-i-test.true, ap length c.as_slice-i-end.ensures)) bad)
-    (ap (λ requests. Conflict requests (c.loop-i.i + 1) c.in-Some.kind) (c.of-requests.ensures.made aim visit new c.loop-i.i (subst (IsTrailOf aim visit new c.loop-i.i) (sym same) c.loop-i.invariant.walked)))
+    (ap (λ requests. Conflict requests (c.loop-i.i + 1) c.in-Some.kind) (c.in_ok-requests.ensures.made aim visit new c.loop-i.i (subst (IsTrailOf aim visit new c.loop-i.i) (sym same) c.loop-i.invariant.walked)))
 
 pub returns-clause-answer : goal.returns-clause-answer
 returns-clause-answer g c =
@@ -24,7 +24,7 @@ returns-clause-answer g c =
     let new = c.args.new.now in
     let aim = aimed c.args.aiming.now visit.page new in
     let over : c.loop-i.i ≡ length visit.events = omega (arith, c.loop-i-test.false, c.loop-i.auto.i-end, ap length c.as_slice-i-end.ensures) in
-    let made = c.of.ensures.made aim visit new (length visit.events) (subst (λ n. IsTrailOf aim visit new n c.loop-i.trail) over c.loop-i.invariant.walked) in
+    let made = c.in_ok-of.ensures.made aim visit new (length visit.events) (subst (λ n. IsTrailOf aim visit new n c.loop-i.trail) over c.loop-i.invariant.walked) in
     let told = g.H.SiteLaw.signals c.args.hooks.now visit.address visit.page in
     IfOk-weaker c.finish.result _ _ (λ answer is. at_last (names_aimed c.args.aiming.now) visit new told answer (λ k below. c.loop-i.invariant.good k (omega (arith, over, below))) (is aim made)) c.finish.ensures
 
