@@ -6,6 +6,7 @@ use crate::single::Single;
 use page_tree::NoMemory;
 use std::alloc::Global;
 use std::marker::Model;
+use std::mem::size_of;
 
 /// What a visit asked for, where its replay asks for something else.
 #[derive(Debug, Drop)]
@@ -21,11 +22,15 @@ pub enum Contrast {
     },
 }
 
-/// What is told of a visit, if anything is. Of most visits nothing is, and that takes the room of a pointer. Contracts see an option.
+const _: () = prove!(size_of::<Contrast>() <= 48);
+
+/// What is told of a visit, if anything is. Of most visits nothing is, and that takes 16 bytes. Contracts see an option.
 #[derive(Debug, Drop)]
 pub struct Difference {
     contrast: Option<Box<Contrast>>,
 }
+
+const _: () = prove!(size_of::<Difference>() <= 16);
 
 impl Model for Difference {
     ghost use Rattle.std.specs.Prelude.{Option, option_map};

@@ -128,7 +128,8 @@ fn former_of(
     let own = own_trail(alloc, visit, asking_end(visit.events.as_slice()))?;
     let marks = marks_of(alloc, fresh, &own, trail)?;
     let own = kept_for(own, marks.as_slice());
-    Ok(Former { own, marks })
+    let former = Former::of(alloc, own, marks)?;
+    Ok(former)
 }
 
 // The trail, unless nothing on it is marked.
@@ -470,7 +471,8 @@ fn asked_before(alloc: Global, visit: &Visit, k: usize) -> Result<Option<Single>
     let button = paths.button_of(&visit.page, event)?;
     let mut trail = own_trail(alloc, visit, k)?;
     trail.note(event, target, button)?;
-    Ok(Single::of(trail))
+    let single = Single::of(alloc, trail)?;
+    Ok(single)
 }
 
 fn asks_now(
@@ -505,7 +507,8 @@ fn asks_now(
         page.keep(beside);
     }
     trail.note(event, target, button)?;
-    Ok(Single::of(trail))
+    let single = Single::of(alloc, trail)?;
+    Ok(single)
 }
 
 // What the first so many events did on the page that stands there now.

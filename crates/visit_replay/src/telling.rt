@@ -70,7 +70,7 @@ impl<'r> RequestTelling<'r> {
     pub fn tell(&mut self, single: &'r Single)
         ensures { self.new ≡ (Some single.now, []) }
     {
-        let trail = &single.trail;
+        let trail: &Trail = &single.trail;
         let place = trail.deeds.len() - 1;
         trail.page.within_limits();
         self.board.begin(trail);

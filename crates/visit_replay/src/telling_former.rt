@@ -65,6 +65,7 @@ impl<'r> FormerTelling<'r> {
         match &former.own {
             None => self.own = None,
             Some(own) => {
+                let own: &Trail = own;
                 own.page.within_limits();
                 self.board.begin(own);
                 self.own = Some(own);

@@ -31,7 +31,7 @@ returns c =
     let below : c.args.k < length c.as_slice-events.result.now = omega arith in
     let at : slice_get visit.events c.args.k ≡ Some event = stands_in visit c.as_slice-events.result.now c.args.k event c.as_slice-events.ensures below c.index-events-k.is in
     let leads : IsTargetOf visit.page event (Some c.in-Some.target) = rw c.in-Some.is at c.in_ok-target.ensures.target in
-    c.of.ensures
+    c.in_ok-single.ensures
     ∙ last_made (by_path visit.page) visit visit.page c.args.k event c.in-Some.target c.in_ok-button.button c.in_ok-trail.trail c.note.new.self c.in_ok-trail.ensures
     c.in_ok-note.ensures.deeds c.note.ensures.address c.note.ensures.page
     ∙ asked_where visit c.args.k event c.in-Some.target c.in_ok-button.button at (aims_there visit.page event c.in-Some.target c.in_ok-button.button leads c.in_ok-button.ensures.place)

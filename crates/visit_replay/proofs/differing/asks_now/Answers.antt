@@ -65,7 +65,7 @@ returns-clause-asks c =
     let here = subst (λ b. AimsAt b.new (passing_over b.old b.new event) (At c.in-At.target c.in-At.button)) pair aims in
     let walked : IsTrailOf (by_element fresh visit.page new) visit new c.args.k c.in_ok-trail.trail =
     subst (λ b. IsTrailOf (aim_of (Some b.fresh) visit.page new) visit new c.args.k c.in_ok-trail.trail) pair c.in_ok-trail.ensures.trail in
-    c.of.ensures
+    c.in_ok-single.ensures
     ∙ last_made (by_element fresh visit.page new) visit new c.args.k event c.in-At.target c.in-At.button c.in_ok-trail.trail c.note.new.self walked
     c.in_ok-note.ensures.deeds c.note.ensures.address c.note.ensures.page
     ∙ asks_where fresh visit new c.args.k event c.in-At.target c.in-At.button at here.2

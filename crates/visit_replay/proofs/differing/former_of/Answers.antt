@@ -19,4 +19,4 @@ returns c =
     subst (λ them. (k : ℕ) → end ≤ k → IfSome (slice_get them k) (λ event. request_of event ≡ 0)) same c.asking_end.ensures.rest in
     let slice : c.as_slice-2.result.now ≡ marks = c.as_slice-2.ensures.value in
     let kept : map (told_marked c.kept_for-own.result) marks ≡ map (told_marked (Some own)) marks = rw slice at c.kept_for-own.ensures.told in
-    kept ∙ c.in_ok-marks.ensures.told ∙ all_other fresh visit end own c.in_ok-own.ensures few none trail.address (asked_from trail 0)
+    c.in_ok-former.ensures ∙ kept ∙ c.in_ok-marks.ensures.told ∙ all_other fresh visit end own c.in_ok-own.ensures few none trail.address (asked_from trail 0)

@@ -7,9 +7,9 @@ pub returns-in-None : goal.returns-in-None
 returns-in-None c =
     let trail = c.args.trail in
     let items = trail.deeds.items in
-    let last = c.in_ok-last.last in
-    let less = c.in_ok-last.ensures.1 in
-    let some = c.in_ok-last.ensures.0 in
+    let last = c.in-Some.last in
+    let less = c.in-Some.ensures.1 in
+    let some = c.in-Some.ensures.0 in
     let here : last ≡ length items - 1 = omega (arith, less, c.len.ensures) in
     let below : last < length items = omega (arith, less, some, c.len.ensures) in
     sym (ap (asked_at trail) (sym here) ∙ last_none trail last below (c.asking_from.ensures.none c.in-None.is))
