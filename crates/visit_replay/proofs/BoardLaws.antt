@@ -1,5 +1,5 @@
 -- A page as the first deeds of a trail filled it in, and what its forms send there.
-use Rattle.std.proofs.Common.{◌≡◌, ℕ, suc, ◌+◌, ◌<◌, Bool, List, [], ◌∷◌, ◌++◌, All, length, take, get_or, slice_get, Option, Some, option_and_then, refl, sym, ◌∙◌, ap, subst, arith}
+use Rattle.std.proofs.Common.{IfSome, ◌≡◌, ℕ, suc, ◌+◌, ◌<◌, Bool, List, [], ◌∷◌, ◌++◌, All, length, take, get_or, slice_get, Option, Some, option_and_then, refl, sym, ◌∙◌, ap, subst, arith}
 use Rattle.std.proofs.lemmas.Option.{slice_get-get_or}
 use Rattle.page_tree.specs.Tree.{Tree}
 use Rattle.page_tree.specs.Number.{place_numbered}
@@ -9,8 +9,10 @@ use Rattle.visit_replay.specs.inside.OneEvent.{IsWithin, places_numbered}
 use Rattle.visit_replay.specs.inside.Deed.{Deed}
 use Rattle.visit_replay.specs.inside.Deeds.{IsDeedOn, deed_request, form_asked, text_done, text_behind, is_on_done, is_on_behind}
 use Rattle.visit_replay.specs.inside.KeptFields.{Hold}
-use Rattle.visit_replay.specs.inside.Senders.{SendUnder, sent_all}
+use Rattle.visit_replay.specs.inside.Boards.{IsWide, known_page}
+use Rattle.visit_replay.specs.inside.Senders.{AreRight, SendUnder, sent_all}
 use Rattle.visit_replay.specs.inside.Trails.{asked_at}
+use Rattle.visit_replay.specs.declared.board.Board.{Board}
 use Rattle.visit_replay.specs.declared.fields.Fields.{Fields}
 use Rattle.visit_replay.specs.declared.forms.Filled.{Filled}
 use Rattle.visit_replay.specs.declared.senders.Sender.{Sender}
@@ -18,6 +20,12 @@ use Rattle.visit_replay.specs.declared.trail.Trail.{Trail}
 use Rattle.visit_replay.proofs.Overlay.{same_hold}
 use Rattle.visit_replay.proofs.Places.{take_suc, some_same}
 use Rattle.visit_replay.proofs.TrailLaws.{text_more, is_on_more}
+
+-- ---- nodes are known
+
+-- of that page
+pub known_right : (board : Board) (page : Tree) → IsWide board → known_page board ≡ Some page → AreRight board.names.now page board.senders
+known_right board page wide is = subst (λ o. IfSome o (λ page. AreRight board.names.now page board.senders)) is wide.known
 
 -- ---- deeds were taken in
 

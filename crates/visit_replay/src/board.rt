@@ -1,15 +1,14 @@
 //! A page as a visit filled it in, at any point of its trail. It is gone along without memory, which is asked for once, for pages of so many nodes.
-ghost use Rattle.std.specs.Prelude.{ℕ, List, ◌≡◌, ◌<◌, ◌≤◌, true, length, take, IfOk, IfSome, Some, option_map};
+ghost use Rattle.std.specs.Prelude.{ℕ, ◌≡◌, ◌<◌, ◌≤◌, true, length, take, IfOk, IfSome, IsTrue, Some, option_map};
 ghost use Rattle.page_tree.specs.Limits.{nodes};
 ghost use Rattle.page_tree.specs.Number.{place_numbered};
 ghost use Rattle.visit_replay.specs.Requests.{link_request};
 ghost use Rattle.visit_replay.specs.declared.told.ToldRequest.TheVariants.{Form};
-ghost use Rattle.visit_replay.specs.inside.Boards.{IsWide, IsOn, IsBefore, IsListedFor};
+ghost use Rattle.visit_replay.specs.inside.Boards.{IsWide, IsOn, IsBefore, IsListedFor, known_page};
 ghost use Rattle.visit_replay.specs.inside.Deed.{Sent};
 ghost use Rattle.visit_replay.specs.inside.Deeds.{IsDeedOn, form_asked};
 ghost use Rattle.visit_replay.specs.inside.KeptDeeds.{deed_seen};
 ghost use Rattle.visit_replay.specs.inside.OneEvent.{IsWithin};
-ghost use Rattle.visit_replay.specs.inside.Senders.{AreRight};
 ghost use Rattle.visit_replay.specs.inside.Tellings.{told_request, KnowsFresh};
 ghost use Rattle.visit_replay.specs.inside.Trails.{asked_at};
 
@@ -29,8 +28,10 @@ pub(crate) struct Board<'r> {
     nodes: u32,
     pub(crate) names: &'r [Text],
     fields: Fields<'r>,
-    // what is known of the page, once a form was sent
+    // what is known of the nodes of the last page of which a form was sent
     senders: PageSenders<'r>,
+    known: Option<&'r Page>,
+    // whether that page is the trail's
     is_listed: bool,
     at: usize,
 }
@@ -47,6 +48,7 @@ impl<'r> Board<'r> {
             names,
             fields: Fields::new(alloc, nodes)?,
             senders: PageSenders::new(alloc, nodes)?,
+            known: None,
             is_listed: false,
             at: 0,
         })
@@ -110,9 +112,9 @@ impl<'r> Board<'r> {
         requires wide { IsWide self.old }
         requires few { nodes page.now ≤ self.old.nodes }
         requires on { IsDeedOn page.now (deed_seen deed) }
-        requires listed { self.old.is_listed ≡ true → AreRight self.old.names.now page.now self.old.senders }
+        requires listed { self.old.is_listed ≡ true → known_page self.old ≡ Some page.now }
         ensures wide { IsWide self.new }
-        ensures listed { self.new.is_listed ≡ true → AreRight self.new.names.now page.now self.new.senders }
+        ensures listed { self.new.is_listed ≡ true → known_page self.new ≡ Some page.now }
         ensures ready { IsListedFor self.new (deed_seen deed.entry) }
         ensures rest { (self.new.nodes ≡ self.old.nodes) × (self.new.names ≡ self.old.names) × (self.new.at ≡ self.old.at)
             × (self.new.fields ≡ self.old.fields) }
@@ -129,10 +131,10 @@ impl<'r> Board<'r> {
         requires wide { IsWide self.old }
         requires few { nodes page.now ≤ self.old.nodes }
         requires form { form < nodes page.now }
-        requires listed { self.old.is_listed ≡ true → AreRight self.old.names.now page.now self.old.senders }
+        requires listed { self.old.is_listed ≡ true → known_page self.old ≡ Some page.now }
         ensures listed { self.new.is_listed ≡ true }
         ensures form { self.new.senders.form ≡ Some form }
-        ensures right { AreRight self.new.names.now page.now self.new.senders }
+        ensures known { known_page self.new ≡ Some page.now }
         ensures wide { IsWide self.new }
         ensures rest { (self.new.nodes ≡ self.old.nodes) × (self.new.names ≡ self.old.names) × (self.new.at ≡ self.old.at)
             × (self.new.fields ≡ self.old.fields) }
@@ -141,13 +143,13 @@ impl<'r> Board<'r> {
         self.senders.list(page, form, self.names);
     }
 
-    // Nothing is known of the page, if no form was sent so far.
-    fn look_anew(&mut self, page: &Page)
+    // Nothing is known of the page, if no form of it was sent so far, nor of an equal page by the visit before: many visits were to equal pages.
+    fn look_anew(&mut self, page: &'r Page)
         requires wide { IsWide self.old }
         requires few { nodes page.now ≤ self.old.nodes }
-        requires listed { self.old.is_listed ≡ true → AreRight self.old.names.now page.now self.old.senders }
+        requires listed { self.old.is_listed ≡ true → known_page self.old ≡ Some page.now }
         ensures listed { self.new.is_listed ≡ true }
-        ensures right { AreRight self.new.names.now page.now self.new.senders }
+        ensures known { known_page self.new ≡ Some page.now }
         ensures wide { IsWide self.new }
         ensures rest { (self.new.nodes ≡ self.old.nodes) × (self.new.names ≡ self.old.names) × (self.new.at ≡ self.old.at)
             × (self.new.fields ≡ self.old.fields) }
@@ -155,8 +157,21 @@ impl<'r> Board<'r> {
         if self.is_listed {
             return;
         }
-        self.senders.forget(page);
+        if !self.knows(page) {
+            self.senders.forget(page);
+            self.known = Some(page);
+        }
         self.is_listed = true;
+    }
+
+    // Whether an equal page is known.
+    fn knows(&self, page: &Page) -> bool
+        ensures { IsTrue result → known_page self.now ≡ Some page.now }
+    {
+        match self.known {
+            Some(known) => known.same(page),
+            None => false,
+        }
     }
 
     /// What the deed at that place asks for, if anything.

@@ -427,7 +427,7 @@ fn changed<H: SiteHooks>(
 {
     match hooks.make(visit.address.as_str())? {
         None => {
-            let was = asked_before(alloc, visit, k)?;
+            let was = was_asked(alloc, visit, k)?;
             Difference::of(alloc, Contrast::Changed { was, now: None })
         }
         Some(new) => {
@@ -448,12 +448,12 @@ fn changed_beside(
     ensures told { IfOk result (λ it. it
         ≡ Some (Changed (was_asked visit.now k) (asks_now page.old.1 visit.now page.old.0 k))) }
 {
-    let was = asked_before(alloc, visit, k)?;
+    let was = was_asked(alloc, visit, k)?;
     let now = asks_now(alloc, page, visit, k)?;
     Difference::of(alloc, Contrast::Changed { was, now })
 }
 
-fn asked_before(alloc: Global, visit: &Visit, k: usize) -> Result<Option<Single>, NoMemory>
+fn was_asked(alloc: Global, visit: &Visit, k: usize) -> Result<Option<Single>, NoMemory>
     ensures { IfOk result (λ request. request ≡ was_asked visit.now k) }
 {
     let events = visit.events.as_slice();

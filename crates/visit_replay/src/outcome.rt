@@ -1,5 +1,5 @@
 //! What replaying a visit gives.
-ghost use Rattle.std.specs.Prelude.{Some};
+ghost use Rattle.std.specs.Prelude.{◌≡◌, Some};
 ghost use Rattle.visit_replay.specs.Conflict.{conflict_code};
 
 use crate::requests::Requests;
@@ -37,19 +37,26 @@ impl fmt::Display for ConflictKind {
     ghost output = { λ kind. Some (conflict_code kind) };
 
     fn fmt<W: fmt::Write>(&self, f: &mut fmt::Formatter<W>) -> fmt::Result {
-        f.write_str(match self {
-            ConflictKind::NoPage => "K1",
-            ConflictKind::NoTarget => "K2",
-            ConflictKind::ManyTargets => "K3",
-            ConflictKind::NotAField => "K4",
-            ConflictKind::BaseChanged => "K5",
-            ConflictKind::NotALink => "K6",
-            ConflictKind::NotAForm => "K7",
-            ConflictKind::LogCut => "K8",
-            ConflictKind::Ui => "K9",
-            ConflictKind::Moved => "K10",
-            ConflictKind::Changed => "K11",
-        })
+        f.write_str(conflict_code(*self))
+    }
+}
+
+/// The code of a conflict, as `K5`.
+pub fn conflict_code(kind: ConflictKind) -> &'static str
+    ensures { result.now ≡ conflict_code kind }
+{
+    match kind {
+        ConflictKind::NoPage => "K1",
+        ConflictKind::NoTarget => "K2",
+        ConflictKind::ManyTargets => "K3",
+        ConflictKind::NotAField => "K4",
+        ConflictKind::BaseChanged => "K5",
+        ConflictKind::NotALink => "K6",
+        ConflictKind::NotAForm => "K7",
+        ConflictKind::LogCut => "K8",
+        ConflictKind::Ui => "K9",
+        ConflictKind::Moved => "K10",
+        ConflictKind::Changed => "K11",
     }
 }
 

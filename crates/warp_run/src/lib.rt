@@ -33,6 +33,6 @@ pub use reporting::{
     add_stop, report,
 };
 pub use running::run;
-pub use settling::settle;
+pub use settling::{put, settle};
 pub use site_line::{Site, SiteFault};
 pub use status::Status;

@@ -26,14 +26,14 @@ use byte_streams::Sink;
 use conflict_desk::{Case, Choice, Desk, DeskFault, OpenDocket, Standing};
 pub use fault::ReportFault;
 pub use fault_words::add_lane_fault;
-use fault_words::{conflict_code, desk_fault_code};
+use fault_words::desk_fault_code;
 use lanes_in_turn::Stop;
 pub use quoting::add_quoted;
 pub use room::ReportRoom;
 use std::alloc::Global;
 use telling::add_request;
 use upload_reader::{Ending, LaneEnd};
-use visit_replay::{Contrast, Difference, Former, Outcome, Single, ToldRequest};
+use visit_replay::{Contrast, Difference, Former, Outcome, Single, ToldRequest, conflict_code};
 
 /// Writes the report: why the taking stopped, then each client with its visits and their requests, and then each decision with its answer. O1 where a write
 /// fails or takes nothing, O2 where memory is refused, and then nothing is written.

@@ -1,8 +1,7 @@
 //! Puts the administrator's decisions to the desk.
-ghost use Rattle.std.specs.Prelude.{◌≡◌, ◌+◌, ◌≤◌, ◌++◌, length, Ok, Err, IfOk, OnOk, OnErr};
-ghost use Rattle.std.specs.Option.{option_map_or};
+ghost use Rattle.std.specs.Prelude.{◌≡◌, ◌+◌, ◌≤◌, [], ◌∷◌, ◌++◌, length, IfOk, OnOk, OnErr};
 ghost use Rattle.std.specs.Vec.{vec_capacity};
-ghost use Rattle.conflict_desk.specs.Desk.{refusal, after_call, after_calls};
+ghost use Rattle.conflict_desk.specs.Desk.{after_call, after_calls};
 ghost use Rattle.warp_run.specs.Settle.{put_on, after_decisions};
 
 use crate::listed::Listed;
@@ -59,10 +58,10 @@ fn put_all(desk: &mut Desk, decided: Vec<PutDecision>, decisions: Vec<Decision>)
     decided
 }
 
-fn put(desk: &mut Desk, decision: Decision) -> PutDecision
+/// Puts a decision, and gives it with the desk's answer. It takes no memory.
+pub fn put(desk: &mut Desk, decision: Decision) -> PutDecision
     ensures desk { desk.new ≡ after_call desk.old decision }
-    ensures kept { result.decision ≡ decision }
-    ensures answer { result.answer ≡ option_map_or Err (refusal decision.client decision.visit desk.old) (Ok tt) }
+    ensures put { result ∷ [] ≡ put_on desk.old (decision ∷ []) }
 {
     let answer = desk.decide(&decision.client, decision.visit, decision.choice);
     PutDecision { decision, answer }

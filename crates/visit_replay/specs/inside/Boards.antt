@@ -1,5 +1,5 @@
 -- A page as the first deeds of a trail filled it in.
-use Rattle.std.specs.Prelude.{ℕ, ◌≡◌, ◌<◌, ◌≤◌, List, take, length, slice_get, IfSome, Some, true}
+use Rattle.std.specs.Prelude.{ℕ, ◌≡◌, ◌<◌, ◌≤◌, List, take, length, slice_get, IfSome, Option, Some, option_map, true}
 use Rattle.page_tree.specs.Tree.{Tree}
 use Rattle.page_tree.specs.Limits.{nodes}
 use Rattle.visit_replay.specs.inside.KeptFields.{Hold}
@@ -9,19 +9,24 @@ use Rattle.visit_replay.specs.inside.Deeds.{text_behind, is_on_behind}
 use Rattle.visit_replay.specs.declared.board.Board.{Board}
 use Rattle.visit_replay.specs.declared.trail.Trail.{Trail}
 
--- it has room for pages of so many nodes
+-- the page whose nodes are known, if any
+abbrev pub known_page : Board → Option Tree
+known_page board = option_map (λ page. page.now) board.known
+
+-- it has room for pages of so many nodes, and what is known of nodes is right
 pub record IsWide (board : Board) : Type 0 where
   pub texts : board.nodes ≤ length board.fields.texts.items
   pub turned : board.nodes ≤ length board.fields.turned.items
   pub senders : HasPlaces board.nodes board.senders
+  pub known : IfSome (known_page board) (λ page. AreRight board.names.now page board.senders)
 
--- how far it has gone along these deeds, what the fields hold there, and what may send something, once that was listed
+-- how far it has gone along these deeds, what the fields hold there, and that the page's nodes are known, once a form was listed
 pub record IsOn (page : Tree) (deeds : List Deed) (board : Board) : Type 0 where
   pub wide : IsWide board
   pub few : nodes page ≤ board.nodes
   pub within : board.at ≤ length deeds
   pub held : Hold board.fields page (text_behind page (take board.at deeds)) (is_on_behind page (take board.at deeds))
-  pub listed : board.is_listed ≡ true → AreRight board.names.now page board.senders
+  pub listed : board.is_listed ≡ true → known_page board ≡ Some page
 
 -- what the form sends that this deed sends, if any, is listed
 abbrev pub IsListedFor : Board → Deed → Type 0

@@ -1,10 +1,9 @@
-//! The codes of faults and conflicts in a report. Their `Display` prints the same, but its contract leaves open that it fails.
+//! The codes of faults in a report. Their `Display` prints the same, but its contract leaves open that it fails.
 ghost use Rattle.std.specs.Prelude.{◌≡◌, ◌++◌, codes, decimal};
 ghost use Rattle.page_tree.specs.Fault.{page_fault_code};
 ghost use Rattle.xpath_child.specs.Fault.{path_fault_code};
 ghost use Rattle.upload_reader.specs.LaneFaultCode.{lane_fault_code};
 ghost use Rattle.upload_reader.specs.Session.{session_fault_code};
-ghost use Rattle.visit_replay.specs.Conflict.{conflict_code};
 ghost use Rattle.conflict_desk.specs.Fault.{desk_fault_code};
 ghost use Rattle.warp_run.specs.Buffer.{AddsText};
 
@@ -13,7 +12,6 @@ use byte_streams::Sink;
 use conflict_desk::DeskFault;
 use page_tree::PageFault;
 use upload_reader::{LaneFault, SessionFault};
-use visit_replay::ConflictKind;
 use xpath_child::PathFaultKind;
 
 /// Adds a fault and the line that it stands at.
@@ -89,24 +87,6 @@ fn session_fault_code(fault: SessionFault) -> &'static str
         SessionFault::VisitFull => "S6",
         SessionFault::TooManyOpen => "S7",
         SessionFault::NoMemory => "S8",
-    }
-}
-
-pub(super) fn conflict_code(kind: ConflictKind) -> &'static str
-    ensures { result.now ≡ conflict_code kind }
-{
-    match kind {
-        ConflictKind::NoPage => "K1",
-        ConflictKind::NoTarget => "K2",
-        ConflictKind::ManyTargets => "K3",
-        ConflictKind::NotAField => "K4",
-        ConflictKind::BaseChanged => "K5",
-        ConflictKind::NotALink => "K6",
-        ConflictKind::NotAForm => "K7",
-        ConflictKind::LogCut => "K8",
-        ConflictKind::Ui => "K9",
-        ConflictKind::Moved => "K10",
-        ConflictKind::Changed => "K11",
     }
 }
 

@@ -10,6 +10,7 @@ returns-clause-on c =
         texts = omega (arith, so_far.wide.texts, room.0);
         turned = omega (arith, so_far.wide.turned, room.1);
         senders = so_far.wide.senders;
+        known = so_far.wide.known;
       };
       few = so_far.few;
       within = c.requires.there;

@@ -15,6 +15,7 @@ returns-clause-on c =
         texts = omega (arith, c.requires.wide.texts, room.0);
         turned = omega (arith, c.requires.wide.turned, room.1);
         senders = c.requires.wide.senders;
+        known = c.requires.wide.known;
       };
       few = c.requires.few;
       within = omega arith;

@@ -5,7 +5,7 @@ use Rattle.visit_replay.specs.inside.Differing.{IsTargetOf}
 use Rattle.visit_replay.specs.inside.OneEvent.{IsWithin}
 use Rattle.visit_replay.proofs.Asking.{aims_there, asked_nothing, asked_where, stands_in}
 use Rattle.visit_replay.proofs.TrailLaws.{last_made}
-use Rattle.visit_replay.proofs.differing.asked_before.Goals as goal
+use Rattle.visit_replay.proofs.differing.was_asked.Goals as goal
 
 pub returns-in_default : goal.returns-in_default
 returns-in_default c =
