@@ -1,0 +1,3 @@
+mod FileMore
+mod LineSays
+pub mod ShownMore
