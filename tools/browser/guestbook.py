@@ -48,10 +48,10 @@ class Visitor(Handler):
 
 
 class Guestbook:
-    """Its entries, with who thanked for each; who asked for what; and the port of the collector."""
+    """Its entries, and who thanked for which; who asked for what; and the port of the collector."""
 
     def __init__(self):
-        self.entries, self.is_repaired, self.clients, self.log = [], False, {}, []
+        self.entries, self.thanks, self.is_repaired, self.clients, self.log = [], [], False, {}, []
         self.collector, self.change = None, lambda text: text
         self.server = Server(("127.0.0.1", 0), type("Bound", (Visitor,), {"site": self}))
         self.origin = f"http://127.0.0.1:{self.server.server_address[1]}"
@@ -62,16 +62,15 @@ class Guestbook:
         self.server.server_close()
 
     def post(self, path, fields, who):
-        number = fields.get("entry", "")
         if path == "/sign":
-            self.entries.append((who, fields.get("text", ""), []))
-        elif number.isdigit() and 0 < int(number) <= len(self.entries):
-            self.entries[int(number) - 1][2].append(who)
+            self.entries.append((who, fields.get("text", "")))
+        elif path == "/thank":
+            self.thanks.append((who, fields.get("entry", "")))
 
-    def entry(self, number, who, text, thanks):
+    def entry(self, number, who, text):
         shown = html.escape(text) if self.is_repaired else text
         return (f'<li><b>{who}</b>: {shown} <form method="post" action="/thank"><input type="hidden" name="entry" '
-                f'value="{number}"><button>Thank</button></form> {" ".join(f"♥ {it}" for it in thanks)}</li>')
+                f'value="{number}"><button>Thank</button></form></li>')
 
     def page(self, path, fields, who):
         entries = "".join(self.entry(number, *it) for number, it in enumerate(self.entries, 1))
@@ -137,4 +136,4 @@ def use(browser, site):
 
 def repair(site):
     """Texts are texts now, and the entries are those before the attack."""
-    site.is_repaired, site.entries = True, [(who, text, []) for who, text, _ in site.entries[:1]]
+    site.is_repaired, site.entries, site.thanks = True, site.entries[:1], []

@@ -1,1 +1,2 @@
-mod Inert
+pub mod Inert
+pub mod Joined

@@ -1,6 +1,13 @@
-//! Texts as HTML: none of a text that is written so is markup.
+//! Texts as HTML of which nothing is markup, and drawings: HTML that does nothing, whatever texts and values stand in it.
+//!
+//! A drawing has two elements that mean nothing to a browser, with four attributes that do nothing (`IsInertHtml` in `specs/Drawing.antt`). What is
+//! written between `open` and `close` is drawn inside.
 #![tactic(auto)]
 
+mod laws;
+mod tags;
 mod words;
 
-pub use words::{add_words, escaped_is_inert};
+pub use laws::{drawings_join, escaped_is_inert};
+pub use tags::{Facet, Layout, close, open};
+pub use words::add_words;

@@ -1,6 +1,6 @@
 //! Texts whose characters stand for themselves.
-ghost use Rattle.std.specs.Prelude.{◌≡◌, ◌++◌, ℕ, List, true, OnOk};
-ghost use Rattle.markup.specs.Escaping.{escaped_byte, escaped, is_inert};
+ghost use Rattle.std.specs.Prelude.{◌≡◌, ◌++◌, OnOk};
+ghost use Rattle.markup.specs.Escaping.{escaped_byte, escaped};
 
 use std::alloc::AllocError;
 
@@ -27,17 +27,11 @@ fn add_byte(out: &mut Vec<u8>, c: u8) -> Result<(), AllocError>
     }
 }
 
-fn add_bytes(out: &mut Vec<u8>, bytes: &[u8]) -> Result<(), AllocError>
+pub(crate) fn add_bytes(out: &mut Vec<u8>, bytes: &[u8]) -> Result<(), AllocError>
     ensures { OnOk result (out.new.items ≡ out.old.items ++ bytes.now) }
 {
     match out.extend_from_slice(bytes) {
         Ok(()) => Ok(()),
         Err(_) => Err(AllocError),
     }
-}
-
-/// What is added for a text begins and ends no tag, and ends no attribute's value, whatever the text is.
-pub fn escaped_is_inert()
-    ensures { (words : List ℕ) → is_inert (escaped words) ≡ true }
-{
 }

@@ -1,0 +1,168 @@
+//! A page is drawn.
+ghost use Rattle.std.specs.Prelude.{◌≡◌, ◌<◌, OnOk};
+ghost use Rattle.page_tree.specs.Limits.{nodes};
+ghost use Rattle.markup.specs.Drawing.{BeginsDrawing, AddsDrawings};
+ghost use Rattle.markup.specs.declared.tags.Layout.TheVariants.{Block};
+
+use crate::fields::add_field;
+use crate::marks::Marks;
+use crate::notes::{add_note, add_notes_before, add_notes_behind};
+use crate::showing::{Inside, inside_of, is_never_shown};
+use markup::{Facet, Layout, add_words, close, open};
+use page_tree::{NoMemory, Page};
+
+/// Draws a page with its marks behind what is there. After an error a part of it may be there. The time grows with the page's size, and with that times how many
+/// marks there are.
+#[tactic(auto, using(crate::proofs::Adds::adds_none))]
+pub fn draw(out: &mut Vec<u8>, page: &Page, marks: &Marks<'_>) -> Result<(), NoMemory>
+    ensures inert { OnOk result (AddsDrawings out.old.items out.new.items) }
+{
+    if page.node_count() == 0 {
+        return Ok(());
+    }
+    draw_node(out, page, 0, marks)
+}
+
+// The node with that number, and what stands under it.
+#[cycle(drawing)]
+#[tactic(auto, using(crate::proofs::Adds::adds_none, crate::proofs::Adds::adds_words))]
+fn draw_node(
+    out: &mut Vec<u8>,
+    page: &Page,
+    number: u32,
+    marks: &Marks<'_>,
+) -> Result<(), NoMemory>
+    requires there { number < nodes page.now }
+    ensures inert { OnOk result (AddsDrawings out.old.items out.new.items) }
+{
+    let Some(name) = page.name_of(number) else {
+        let text = page.text_of(number)?;
+        return add_words(out, text.as_str());
+    };
+    if is_never_shown(name) && !marks.is_any_in(number..page.nodes_under(number).end) {
+        return Ok(());
+    }
+    begin_element(out, number, name, marks)?;
+    draw_inside(out, page, number, name, marks)?;
+    close(out, Layout::Block)
+}
+
+// Begins the drawing of an element, which tells its mark.
+fn begin_element(
+    out: &mut Vec<u8>,
+    number: u32,
+    name: &str,
+    marks: &Marks<'_>,
+) -> Result<(), NoMemory>
+    ensures { OnOk result (BeginsDrawing out.old.items out.new.items Block) }
+{
+    match marks.words_at(number) {
+        None => open(out, Layout::Block, &[(Facet::Name, name)]),
+        Some(words) => if marks.is_first(number) {
+            open(out, Layout::Block, &[
+                (Facet::Name, name),
+                (Facet::Class, "target"),
+                (Facet::Mark, words),
+                (Facet::Anchor, "target"),
+            ])
+        } else {
+            open(out, Layout::Block, &[
+                (Facet::Name, name),
+                (Facet::Class, "target"),
+                (Facet::Mark, words),
+            ])
+        },
+    }
+}
+
+// What is said of an element, what stands in it, and the gap at its end.
+#[cycle(drawing)]
+#[tactic(auto, using(crate::proofs::Adds::adds_more))]
+fn draw_inside(
+    out: &mut Vec<u8>,
+    page: &Page,
+    number: u32,
+    name: &str,
+    marks: &Marks<'_>,
+) -> Result<(), NoMemory>
+    requires there { number < nodes page.now }
+    ensures inert { OnOk result (AddsDrawings out.old.items out.new.items) }
+{
+    add_notes_before(out, page, number, name)?;
+    add_field(out, page, number, name)?;
+    match inside_of(page, number, name) {
+        Inside::All => draw_children(out, page, number, marks)?,
+        Inside::Framed(class) => draw_framed(out, page, number, class, marks)?,
+        Inside::Script => add_script(out, page, number)?,
+        Inside::Nothing => (),
+    }
+    add_notes_behind(out, page, number, name)?;
+    add_gap(out, number, marks)
+}
+
+fn add_script(out: &mut Vec<u8>, page: &Page, number: u32) -> Result<(), NoMemory>
+    ensures { OnOk result (AddsDrawings out.old.items out.new.items) }
+{
+    let text = page.text_of(number)?;
+    let from = page.attribute_of(number, "src").unwrap_or("");
+    add_note(out, "undrawn", &["script ", from, " ", text.as_str()])
+}
+
+// Where what is missing would be.
+#[tactic(auto, using(crate::proofs::Adds::adds_none, crate::proofs::Adds::adds_box))]
+fn add_gap(out: &mut Vec<u8>, number: u32, marks: &Marks<'_>) -> Result<(), NoMemory>
+    ensures { OnOk result (AddsDrawings out.old.items out.new.items) }
+{
+    let Some(words) = marks.gap_at(number) else {
+        return Ok(());
+    };
+    if marks.all.is_empty() {
+        open(out, Layout::Block, &[
+            (Facet::Class, "gap"),
+            (Facet::Mark, words),
+            (Facet::Anchor, "target"),
+        ])?;
+    } else {
+        open(out, Layout::Block, &[(Facet::Class, "gap"), (Facet::Mark, words)])?;
+    }
+    close(out, Layout::Block)
+}
+
+// The children, in a frame of that class.
+#[cycle(drawing)]
+#[tactic(auto, using(crate::proofs::Adds::adds_box))]
+fn draw_framed(
+    out: &mut Vec<u8>,
+    page: &Page,
+    number: u32,
+    class: &str,
+    marks: &Marks<'_>,
+) -> Result<(), NoMemory>
+    requires there { number < nodes page.now }
+    ensures inert { OnOk result (AddsDrawings out.old.items out.new.items) }
+{
+    open(out, Layout::Inline, &[(Facet::Class, class)])?;
+    draw_children(out, page, number, marks)?;
+    close(out, Layout::Inline)
+}
+
+// The children of the node with that number.
+#[cycle(drawing)]
+#[tactic(auto, using(crate::proofs::Adds::adds_none, crate::proofs::Adds::adds_more))]
+fn draw_children(
+    out: &mut Vec<u8>,
+    page: &Page,
+    number: u32,
+    marks: &Marks<'_>,
+) -> Result<(), NoMemory>
+    requires there { number < nodes page.now }
+    ensures inert { OnOk result (AddsDrawings out.old.items out.new.items) }
+{
+    let under = page.nodes_under(number);
+    let mut child = under.start;
+    while child < under.end {
+        draw_node(out, page, child, marks)?;
+        child = page.nodes_under(child).end;
+    }
+    Ok(())
+}
