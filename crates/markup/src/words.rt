@@ -14,6 +14,7 @@ pub fn add_words(out: &mut Vec<u8>, words: &str) -> Result<(), AllocError>
     Ok(())
 }
 
+#[tactic(auto, unfolding(crate::specs::Escaping::escaped_byte))]
 fn add_byte(out: &mut Vec<u8>, c: u8) -> Result<(), AllocError>
     ensures { OnOk result (out.new.items ≡ out.old.items ++ escaped_byte c) }
 {
