@@ -55,14 +55,6 @@ abbrev mutual
 abbrev pub IsInertHtml : List ℕ → Type 0
 IsInertHtml text = (drawings : Drawings) × (text ≡ html_of_all drawings)
 
--- what was written behind the one text is a tag that begins such an element
-abbrev pub BeginsDrawing : List ℕ → List ℕ → Layout → Type 0
-BeginsDrawing old new layout = (facets : List (Facet × List ℕ)) × (new ≡ old ++ start_tag layout facets)
-
--- what was written behind the one text is the HTML of some drawings
-abbrev pub AddsDrawings : List ℕ → List ℕ → Type 0
-AddsDrawings old new = (drawings : Drawings) × (new ≡ old ++ html_of_all drawings)
-
 -- ---- as the program has them
 
 abbrev pub facets_seen : List (Facet × Bor (List ℕ)) → List (Facet × List ℕ)

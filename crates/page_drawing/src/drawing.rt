@@ -1,7 +1,7 @@
 //! A page is drawn.
-ghost use Rattle.std.specs.Prelude.{◌≡◌, ◌<◌, OnOk};
+ghost use Rattle.std.specs.Prelude.{◌<◌, OnOk};
 ghost use Rattle.page_tree.specs.Limits.{nodes};
-ghost use Rattle.markup.specs.Drawing.{BeginsDrawing, AddsDrawings};
+ghost use Rattle.page_drawing.specs.Drawn.{BeginsBehind, DrawsBehind};
 ghost use Rattle.markup.specs.declared.tags.Layout.TheVariants.{Block};
 
 use crate::fields::add_field;
@@ -15,7 +15,7 @@ use page_tree::{NoMemory, Page};
 /// marks there are.
 #[tactic(auto, using(crate::proofs::Adds::adds_none))]
 pub fn draw(out: &mut Vec<u8>, page: &Page, marks: &Marks<'_>) -> Result<(), NoMemory>
-    ensures inert { OnOk result (AddsDrawings out.old.items out.new.items) }
+    ensures inert { OnOk result (DrawsBehind out.old.items out.new.items) }
 {
     if page.node_count() == 0 {
         return Ok(());
@@ -25,7 +25,7 @@ pub fn draw(out: &mut Vec<u8>, page: &Page, marks: &Marks<'_>) -> Result<(), NoM
 
 // The node with that number, and what stands under it.
 #[cycle(drawing)]
-#[tactic(auto, using(crate::proofs::Adds::adds_none, crate::proofs::Adds::adds_words))]
+#[tactic(auto, using(crate::proofs::Adds::adds_none, crate::proofs::Adds::adds_words, crate::proofs::Adds::adds_box))]
 fn draw_node(
     out: &mut Vec<u8>,
     page: &Page,
@@ -33,7 +33,7 @@ fn draw_node(
     marks: &Marks<'_>,
 ) -> Result<(), NoMemory>
     requires there { number < nodes page.now }
-    ensures inert { OnOk result (AddsDrawings out.old.items out.new.items) }
+    ensures inert { OnOk result (DrawsBehind out.old.items out.new.items) }
 {
     let Some(name) = page.name_of(number) else {
         let text = page.text_of(number)?;
@@ -48,13 +48,14 @@ fn draw_node(
 }
 
 // Begins the drawing of an element, which tells its mark.
+#[tactic(auto, using(crate::proofs::Adds::begins))]
 fn begin_element(
     out: &mut Vec<u8>,
     number: u32,
     name: &str,
     marks: &Marks<'_>,
 ) -> Result<(), NoMemory>
-    ensures { OnOk result (BeginsDrawing out.old.items out.new.items Block) }
+    ensures { OnOk result (BeginsBehind out.old.items out.new.items Block) }
 {
     match marks.words_at(number) {
         None => open(out, Layout::Block, &[(Facet::Name, name)]),
@@ -86,7 +87,7 @@ fn draw_inside(
     marks: &Marks<'_>,
 ) -> Result<(), NoMemory>
     requires there { number < nodes page.now }
-    ensures inert { OnOk result (AddsDrawings out.old.items out.new.items) }
+    ensures inert { OnOk result (DrawsBehind out.old.items out.new.items) }
 {
     add_notes_before(out, page, number, name)?;
     add_field(out, page, number, name)?;
@@ -101,7 +102,7 @@ fn draw_inside(
 }
 
 fn add_script(out: &mut Vec<u8>, page: &Page, number: u32) -> Result<(), NoMemory>
-    ensures { OnOk result (AddsDrawings out.old.items out.new.items) }
+    ensures { OnOk result (DrawsBehind out.old.items out.new.items) }
 {
     let text = page.text_of(number)?;
     let from = page.attribute_of(number, "src").unwrap_or("");
@@ -109,9 +110,9 @@ fn add_script(out: &mut Vec<u8>, page: &Page, number: u32) -> Result<(), NoMemor
 }
 
 // Where what is missing would be.
-#[tactic(auto, using(crate::proofs::Adds::adds_none, crate::proofs::Adds::adds_box))]
+#[tactic(auto, using(crate::proofs::Adds::adds_none, crate::proofs::Adds::begins, crate::proofs::Adds::adds_box))]
 fn add_gap(out: &mut Vec<u8>, number: u32, marks: &Marks<'_>) -> Result<(), NoMemory>
-    ensures { OnOk result (AddsDrawings out.old.items out.new.items) }
+    ensures { OnOk result (DrawsBehind out.old.items out.new.items) }
 {
     let Some(words) = marks.gap_at(number) else {
         return Ok(());
@@ -130,7 +131,7 @@ fn add_gap(out: &mut Vec<u8>, number: u32, marks: &Marks<'_>) -> Result<(), NoMe
 
 // The children, in a frame of that class.
 #[cycle(drawing)]
-#[tactic(auto, using(crate::proofs::Adds::adds_box))]
+#[tactic(auto, using(crate::proofs::Adds::begins, crate::proofs::Adds::adds_box))]
 fn draw_framed(
     out: &mut Vec<u8>,
     page: &Page,
@@ -139,7 +140,7 @@ fn draw_framed(
     marks: &Marks<'_>,
 ) -> Result<(), NoMemory>
     requires there { number < nodes page.now }
-    ensures inert { OnOk result (AddsDrawings out.old.items out.new.items) }
+    ensures inert { OnOk result (DrawsBehind out.old.items out.new.items) }
 {
     open(out, Layout::Inline, &[(Facet::Class, class)])?;
     draw_children(out, page, number, marks)?;
@@ -156,7 +157,7 @@ fn draw_children(
     marks: &Marks<'_>,
 ) -> Result<(), NoMemory>
     requires there { number < nodes page.now }
-    ensures inert { OnOk result (AddsDrawings out.old.items out.new.items) }
+    ensures inert { OnOk result (DrawsBehind out.old.items out.new.items) }
 {
     let under = page.nodes_under(number);
     let mut child = under.start;

@@ -1,6 +1,6 @@
 //! Fields as they start.
-ghost use Rattle.std.specs.Prelude.{◌≡◌, OnOk};
-ghost use Rattle.markup.specs.Drawing.{AddsDrawings};
+ghost use Rattle.std.specs.Prelude.{OnOk};
+ghost use Rattle.page_drawing.specs.Drawn.{DrawsBehind};
 
 use crate::notes::{add_note, said};
 use crate::showing::{field_class, press_class, tick_class};
@@ -17,7 +17,7 @@ pub(crate) fn add_field(
     number: u32,
     name: &str,
 ) -> Result<(), NoMemory>
-    ensures { OnOk result (AddsDrawings out.old.items out.new.items) }
+    ensures { OnOk result (DrawsBehind out.old.items out.new.items) }
 {
     match name {
         "input" => add_input(out, page, number),
@@ -27,7 +27,7 @@ pub(crate) fn add_field(
 }
 
 fn add_input(out: &mut Vec<u8>, page: &Page, number: u32) -> Result<(), NoMemory>
-    ensures { OnOk result (AddsDrawings out.old.items out.new.items) }
+    ensures { OnOk result (DrawsBehind out.old.items out.new.items) }
 {
     let kind = said(page, number, "type");
     if kind.eq_ignore_ascii_case("hidden") {
@@ -48,7 +48,7 @@ fn add_input(out: &mut Vec<u8>, page: &Page, number: u32) -> Result<(), NoMemory
 // A checkbox or a radio button.
 #[tactic(auto, using(crate::proofs::Adds::adds_more))]
 fn add_switch(out: &mut Vec<u8>, page: &Page, number: u32, kind: &str) -> Result<(), NoMemory>
-    ensures { OnOk result (AddsDrawings out.old.items out.new.items) }
+    ensures { OnOk result (DrawsBehind out.old.items out.new.items) }
 {
     let state = if page.start_checked_of(number) {
         "\u{2611}"
@@ -61,7 +61,7 @@ fn add_switch(out: &mut Vec<u8>, page: &Page, number: u32, kind: &str) -> Result
 
 // A button that is an input: its value, else what it is.
 fn add_press(out: &mut Vec<u8>, page: &Page, number: u32, kind: &str) -> Result<(), NoMemory>
-    ensures { OnOk result (AddsDrawings out.old.items out.new.items) }
+    ensures { OnOk result (DrawsBehind out.old.items out.new.items) }
 {
     let value = page.attribute_of(number, "value");
     let words = match value {
@@ -73,7 +73,7 @@ fn add_press(out: &mut Vec<u8>, page: &Page, number: u32, kind: &str) -> Result<
 
 #[tactic(auto, using(crate::proofs::Adds::adds_more))]
 fn add_password(out: &mut Vec<u8>, page: &Page, number: u32) -> Result<(), NoMemory>
-    ensures { OnOk result (AddsDrawings out.old.items out.new.items) }
+    ensures { OnOk result (DrawsBehind out.old.items out.new.items) }
 {
     let shown = if said(page, number, "value").is_empty() {
         ""
@@ -86,7 +86,7 @@ fn add_password(out: &mut Vec<u8>, page: &Page, number: u32) -> Result<(), NoMem
 
 #[tactic(auto, using(crate::proofs::Adds::adds_more))]
 fn add_text_field(out: &mut Vec<u8>, page: &Page, number: u32) -> Result<(), NoMemory>
-    ensures { OnOk result (AddsDrawings out.old.items out.new.items) }
+    ensures { OnOk result (DrawsBehind out.old.items out.new.items) }
 {
     add_note(out, "a", &[said(page, number, "name"), " "])?;
     let class = field_class(page, number);

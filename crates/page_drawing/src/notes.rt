@@ -1,23 +1,23 @@
 //! Texts that stand in a drawing beside those of the page.
-ghost use Rattle.std.specs.Prelude.{◌≡◌, OnOk};
-ghost use Rattle.markup.specs.Drawing.{AddsDrawings};
+ghost use Rattle.std.specs.Prelude.{OnOk};
+ghost use Rattle.page_drawing.specs.Drawn.{DrawsBehind};
 
 use markup::{Facet, Layout, add_words, close, open};
 use page_tree::{NoMemory, Page};
 
 /// Adds these texts, one behind the other, in a frame of that class.
-#[tactic(auto, using(crate::proofs::Adds::adds_box))]
+#[tactic(auto, using(crate::proofs::Adds::begins, crate::proofs::Adds::adds_box))]
 pub(crate) fn add_note(out: &mut Vec<u8>, class: &str, texts: &[&str]) -> Result<(), NoMemory>
-    ensures { OnOk result (AddsDrawings out.old.items out.new.items) }
+    ensures { OnOk result (DrawsBehind out.old.items out.new.items) }
 {
     open(out, Layout::Inline, &[(Facet::Class, class)])?;
     add_texts(out, texts)?;
     close(out, Layout::Inline)
 }
 
-#[tactic(auto, using(crate::proofs::Adds::adds_none, crate::proofs::Adds::adds_words))]
+#[tactic(auto, using(crate::proofs::Adds::adds_none, crate::proofs::Adds::adds_words, crate::proofs::Adds::adds_more))]
 fn add_texts(out: &mut Vec<u8>, texts: &[&str]) -> Result<(), NoMemory>
-    ensures { OnOk result (AddsDrawings out.old.items out.new.items) }
+    ensures { OnOk result (DrawsBehind out.old.items out.new.items) }
 {
     for text in texts {
         add_words(out, text)?;
@@ -33,7 +33,7 @@ pub(crate) fn add_notes_before(
     number: u32,
     name: &str,
 ) -> Result<(), NoMemory>
-    ensures { OnOk result (AddsDrawings out.old.items out.new.items) }
+    ensures { OnOk result (DrawsBehind out.old.items out.new.items) }
 {
     match name {
         "form" => {
@@ -59,7 +59,7 @@ pub(crate) fn add_notes_behind(
     number: u32,
     name: &str,
 ) -> Result<(), NoMemory>
-    ensures { OnOk result (AddsDrawings out.old.items out.new.items) }
+    ensures { OnOk result (DrawsBehind out.old.items out.new.items) }
 {
     if name != "a" && name != "area" {
         return Ok(());

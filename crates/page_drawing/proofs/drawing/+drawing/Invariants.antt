@@ -1,6 +1,6 @@
 use Rattle.std.proofs.Common.{◌+◌, ◌*◌, ◌-◌, ◌<◌}
 use Rattle.page_tree.specs.Limits.{nodes}
-use Rattle.markup.specs.Drawing.{AddsDrawings}
+use Rattle.page_drawing.specs.Drawn.{DrawsBehind}
 use Rattle.page_drawing.proofs.drawing.+drawing.Given as goal
 
 abbrev pub decreases-draw_node : goal.decreases-draw_node
@@ -21,5 +21,5 @@ decreases-draw_children-loop-child l = l.under.end - l.child
 abbrev pub invariant-draw_children-loop-child : goal.invariant-draw_children-loop-child
 invariant-draw_children-loop-child l = record {
   behind : l.number < l.child;
-  drawn : AddsDrawings l.initial.out.items l.out.items;
+  drawn : DrawsBehind l.initial.out.items l.out.items;
 }
