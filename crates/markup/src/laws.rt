@@ -7,12 +7,10 @@ ghost use Rattle.markup.specs.Drawing.{IsInertHtml};
 #[tactic(auto, using(crate::proofs::Inert::always_inert))]
 pub fn escaped_is_inert()
     ensures { (words : List ℕ) → is_inert (escaped words) ≡ true }
-{
-}
+{}
 
 /// Drawings behind drawings are drawings.
 #[tactic(auto, using(crate::proofs::Joined::inert_joined))]
 pub fn drawings_join()
     ensures { (front rest : List ℕ) → IsInertHtml front → IsInertHtml rest → IsInertHtml (front ++ rest) }
-{
-}
+{}

@@ -1,7 +1,7 @@
 -- What is written behind a text, piece by piece, is the HTML of drawings.
-use Rattle.std.proofs.Common.{◌≡◌, ℕ, List, ◌++◌, refl, sym, ap, ◌∙◌, append_assoc, append-nil}
+use Rattle.std.proofs.Common.{◌≡◌, ℕ, List, ◌++◌, sym, ap, ◌∙◌, append_assoc, append-nil}
 use Rattle.markup.specs.Escaping.{escaped}
-use Rattle.markup.specs.Drawing.{Drawing, Drawings, no_drawings, drawing, drawn, says, html, html_of_all, start_tag, end_tag}
+use Rattle.markup.specs.Drawing.{Drawing, no_drawings, drawing, drawn, says, html, html_of_all, start_tag, end_tag}
 use Rattle.markup.specs.declared.tags.Layout.{Layout}
 use Rattle.markup.specs.declared.tags.Facet.{Facet}
 use Rattle.markup.proofs.Joined.{joined, html-joined}

@@ -6,9 +6,9 @@ ghost use Rattle.markup.specs.declared.tags.Layout.TheVariants.{Block};
 
 use crate::fields::add_field;
 use crate::marks::Marks;
-use crate::notes::{add_note, add_notes_before, add_notes_behind};
+use crate::notes::{add_note, add_notes_before, add_notes_behind, begin};
 use crate::showing::{Inside, inside_of, is_never_shown};
-use markup::{Facet, Layout, add_words, close, open};
+use markup::{Facet, Layout, add_words, close};
 use page_tree::{NoMemory, Page};
 
 /// Draws a page with its marks behind what is there. After an error a part of it may be there. The time grows with the page's size, and with that times how many
@@ -26,12 +26,7 @@ pub fn draw(out: &mut Vec<u8>, page: &Page, marks: &Marks<'_>) -> Result<(), NoM
 // The node with that number, and what stands under it.
 #[cycle(drawing)]
 #[tactic(auto, using(crate::proofs::Adds::adds_none, crate::proofs::Adds::adds_words, crate::proofs::Adds::adds_box))]
-fn draw_node(
-    out: &mut Vec<u8>,
-    page: &Page,
-    number: u32,
-    marks: &Marks<'_>,
-) -> Result<(), NoMemory>
+fn draw_node(out: &mut Vec<u8>, page: &Page, number: u32, marks: &Marks<'_>) -> Result<(), NoMemory>
     requires there { number < nodes page.now }
     ensures inert { OnOk result (DrawsBehind out.old.items out.new.items) }
 {
@@ -48,7 +43,6 @@ fn draw_node(
 }
 
 // Begins the drawing of an element, which tells its mark.
-#[tactic(auto, using(crate::proofs::Adds::begins))]
 fn begin_element(
     out: &mut Vec<u8>,
     number: u32,
@@ -58,27 +52,45 @@ fn begin_element(
     ensures { OnOk result (BeginsBehind out.old.items out.new.items Block) }
 {
     match marks.words_at(number) {
-        None => open(out, Layout::Block, &[(Facet::Name, name)]),
-        Some(words) => if marks.is_first(number) {
-            open(out, Layout::Block, &[
+        None => begin(out, Layout::Block, &[(Facet::Name, name)]),
+        Some(words) => begin_target(out, name, words, marks.is_first(number)),
+    }
+}
+
+fn begin_target<'x>(
+    out: &mut Vec<u8>,
+    name: &'x str,
+    words: &'x str,
+    is_first: bool,
+) -> Result<(), NoMemory>
+    ensures { OnOk result (BeginsBehind out.old.items out.new.items Block) }
+{
+    if is_first {
+        begin(
+            out,
+            Layout::Block,
+            &[
                 (Facet::Name, name),
                 (Facet::Class, "target"),
                 (Facet::Mark, words),
                 (Facet::Anchor, "target"),
-            ])
-        } else {
-            open(out, Layout::Block, &[
+            ],
+        )
+    } else {
+        begin(
+            out,
+            Layout::Block,
+            &[
                 (Facet::Name, name),
                 (Facet::Class, "target"),
                 (Facet::Mark, words),
-            ])
-        },
+            ],
+        )
     }
 }
 
 // What is said of an element, what stands in it, and the gap at its end.
 #[cycle(drawing)]
-#[tactic(auto, using(crate::proofs::Adds::adds_more))]
 fn draw_inside(
     out: &mut Vec<u8>,
     page: &Page,
@@ -91,14 +103,30 @@ fn draw_inside(
 {
     add_notes_before(out, page, number, name)?;
     add_field(out, page, number, name)?;
-    match inside_of(page, number, name) {
-        Inside::All => draw_children(out, page, number, marks)?,
-        Inside::Framed(class) => draw_framed(out, page, number, class, marks)?,
-        Inside::Script => add_script(out, page, number)?,
-        Inside::Nothing => (),
-    }
+    draw_content(out, page, number, name, marks)?;
     add_notes_behind(out, page, number, name)?;
     add_gap(out, number, marks)
+}
+
+// What stands in an element, as far as it is drawn.
+#[cycle(drawing)]
+#[tactic(auto, using(crate::proofs::Adds::adds_none))]
+fn draw_content(
+    out: &mut Vec<u8>,
+    page: &Page,
+    number: u32,
+    name: &str,
+    marks: &Marks<'_>,
+) -> Result<(), NoMemory>
+    requires there { number < nodes page.now }
+    ensures inert { OnOk result (DrawsBehind out.old.items out.new.items) }
+{
+    match inside_of(page, number, name) {
+        Inside::All => draw_children(out, page, number, marks),
+        Inside::Framed(class) => draw_framed(out, page, number, class, marks),
+        Inside::Script => add_script(out, page, number),
+        Inside::Nothing => Ok(()),
+    }
 }
 
 fn add_script(out: &mut Vec<u8>, page: &Page, number: u32) -> Result<(), NoMemory>
@@ -110,28 +138,41 @@ fn add_script(out: &mut Vec<u8>, page: &Page, number: u32) -> Result<(), NoMemor
 }
 
 // Where what is missing would be.
-#[tactic(auto, using(crate::proofs::Adds::adds_none, crate::proofs::Adds::begins, crate::proofs::Adds::adds_box))]
+#[tactic(auto, using(crate::proofs::Adds::adds_none))]
 fn add_gap(out: &mut Vec<u8>, number: u32, marks: &Marks<'_>) -> Result<(), NoMemory>
     ensures { OnOk result (DrawsBehind out.old.items out.new.items) }
 {
     let Some(words) = marks.gap_at(number) else {
         return Ok(());
     };
-    if marks.all.is_empty() {
-        open(out, Layout::Block, &[
-            (Facet::Class, "gap"),
-            (Facet::Mark, words),
-            (Facet::Anchor, "target"),
-        ])?;
-    } else {
-        open(out, Layout::Block, &[(Facet::Class, "gap"), (Facet::Mark, words)])?;
-    }
+    begin_gap(out, words, marks.all.is_empty())?;
     close(out, Layout::Block)
+}
+
+fn begin_gap(out: &mut Vec<u8>, words: &str, is_first: bool) -> Result<(), NoMemory>
+    ensures { OnOk result (BeginsBehind out.old.items out.new.items Block) }
+{
+    if is_first {
+        begin(
+            out,
+            Layout::Block,
+            &[
+                (Facet::Class, "gap"),
+                (Facet::Mark, words),
+                (Facet::Anchor, "target"),
+            ],
+        )
+    } else {
+        begin(
+            out,
+            Layout::Block,
+            &[(Facet::Class, "gap"), (Facet::Mark, words)],
+        )
+    }
 }
 
 // The children, in a frame of that class.
 #[cycle(drawing)]
-#[tactic(auto, using(crate::proofs::Adds::begins, crate::proofs::Adds::adds_box))]
 fn draw_framed(
     out: &mut Vec<u8>,
     page: &Page,
@@ -142,7 +183,7 @@ fn draw_framed(
     requires there { number < nodes page.now }
     ensures inert { OnOk result (DrawsBehind out.old.items out.new.items) }
 {
-    open(out, Layout::Inline, &[(Facet::Class, class)])?;
+    begin(out, Layout::Inline, &[(Facet::Class, class)])?;
     draw_children(out, page, number, marks)?;
     close(out, Layout::Inline)
 }

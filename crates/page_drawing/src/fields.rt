@@ -32,7 +32,11 @@ fn add_input(out: &mut Vec<u8>, page: &Page, number: u32) -> Result<(), NoMemory
     let kind = said(page, number, "type");
     if kind.eq_ignore_ascii_case("hidden") {
         let own = said(page, number, "name");
-        return add_note(out, "undrawn", &["hidden ", own, " = ", said(page, number, "value")]);
+        return add_note(
+            out,
+            "undrawn",
+            &["hidden ", own, " = ", said(page, number, "value")],
+        );
     }
     match page.control_of(number) {
         Control::Check | Control::Radio => add_switch(out, page, number, kind),
@@ -91,7 +95,13 @@ fn add_text_field(out: &mut Vec<u8>, page: &Page, number: u32) -> Result<(), NoM
     add_note(out, "a", &[said(page, number, "name"), " "])?;
     let class = field_class(page, number);
     match page.start_text_of(number)? {
-        Some(text) => add_note(out, class, &[text.as_str()]),
-        None => add_note(out, class, &[]),
+        Some(text) => add_one(out, class, text.as_str()),
+        None => add_one(out, class, ""),
     }
+}
+
+fn add_one(out: &mut Vec<u8>, class: &str, text: &str) -> Result<(), NoMemory>
+    ensures { OnOk result (DrawsBehind out.old.items out.new.items) }
+{
+    add_note(out, class, &[text])
 }

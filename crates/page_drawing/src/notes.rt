@@ -1,16 +1,26 @@
 //! Texts that stand in a drawing beside those of the page.
 ghost use Rattle.std.specs.Prelude.{OnOk};
-ghost use Rattle.page_drawing.specs.Drawn.{DrawsBehind};
+ghost use Rattle.page_drawing.specs.Drawn.{BeginsBehind, DrawsBehind};
 
 use markup::{Facet, Layout, add_words, close, open};
 use page_tree::{NoMemory, Page};
 
+/// Begins an element.
+pub(crate) fn begin(
+    out: &mut Vec<u8>,
+    layout: Layout,
+    facets: &[(Facet, &str)],
+) -> Result<(), NoMemory>
+    ensures { OnOk result (BeginsBehind out.old.items out.new.items layout) }
+{
+    open(out, layout, facets)
+}
+
 /// Adds these texts, one behind the other, in a frame of that class.
-#[tactic(auto, using(crate::proofs::Adds::begins, crate::proofs::Adds::adds_box))]
 pub(crate) fn add_note(out: &mut Vec<u8>, class: &str, texts: &[&str]) -> Result<(), NoMemory>
     ensures { OnOk result (DrawsBehind out.old.items out.new.items) }
 {
-    open(out, Layout::Inline, &[(Facet::Class, class)])?;
+    begin(out, Layout::Inline, &[(Facet::Class, class)])?;
     add_texts(out, texts)?;
     close(out, Layout::Inline)
 }
@@ -38,11 +48,19 @@ pub(crate) fn add_notes_before(
     match name {
         "form" => {
             let method = said(page, number, "method");
-            add_note(out, "a", &["form ", method, " ", said(page, number, "action")])
+            add_note(
+                out,
+                "a",
+                &["form ", method, " ", said(page, number, "action")],
+            )
         }
         "img" => {
             let shown = said(page, number, "alt");
-            add_note(out, "undrawn", &["image ", shown, " ", said(page, number, "src")])
+            add_note(
+                out,
+                "undrawn",
+                &["image ", shown, " ", said(page, number, "src")],
+            )
         }
         "audio" | "canvas" | "embed" | "iframe" | "math" | "object" | "svg" | "video" => {
             add_note(out, "undrawn", &[name, " ", said(page, number, "src")])

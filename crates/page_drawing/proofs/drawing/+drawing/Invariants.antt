@@ -4,16 +4,19 @@ use Rattle.page_drawing.specs.Drawn.{DrawsBehind}
 use Rattle.page_drawing.proofs.drawing.+drawing.Given as goal
 
 abbrev pub decreases-draw_node : goal.decreases-draw_node
-decreases-draw_node l = 4 * (nodes l.page.now - l.number) + 3
+decreases-draw_node l = 5 * (nodes l.page.now - l.number) + 4
 
 abbrev pub decreases-draw_inside : goal.decreases-draw_inside
-decreases-draw_inside l = 4 * (nodes l.page.now - l.number) + 2
+decreases-draw_inside l = 5 * (nodes l.page.now - l.number) + 3
+
+abbrev pub decreases-draw_content : goal.decreases-draw_content
+decreases-draw_content l = 5 * (nodes l.page.now - l.number) + 2
 
 abbrev pub decreases-draw_framed : goal.decreases-draw_framed
-decreases-draw_framed l = 4 * (nodes l.page.now - l.number) + 1
+decreases-draw_framed l = 5 * (nodes l.page.now - l.number) + 1
 
 abbrev pub decreases-draw_children : goal.decreases-draw_children
-decreases-draw_children l = 4 * (nodes l.page.now - l.number)
+decreases-draw_children l = 5 * (nodes l.page.now - l.number)
 
 abbrev pub decreases-draw_children-loop-child : goal.decreases-draw_children-loop-child
 decreases-draw_children-loop-child l = l.under.end - l.child
