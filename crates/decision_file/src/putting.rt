@@ -1,6 +1,5 @@
 //! A decision is put to the desk.
-ghost use Rattle.std.specs.Prelude.{◌≡◌, ◌<◌, ◌∷◌, [], length, option_map, Some, Ok, None};
-ghost use Rattle.std.specs.Vec.{vec_capacity};
+ghost use Rattle.std.specs.Prelude.{◌≡◌, ◌∷◌, []};
 ghost use Rattle.conflict_desk.specs.Desk.{refusal, after_call};
 ghost use Rattle.warp_run.specs.Settle.{put_on};
 
