@@ -79,7 +79,7 @@ module _ (decisions : List Decided) (visit : ℕ) (choice : Choice) where
   pub decided_still : (other : ℕ) → is_decided decisions other ≡ true → is_decided (decisions ++ record { visit = visit; choice = choice } ∷ []) other ≡ true
   decided_still other was = decided_more other ∙ or_left _ _ was
 
-  went_more : (other : ℕ) → was_cancelled (decisions ++ record { visit = visit; choice = choice } ∷ []) other ≡ (was_cancelled decisions other || (visit == other && is_cancel choice))
+  pub went_more : (other : ℕ) → was_cancelled (decisions ++ record { visit = visit; choice = choice } ∷ []) other ≡ (was_cancelled decisions other || (visit == other && is_cancel choice))
   went_more other = list_any-append (λ d. d.visit == other && is_cancel d.choice) decisions (record { visit = visit; choice = choice } ∷ []) ∙ ap (λ b. was_cancelled decisions other || b) (or-false _)
 
   pub went_other : (other : ℕ) → visit ≢ other → was_cancelled (decisions ++ record { visit = visit; choice = choice } ∷ []) other ≡ was_cancelled decisions other

@@ -2,6 +2,7 @@ pub mod Gets
 pub mod Places
 pub mod Chains
 pub mod Ways
+pub mod Along
 pub mod Fronts
 pub mod Decisions
 pub mod Keeping

@@ -1,3 +1,4 @@
 pub mod Links
 pub mod Settling
+pub mod Along
 pub mod Kept

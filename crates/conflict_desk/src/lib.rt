@@ -11,6 +11,7 @@
 //! when a desk is opened. That it allocates nothing is only tested, and how long a call takes is neither.
 #![tactic(auto)]
 
+mod below;
 mod decided;
 mod decision;
 mod desk;

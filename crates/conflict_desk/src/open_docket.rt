@@ -1,12 +1,14 @@
 //! A docket on the desk.
 ghost use Rattle.std.specs.Prelude.{◌≡◌, ◌≤◌, ◌<◌, length, slice_get, Some, None, option_map, IfOk, IfErr, OnOk};
 ghost use Rattle.conflict_desk.specs.Docket.{AreAscending, case_of_visit};
+ghost use Rattle.conflict_desk.specs.Below.{is_below_visit, AreThePassing, CancelTakesAlong};
 ghost use Rattle.conflict_desk.specs.Book.{new_book, at_visit, is_cancel, is_cancelled, front_visit, with_decision, standing_by, standing_in, standing_requests};
 ghost use Rattle.conflict_desk.specs.declared.docket.Case.{Case as OneCase};
 ghost use Rattle.conflict_desk.specs.Desk.{refusal_of};
 ghost use Rattle.conflict_desk.specs.inside.Links.{AreLinks};
 ghost use Rattle.conflict_desk.specs.inside.Settling.{Settles};
 
+use crate::below::places_below;
 use crate::decided::{Choice, Decided, Standing};
 use crate::docket::{Case, Cases, place_of};
 use crate::fault::DeskFault;
@@ -132,6 +134,15 @@ impl OpenDocket {
     {
         let place = place_of(self.cases.as_slice(), visit)?;
         Some(self.requests_at(place))
+    }
+
+    /// The places of the cases that a cancel of that visit takes along: those that have it on their chain of parents.
+    pub fn visits_below(&self, alloc: Global, visit: u64) -> Result<Vec<usize>, NoMemory>
+        ensures places { IfOk result (λ places.
+            AreThePassing (is_below_visit self.now.cases visit) self.now.cases places.items) }
+        ensures law { CancelTakesAlong self.now visit }
+    {
+        places_below(alloc, self.cases.as_slice(), self.links.as_slice(), visit)
     }
 
     fn is_cancelled_at(&self, place: usize) -> bool
