@@ -1,5 +1,5 @@
 -- What is promised of a folder, and how replaying it ends.
-use Rattle.std.proofs.Common.{◌≡◌, ℕ, List, [], ◌∷◌, map, bytes_eq, Bool, true, false, if◌then◌else◌, Option, Result, Ok, Err, IfOk, ◌⊎◌, inl, inr, refl, sym, ap, ap₂, subst, ◌∙◌}
+use Rattle.std.proofs.Common.{◌≡◌, ℕ, List, [], ◌∷◌, map, bytes_eq, Bool, true, false, if◌then◌else◌, Option, Result, Ok, Err, ◌⊎◌, inl, inr, refl, sym, ap₂, subst, ◌∙◌}
 use Rattle.std.specs.List.{AllByRecursion, list_any}
 use Rattle.std.specs.Option.{IsSome}
 use Rattle.std.specs.declared.io.Error.{Error}
@@ -10,14 +10,13 @@ use Rattle.own_pages.specs.OwnPages.{own_page_at}
 use Rattle.conflict_desk.specs.Desk.{new_books}
 use Rattle.conflict_desk.specs.Laws.{AllLeaveInOrder}
 use Rattle.conflict_desk.specs.declared.docket.Docket.{Docket}
-use Rattle.site_line.specs.Reading.{site_quota, site_decisions}
+use Rattle.site_line.specs.Reading.{site_decisions}
 use Rattle.site_file.specs.Kept.{file_site, file_own}
 use Rattle.site_file.specs.declared.file.SiteFile.{SiteFile}
 use Rattle.lanes_in_turn.specs.declared.gathered.Gathered.{Gathered}
 use Rattle.lanes_in_turn.specs.declared.gathered.Stop.{Stop}
 use Rattle.warp_run.specs.Conclusion.{repaired_site}
 use Rattle.warp_run.specs.Repair.{docket_with_own, new_repaired}
-use Rattle.warp_run.specs.Report.{report_with, WritesReport}
 use Rattle.warp_run.specs.Settle.{after_decisions}
 use Rattle.warp_run.specs.Shortage.{status_of}
 use Rattle.warp_run.specs.Status.{written_status}
@@ -33,13 +32,11 @@ use Rattle.warp_server.proofs.RoundSteps.{new_sessions}
 use Rattle.warp_server.proofs.RoundsLaws.{all_of_mapped, rounds_have, uploads_known}
 use Rattle.warp_server.proofs.ServeLaws.{status_cases}
 use Rattle.replay_folder.specs.Ends.{TakenUpload, is_refused, folder_status}
-use Rattle.replay_folder.specs.FolderReport.{upload_lines, last_summary}
-use Rattle.replay_folder.specs.Names.{NamesAll}
+use Rattle.replay_folder.specs.FolderReport.{last_summary}
 use Rattle.replay_folder.specs.Replays.{folder_repaired, HasReplayed, ReplaysOn}
 use Rattle.replay_folder.specs.Taking.{uploads_of_round, TakesRounds, HeadlineOfFolder}
-use Rattle.replay_folder.specs.inside.{HasTakenFiles, KeepsLogs, Reports}
+use Rattle.replay_folder.specs.inside.{KeepsLogs, Reports}
 use Rattle.replay_folder.specs.declared.ends.UploadEnd.{UploadEnd}
-use Rattle.replay_folder.specs.declared.names.Named.{Named}
 use Rattle.replay_folder.proofs.OwnRoundLaws.{map_rested}
 
 -- ---- the rounds
@@ -102,23 +99,6 @@ module _ (ends : List UploadEnd) where
 
 module _ {F : Type 0} (opened : List ℕ → Result F Error → Type 0) (listed : List ℕ → Result (Option (List (List ℕ))) Error → Type 0) (was_read : F → F → List Answer → Type 0)
     (site : SiteFile) (words : List (List ℕ)) where
-  -- what was taken is reported
-  pub has_replayed : (named : List Named) (ends : List UploadEnd) (gathered : Gathered F) (status : Status) → NamesAll listed words named
-      → HasTakenFiles was_read opened (site_quota (file_site site)) named ends gathered → AllLeaveInOrder (folder_repaired site ends gathered).desk
-      → status ≡ folder_status (status_of gathered) ends
-      → HasReplayed opened listed was_read site words status (report_with (upload_lines named ends) (folder_repaired site ends gathered))
-  has_replayed named ends gathered status names had leave is = record {
-    named = named;
-    named_are = names;
-    ends = ends;
-    rounds = had.rounds;
-    gathered = gathered;
-    takes = had.files;
-    headline = folder_headline was_read (site_quota (file_site site)) site ends had.rounds gathered had.takes leave;
-    status_is = is;
-    text_is = refl;
-  }
-
   module _ (call : CallWrites) where
     written : (status : Status) (text : List ℕ) → HasReplayed opened listed was_read site words status text → Takes call text 0
         → (status ≡ Done) ⊎ (status ≡ BadHello) ⊎ (status ≡ OutOfMemory) → ReplaysOn opened listed was_read site words call status
@@ -136,18 +116,3 @@ module _ {F : Type 0} (opened : List ℕ → Result F Error → Type 0) (listed 
         (subst (λ s. (s ≡ Done) ⊎ (s ≡ BadHello) ⊎ (s ≡ OutOfMemory)) (sym has.status_is) (folder_ends has.ends (status_of has.gathered) (status_cases has.gathered.stop (values has.gathered.clients))))
     replays_on status (Err report_fault.WriteFailed) (text, has, takes) = (status, text, has, takes)
     replays_on status (Err report_fault.NoMemory) (text, has, nothing) = inl nothing
-
-    -- a report that was written of what was taken, of which the logs are kept
-    pub reports_all : {E : Type 0} (named : List Named) (ends : List UploadEnd) (taking : Status) (kept gathered : Gathered F) (quota : ℕ) (result : Result (Status × Result (Unit {0}) ReportFault) E)
-        → NamesAll listed words named → quota ≡ site_quota (file_site site) → KeepsLogs kept gathered → taking ≡ status_of gathered → HasTakenFiles was_read opened quota named ends gathered
-        → IfOk result (λ both. both.0 ≡ folder_status taking ends)
-        → IfOk result (λ both. WritesReport call (report_with (upload_lines named ends) (folder_repaired site ends kept)) both.1)
-        → IfOk result (λ both. AllLeaveInOrder (folder_repaired site ends kept).desk) → IfOk result (Reports opened listed was_read site words call)
-    reports_all named ends taking kept gathered quota (Ok both) names same keeps short had status reported leave =
-        let all : folder_repaired site ends kept ≡ folder_repaired site ends gathered = kept_repaired site ends kept gathered keeps in (
-          report_with (upload_lines named ends) (folder_repaired site ends gathered),
-          has_replayed named ends gathered both.0 names (subst (λ q. HasTakenFiles was_read opened q named ends gathered) same had)
-              (subst (λ repaired. AllLeaveInOrder repaired.desk) all leave) (status ∙ ap (λ taking. folder_status taking ends) short),
-          subst (λ repaired. WritesReport call (report_with (upload_lines named ends) repaired) both.1) all reported,
-        )
-    reports_all named ends taking kept gathered quota (Err e) names same keeps short had status reported leave = tt

@@ -5,6 +5,7 @@ pub mod OwnRoundLaws
 pub mod TakenFilesLaws
 pub mod SummaryLaws
 pub mod FolderLaws
+pub mod ReplayedLaws
 pub mod ReplayLaws
 pub mod LinesLaws
 pub mod RepairedLaws

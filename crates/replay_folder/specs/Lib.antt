@@ -3,4 +3,5 @@ pub mod Ends
 pub mod Taking
 pub mod FolderReport
 pub mod Replays
+pub mod Replayed
 pub mod inside

@@ -16,13 +16,17 @@ mod taking;
 
 // The report, and all of it.
 mod concluding;
+mod halves;
 mod lines;
 mod machine;
+mod replayed;
 mod replaying;
 mod site;
 mod summaries;
 
 pub use ends::UploadEnd;
+pub use halves::{replay_uploads, report_replayed};
 pub use names::{Named, name_uploads};
 pub use opens::{OpensUploads, Watches};
+pub use replayed::{Replayed, ToldUploads};
 pub use replaying::{ReplayEnd, replay, replay_by};

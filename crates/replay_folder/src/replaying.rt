@@ -1,29 +1,20 @@
 //! All of it: the site's file, the uploads, the report.
-ghost use Rattle.std.specs.Prelude.{◌≡◌, length, None, ⊤, IfOk, IfErr};
+ghost use Rattle.std.specs.Prelude.{◌≡◌, None, ⊤, IfOk, IfErr};
 ghost use Rattle.byte_streams.specs.Reading.{WasRead};
 ghost use Rattle.byte_streams.specs.Streams.{fed_answers};
 ghost use Rattle.byte_streams.specs.declared.source.Fed.{Fed};
 ghost use Rattle.byte_streams.specs.Writing.{WritesNothing, writes_of};
-ghost use Rattle.warp_run.specs.Report.{WritesReport, report_with};
 ghost use Rattle.warp_server.specs.program.Listen.{unopened_status};
-ghost use Rattle.replay_folder.specs.Ends.{folder_status};
-ghost use Rattle.replay_folder.specs.FolderReport.{upload_lines};
 ghost use Rattle.replay_folder.specs.Replays.{ReplaysOn, Replays};
 ghost use Rattle.replay_folder.specs.inside.{Reports, no_site_end};
 
-use crate::concluding::repair_folder;
-use crate::ends::folder_status;
-use crate::lines::report_folder;
+use crate::halves::{replay_uploads, report_replayed};
 use crate::machine::{Folders, ProgressLine};
-use crate::names::{Named, name_uploads};
-use crate::open_round::TakenFiles;
 use crate::opens::{OpensUploads, Watches};
 use crate::site::site_of_file;
-use crate::taking::take_files;
 use byte_streams::{Sink, Source};
 use page_tree::NoMemory;
 use site_file::{FileWrong, NoSiteFile, SiteFile};
-use std::alloc::Global;
 use std::fs::File;
 use std::io::ErrorKind;
 use std::random::RandomSource;
@@ -31,7 +22,7 @@ use std::rt::Files;
 use std::sync::Wait;
 use std::thread::Threads;
 use std::time::Clock;
-use warp_run::{Repaired, ReportFault, Status, written_status};
+use warp_run::{ReportFault, Status, written_status};
 use warp_server::{Replaying, Words};
 
 /// How replaying ended.
@@ -128,31 +119,11 @@ fn report_uploads<
         site.now uploads (writes_of W.puts W.contents writer.old writer.new)) }
     ensures nothing { IfErr result (λ _. WritesNothing (writes_of W.puts W.contents writer.old writer.new)) }
 {
-    let named = name_uploads(rt.alloc(), opener, uploads)?;
-    let names = named.as_slice();
-    let taken = take_files(rt, opener, watcher, names, site.site().quota())?;
-    let repaired = repair_folder(rt, site, taken.ends.as_slice(), &taken.gathered)?;
-    let reported = report_taken(rt.alloc(), names, &taken, &repaired, writer);
-    watcher.let_go((taken, repaired));
-    Ok(reported)
-}
-
-// The same of what was taken, and of what became of it.
-fn report_taken<F: Source, W: Sink>(
-    alloc: Global,
-    named: &[Named],
-    taken: &TakenFiles<F>,
-    repaired: &Repaired,
-    writer: &mut W,
-) -> (Status, Result<(), ReportFault>)
-    requires each { length named.now ≡ length taken.now.ends.items }
-    ensures status { result.0 ≡ folder_status taken.now.status taken.now.ends.items }
-    ensures reported { WritesReport (writes_of W.puts W.contents writer.old writer.new)
-        (report_with (upload_lines named.now taken.now.ends.items) repaired.now) result.1 }
-{
-    let ends = taken.ends.as_slice();
-    let report = report_folder(alloc, named, ends, repaired, writer);
-    (folder_status(taken.status, ends), report)
+    let replayed = replay_uploads(rt, opener, uploads, watcher, site)?;
+    let report = report_replayed(rt.alloc(), &replayed, writer);
+    let status = replayed.status;
+    watcher.let_go(replayed);
+    Ok((status, report))
 }
 
 // How it ends where the file can't be opened.
