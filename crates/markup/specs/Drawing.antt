@@ -1,5 +1,6 @@
 -- What a page is drawn as: two elements that mean nothing to a browser, with four attributes that do nothing, and
--- texts. So nothing of it runs, leads anywhere or is loaded, whatever the texts and values are: this project's own rule.
+-- texts. So nothing of it runs, leads anywhere or is loaded, whatever the texts and values are. This is the project's
+-- own rule.
 use Rattle.std.specs.Prelude.{◌≡◌, ℕ, List, [], ◌∷◌, ◌++◌, flat_map, codes}
 use Rattle.markup.specs.Escaping.{escaped}
 use Rattle.markup.specs.declared.tags.Layout.{Layout}

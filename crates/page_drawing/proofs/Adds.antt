@@ -37,3 +37,6 @@ adds_box old begun inside new layout front between is_new =
     is_new ∙ ap (λ inside. inside ++ end_tag layout) ended ∙ append_assoc old (tag ++ text) (end_tag layout)
     ∙ ap (λ all. old ++ all) (append_assoc tag text (end_tag layout)) in
     adds_one old new (drawn layout front.facets between.drawings) whole
+
+pub adds_empty_box : (old begun new : List ℕ) (layout : Layout) → BeginsBehind old begun layout → new ≡ begun ++ end_tag layout → DrawsBehind old new
+adds_empty_box old begun new layout front is = adds_box old begun begun new layout front (adds_none begun) is

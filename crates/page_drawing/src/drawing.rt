@@ -138,7 +138,7 @@ fn add_script(out: &mut Vec<u8>, page: &Page, number: u32) -> Result<(), NoMemor
 }
 
 // Where what is missing would be.
-#[tactic(auto, using(crate::proofs::Adds::adds_none))]
+#[tactic(auto, using(crate::proofs::Adds::adds_none, crate::proofs::Adds::adds_empty_box))]
 fn add_gap(out: &mut Vec<u8>, number: u32, marks: &Marks<'_>) -> Result<(), NoMemory>
     ensures { OnOk result (DrawsBehind out.old.items out.new.items) }
 {
@@ -173,6 +173,7 @@ fn begin_gap(out: &mut Vec<u8>, words: &str, is_first: bool) -> Result<(), NoMem
 
 // The children, in a frame of that class.
 #[cycle(drawing)]
+#[tactic(auto, using(crate::proofs::Adds::adds_box))]
 fn draw_framed(
     out: &mut Vec<u8>,
     page: &Page,

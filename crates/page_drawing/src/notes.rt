@@ -17,6 +17,7 @@ pub(crate) fn begin(
 }
 
 /// Adds these texts, one behind the other, in a frame of that class.
+#[tactic(auto, using(crate::proofs::Adds::adds_box))]
 pub(crate) fn add_note(out: &mut Vec<u8>, class: &str, texts: &[&str]) -> Result<(), NoMemory>
     ensures { OnOk result (DrawsBehind out.old.items out.new.items) }
 {

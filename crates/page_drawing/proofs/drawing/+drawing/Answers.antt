@@ -1,12 +1,6 @@
 use Rattle.std.proofs.lemmas.Result.{on_ok_weaker}
-use Rattle.markup.specs.declared.tags.Layout.TheVariants.{Inline}
-use Rattle.page_drawing.proofs.Adds.{adds_more, adds_box}
+use Rattle.page_drawing.proofs.Adds.{adds_more}
 use Rattle.page_drawing.proofs.drawing.+drawing.Goals as goal
-
-pub draw_framed-returns : goal.draw_framed-returns
-draw_framed-returns t c = record {
-  inert = on_ok_weaker c.close.result (adds_box _ _ _ _ Inline c.in_ok-begin.ensures c.in_ok-draw_children.ensures.inert) c.close.ensures;
-}
 
 pub draw_inside-returns : goal.draw_inside-returns
 draw_inside-returns t c =
