@@ -1,2 +1,3 @@
 pub mod Escaping
 pub mod Drawing
+pub mod Filling
