@@ -91,6 +91,13 @@ some_within : (n m : ℕ) (o : Option ℕ) → n ≤ m → IfSome o (λ p. p < n
 some_within n m None more within = tt
 some_within n m (Some p) more within = omega arith
 
+-- the parent that a link leads to is the case's
+pub parent_linked : (cases : List Case) (links : List Link) → AreLinks cases links → (place : ℕ) (d : Link) (case : Case) → place < length links → slice_get cases place ≡ Some case
+    → option_and_then (slice_get cases) (get_or links place d).parent ≡ parent_of cases case
+parent_linked cases links are place d case within at =
+    let is = are place (get_or links place d) (slice_get-get_or links place d within) in
+    sym (ap (parent_of cases) (sym (same_Some is.case case (sym is.at ∙ at))) ∙ is.parent)
+
 -- what marks say of a parent before
 pub marked_so : (said : ℕ → Bool) (marks : List Bool) (k : ℕ) (o : Option ℕ) → ((p : ℕ) → o ≡ Some p → p < k) → Tell said k marks
     → option_map_or (λ p. slice_index_or marks p false) o false ≡ option_map_or said o false

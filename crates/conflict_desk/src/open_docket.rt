@@ -1,6 +1,6 @@
 //! A docket on the desk.
-ghost use Rattle.std.specs.Prelude.{◌≡◌, ◌≤◌, ◌<◌, length, slice_get, Some, None, option_map, IfOk, IfErr, OnOk};
-ghost use Rattle.conflict_desk.specs.Docket.{AreAscending, case_of_visit};
+ghost use Rattle.std.specs.Prelude.{◌≡◌, ◌≤◌, ◌<◌, length, slice_get, Some, None, option_map, option_and_then, IfOk, IfErr, OnOk};
+ghost use Rattle.conflict_desk.specs.Docket.{AreAscending, case_of_visit, parent_of};
 ghost use Rattle.conflict_desk.specs.Below.{is_below_visit, AreThePassing, CancelTakesAlong};
 ghost use Rattle.conflict_desk.specs.Book.{new_book, at_visit, is_cancel, is_cancelled, front_visit, with_decision, standing_by, standing_in, standing_requests};
 ghost use Rattle.conflict_desk.specs.declared.docket.Case.{Case as OneCase};
@@ -134,6 +134,15 @@ impl OpenDocket {
     {
         let place = place_of(self.cases.as_slice(), visit)?;
         Some(self.requests_at(place))
+    }
+
+    /// Where the visit stands that opened the one at that place, if the docket has it.
+    pub fn parent_at(&self, place: usize) -> Option<usize>
+        requires { place < length self.now.cases }
+        ensures { (case : OneCase) → slice_get self.now.cases place ≡ Some case
+            → option_and_then (slice_get self.now.cases) result ≡ parent_of self.now.cases case }
+    {
+        self.links.as_slice()[place].parent
     }
 
     /// The places of the cases that a cancel of that visit takes along: those that have it on their chain of parents.
