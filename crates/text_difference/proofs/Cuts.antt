@@ -4,9 +4,9 @@ use Rattle.std.specs.Str.{IsUtf8, IsCharBoundary}
 use Rattle.std.proofs.lemmas.Str.{IsCharBoundary-start, IsCharBoundary-end, IsCharBoundary-before_ascii, IsCharBoundary-after_ascii}
 use Rattle.std.proofs.lemmas.Bool.{eqb-true, leb-true, or_cases, cases_order, true≢false}
 use Rattle.std.proofs.lemmas.Bool.Decides.{nat_tests}
-use Rattle.text_difference.specs.Difference.{is_blank, is_edge, is_front_edge, is_end_edge}
+use Rattle.text_difference.specs.Difference.{parts_words, is_edge, is_front_edge, is_end_edge}
 
-blank_is_ascii : (c : ℕ) → is_blank c ≡ true → c < 128
+blank_is_ascii : (c : ℕ) → parts_words c ≡ true → c < 128
 blank_is_ascii c is = grind (arith, nat_tests)
 
 either_of_two : (text : List ℕ) (place : ℕ) → (place == 0 || nat_le (length text) place) ≡ true
@@ -32,7 +32,7 @@ at_start : (text : List ℕ) (place : ℕ) → IsUtf8 text → place ≡ 0 → I
 at_start text place utf8 none = subst (λ p. IsCharBoundary text p) (sym none) (IsCharBoundary-start text utf8)
 
 behind_a_blank : (text : List ℕ) (place : ℕ) → IsUtf8 text → place < length text
-    → is_blank (get_or text (place - 1) 0) ≡ true → IsCharBoundary text place
+    → parts_words (get_or text (place - 1) 0) ≡ true → IsCharBoundary text place
 behind_a_blank text place utf8 here blank =
     elim (first_or_not place) [
       | inl none ↦ at_start text place utf8 none

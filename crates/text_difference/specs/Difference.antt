@@ -5,13 +5,13 @@ use Rattle.std.specs.List.{common_prefix_len}
 -- ---- words
 
 -- a space, the end of a line, or a tab
-abbrev pub is_blank : ℕ → Bool
-is_blank c = c == 32 || c == 10 || c == 13 || c == 9
+abbrev pub parts_words : ℕ → Bool
+parts_words c = c == 32 || c == 10 || c == 13 || c == 9
 
 -- no word is cut there: the text begins or ends at that place, or a blank stands before it or behind it
 unfoldable pub is_edge : List ℕ → ℕ → Bool
 is_edge text place = place == 0 || nat_le (length text) place
-    || is_blank (slice_index text (place - 1)) || is_blank (slice_index text place)
+    || parts_words (slice_index text (place - 1)) || parts_words (slice_index text place)
 
 -- ---- what is the same
 

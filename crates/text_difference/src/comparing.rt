@@ -6,7 +6,7 @@ use crate::edges::{common_end, common_front, last_end_edge, last_front_edge};
 
 /// Two texts: what both begin with, what stands behind it in the old one and in the new one, and what both end with.
 #[derive(Clone, Copy, Debug, PartialEq, Eq)]
-pub struct Compared<'t> {
+pub struct TextParts<'t> {
     pub front: &'t str,
     pub gone: &'t str,
     pub added: &'t str,
@@ -14,7 +14,7 @@ pub struct Compared<'t> {
 }
 
 /// Cuts two texts where they differ. No word is cut.
-pub fn compare_texts<'t>(old: &'t str, new: &'t str) -> Compared<'t>
+pub fn compare_texts<'t>(old: &'t str, new: &'t str) -> TextParts<'t>
     ensures old { result.front.now ++ (result.gone.now ++ result.rest.now) ≡ old.now }
     ensures new { result.front.now ++ (result.added.now ++ result.rest.now) ≡ new.now }
 
@@ -28,7 +28,7 @@ pub fn compare_texts<'t>(old: &'t str, new: &'t str) -> Compared<'t>
     let (front, gone) = cut(old, count);
     let (_same, added) = cut(new, count);
     let (gone, added, rest) = cut_ends(gone, added);
-    Compared {
+    TextParts {
         front,
         gone,
         added,

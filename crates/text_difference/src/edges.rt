@@ -1,6 +1,6 @@
 //! How far two texts are the same, and where their words begin and end.
 ghost use Rattle.std.specs.Prelude.{◌≡◌, ◌≤◌, length};
-ghost use Rattle.text_difference.specs.Difference.{is_blank, is_edge, common_front, common_end, is_front_edge, is_end_edge, IsGreatest};
+ghost use Rattle.text_difference.specs.Difference.{parts_words, is_edge, common_front, common_end, is_front_edge, is_end_edge, IsGreatest};
 
 /// How many bytes the texts begin with alike.
 pub(crate) fn common_front(old: &[u8], new: &[u8]) -> usize
@@ -77,11 +77,11 @@ fn is_edge(text: &[u8], place: usize) -> bool
     if place == 0 || place >= text.len() {
         return true;
     }
-    is_blank(text[place - 1]) || is_blank(text[place])
+    parts_words(text[place - 1]) || parts_words(text[place])
 }
 
-fn is_blank(c: u8) -> bool
-    ensures { result ≡ is_blank c }
+fn parts_words(c: u8) -> bool
+    ensures { result ≡ parts_words c }
 {
     c == b' ' || c == b'\n' || c == b'\r' || c == b'\t'
 }

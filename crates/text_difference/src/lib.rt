@@ -6,4 +6,4 @@
 mod comparing;
 mod edges;
 
-pub use comparing::{Compared, compare_texts};
+pub use comparing::{TextParts, compare_texts};
