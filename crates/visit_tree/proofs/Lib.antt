@@ -1,0 +1,4 @@
+pub mod Openers
+pub mod Depths
+pub mod Siblings
+pub mod Walks
