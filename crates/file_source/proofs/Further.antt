@@ -14,8 +14,8 @@ use Rattle.byte_streams.specs.declared.source.Last.{Last}
 use Rattle.byte_streams.specs.declared.source.Last.TheVariants.{Fresh, Bytes, Nothing}
 use Rattle.byte_streams.specs.declared.fault.LineFault.{LineFault}
 use Rattle.byte_streams.specs.declared.fault.LineFault.TheVariants.{ReadFailed, Truncated, TooManyReads}
-use Rattle.file_source.specs.Source.{ReadFile, left_of}
-use Rattle.file_source.specs.inside.{gave_nothing, IsReadTo}
+use Rattle.file_source.specs.Source.{ReadFile, unread_of}
+use Rattle.file_source.specs.inside.{gave_nothing, IsReadUpTo}
 
 -- ---- answers
 
@@ -64,7 +64,7 @@ further seen place count =
     ∙ ap (λ rest. take place seen ++ rest) (drop-take place count seen)
 
 module _ {F : Type 0} (seen : F → List ℕ) (lost : F → Bool) (old new : F) (answers : List Answer) (place : ℕ) (last : Last)
-    (to : IsReadTo seen lost old answers place last) (same : seen new ≡ seen old) (sound : lost new ≡ lost old)
+    (to : IsReadUpTo seen lost old answers place last) (same : seen new ≡ seen old) (sound : lost new ≡ lost old)
     (buf : List ℕ) (count : ℕ) (fits : count ≤ length buf)
     (bytes : lost old ≡ false → take count buf ≡ take count (drop place (seen old)))
     (end : count ≡ 0 → length (seen old) ≤ place) where
@@ -77,7 +77,7 @@ module _ {F : Type 0} (seen : F → List ℕ) (lost : F → Bool) (old new : F) 
   ended_behind (inr here) = omega (arith, end (sym long ∙ eqb-true (length (take count buf)) 0 here), ap length same)
 
   pub read_more : (now : Last) → now ≡ (if count == 0 then Nothing else Bytes)
-      → IsReadTo seen lost new (answers ++ Some (take count buf) ∷ []) (place + count) now
+      → IsReadUpTo seen lost new (answers ++ Some (take count buf) ∷ []) (place + count) now
   read_more now is = record {
     place_is = omega (arith, to.place_is, ap length (bytes_more answers (take count buf)), length-append (bytes_of answers) (take count buf), long);
     last_is = is ∙ sym (fold_push (λ before answer. ended_as answer) Fresh answers (Some (take count buf))
@@ -118,7 +118,7 @@ at_end false seen place past = drop_all place seen past
 module _ {F : Type 0} (seen : F → List ℕ) (lost : F → Bool) (old new : ReadFile F) (buf : List ℕ) (count : ℕ)
     (same : seen new.file ≡ seen old.file) (sound : lost new.file ≡ lost old.file)
     (told : new.answers ≡ old.answers ++ Some (take count buf) ∷ []) (fits : count ≤ length buf) where
-  new_left : left_of seen lost new ≡ left (lost old.file) (seen old.file) (length (bytes_of old.answers) + length (take count buf))
+  new_left : unread_of seen lost new ≡ left (lost old.file) (seen old.file) (length (bytes_of old.answers) + length (take count buf))
   new_left =
       let behind = ap (λ answers. length (bytes_of answers)) told ∙ ap length (bytes_more old.answers (take count buf))
       ∙ length-append (bytes_of old.answers) (take count buf) in
@@ -127,14 +127,14 @@ module _ {F : Type 0} (seen : F → List ℕ) (lost : F → Bool) (old new : Rea
       ∙ ap (left (lost old.file) (seen old.file)) behind
 
   pub read_consumes : (lost old.file ≡ false → take count buf ≡ take count (drop (length (bytes_of old.answers)) (seen old.file)))
-      → Consumes (left_of seen lost old) (left_of seen lost new) (take count buf)
+      → Consumes (unread_of seen lost old) (unread_of seen lost new) (take count buf)
   read_consumes bytes =
       let long = length-take-le count buf fits in
-      subst (λ after. Consumes (left_of seen lost old) after (take count buf)) (sym new_left)
+      subst (λ after. Consumes (unread_of seen lost old) after (take count buf)) (sym new_left)
       (consumed (lost old.file) (seen old.file) (take count buf) (length (bytes_of old.answers))
       (λ is. bytes is ∙ ap (λ n. take n (drop (length (bytes_of old.answers)) (seen old.file))) (sym long)))
 
-  pub read_ends : length (seen old.file) ≤ length (bytes_of old.answers) → IsAtEnd (left_of seen lost new)
+  pub read_ends : length (seen old.file) ≤ length (bytes_of old.answers) → IsAtEnd (unread_of seen lost new)
   read_ends past =
       subst IsAtEnd (sym new_left)
       (at_end (lost old.file) (seen old.file) (length (bytes_of old.answers) + length (take count buf)) (omega arith))
@@ -142,7 +142,7 @@ module _ {F : Type 0} (seen : F → List ℕ) (lost : F → Bool) (old new : Rea
 -- ---- the whole file
 
 pub whole_read : {F : Type 0} (seen : F → List ℕ) (lost : F → Bool) (file : F) (answers : List Answer) (place : ℕ) (last : Last)
-    → IsReadTo seen lost file answers place last → lost file ≡ false → ending_of answers ≡ Some Truncated
+    → IsReadUpTo seen lost file answers place last → lost file ≡ false → ending_of answers ≡ Some Truncated
     → seen file ≡ bytes_of answers
 whole_read seen lost file answers place last to sound ending =
     sym (take_all place (seen file) (to.ended (gave_nothing_at_end answers ending))) ∙ to.front sound

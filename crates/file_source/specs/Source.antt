@@ -10,6 +10,6 @@ pub record ReadFile (F : Type 0) : Type 0 where
 -- `seen` is what a file gives to read, and `lost` tells that nothing is known of it.
 module _ {F : Type 0} (seen : F → List ℕ) (lost : F → Bool) where
   -- What wasn't read of it yet, where that is known.
-  abbrev pub left_of : ReadFile F → Option (List ℕ)
-  left_of source =
+  abbrev pub unread_of : ReadFile F → Option (List ℕ)
+  unread_of source =
       if lost source.file then None else Some (drop (length (bytes_of source.answers)) (seen source.file))

@@ -10,7 +10,7 @@ gave_nothing answer = not (is_none answer) && moves_nothing answer
 
 module _ {F : Type 0} (seen : F → List ℕ) (lost : F → Bool) where
   -- What was read are the bytes before that place. Where a read gave nothing, it is the end.
-  pub record IsReadTo (file : F) (answers : List Answer) (place : ℕ) (last : Last) : Type 0 where
+  pub record IsReadUpTo (file : F) (answers : List Answer) (place : ℕ) (last : Last) : Type 0 where
     pub place_is : place ≡ length (bytes_of answers)
     pub last_is : last ≡ last_read answers
     pub front : lost file ≡ false → take place (seen file) ≡ bytes_of answers

@@ -6,7 +6,7 @@ ghost use Rattle.byte_streams.specs.Answers.{answer_of, bytes_of};
 ghost use Rattle.byte_streams.specs.Cutting.{ending_of};
 ghost use Rattle.byte_streams.specs.declared.source.Last.TheVariants.{Nothing, Bytes};
 ghost use Rattle.byte_streams.specs.declared.fault.LineFault.TheVariants.{Truncated};
-ghost use Rattle.file_source.specs.Source.{left_of};
+ghost use Rattle.file_source.specs.Source.{unread_of};
 
 use byte_streams::{History, Last, Source};
 use std::io;
@@ -25,13 +25,13 @@ pub struct FileSource<F: GrowingFile> {
 
 impl<F: GrowingFile> Model for FileSource<F> {
     ghost use Rattle.file_source.specs.Source.{ReadFile};
-    ghost use Rattle.file_source.specs.inside.{IsReadTo};
+    ghost use Rattle.file_source.specs.inside.{IsReadUpTo};
 
     ghost Value = { ReadFile F };
 
     ghost view = { λ s. record { file = s.file; answers = s.history.answers } };
 
-    ghost invariant = { λ s. IsReadTo F.seen F.lost s.file s.history.answers s.at s.last };
+    ghost invariant = { λ s. IsReadUpTo F.seen F.lost s.file s.history.answers s.at s.last };
 }
 
 impl<F: GrowingFile> FileSource<F> {
@@ -58,14 +58,14 @@ impl<F: GrowingFile> FileSource<F> {
 }
 
 impl<F: GrowingFile> Read for FileSource<F> {
-    ghost use Rattle.file_source.specs.Source.{left_of};
+    ghost use Rattle.file_source.specs.Source.{unread_of};
 
-    ghost remaining = { λ source. left_of F.seen F.lost source };
+    ghost remaining = { λ source. unread_of F.seen F.lost source };
 
     // One that is offered no room fails: its answer would be that of the file's end.
     fn read(&mut self, buf: &mut [u8]) -> io::Result<usize>
         ensures bound { ReadsAtMost result buf.new }
-        ensures bytes { ReadConsumes (left_of F.seen F.lost self.old) (left_of F.seen F.lost self.new) result buf.new }
+        ensures bytes { ReadConsumes (unread_of F.seen F.lost self.old) (unread_of F.seen F.lost self.new) result buf.new }
         ensures told { self.new.answers ≡ self.old.answers ++ answer_of result buf.new ∷ [] }
     {
         match read_on(&mut self.file, self.at, buf) {

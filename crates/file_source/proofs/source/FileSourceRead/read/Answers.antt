@@ -1,7 +1,7 @@
 use Rattle.std.proofs.Common.{◌≡◌, ◌<◌, [], ◌∷◌, ◌++◌, length, take, drop, Some, ap, subst, ◌∙◌, rules, arith}
 use Rattle.std.specs.Io.KnownBytes.{Consumes, IsAtEnd}
 use Rattle.std.proofs.lemmas.Grind.{common_steps}
-use Rattle.file_source.specs.Source.{ReadFile, left_of}
+use Rattle.file_source.specs.Source.{ReadFile, unread_of}
 use Rattle.file_source.proofs.Further.{read_more, read_consumes, read_ends}
 use Rattle.file_source.proofs.source.FileSourceRead.read.Goals as goal
 
@@ -26,8 +26,8 @@ returns-in-Ok-clause-bytes g c =
     first_of (grind (arith, common_steps), search rules) in
     let old : ReadFile g.row.F.Denot = record { file = inside.file; answers = inside.history.answers } in
     let new : ReadFile g.row.F.Denot = record { file = c.read_on.new.file; answers = c.moved.new.self.answers } in
-    subst (λ (s : ReadFile g.row.F.Denot). Consumes (left_of seen lost s) (left_of seen lost new) (take count buf)
-    × (count ≡ 0 → 0 < length buf → IsAtEnd (left_of seen lost new))) c.self.view_is (
+    subst (λ (s : ReadFile g.row.F.Denot). Consumes (unread_of seen lost s) (unread_of seen lost new) (take count buf)
+    × (count ≡ 0 → 0 < length buf → IsAtEnd (unread_of seen lost new))) c.self.view_is (
       read_consumes seen lost old new buf count c.read_on.ensures.seen c.read_on.ensures.lost told c.in-Ok.ensures.bound
           (λ sound. c.in-Ok.ensures.bytes sound ∙ ap (λ p. take count (drop p (seen inside.file))) c.self.invariant.place_is),
       λ none room. read_ends seen lost old new buf count c.read_on.ensures.seen c.read_on.ensures.lost told c.in-Ok.ensures.bound
