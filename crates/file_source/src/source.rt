@@ -47,6 +47,13 @@ impl<F: GrowingFile> FileSource<F> {
         }
     }
 
+    /// How many bytes were read.
+    pub fn count(&self) -> u64
+        ensures { result ≡ length (bytes_of self.now.answers) }
+    {
+        self.at
+    }
+
     /// The file. Where its end was met, it has just the bytes that were read.
     pub fn into_file(self) -> F
         ensures file { result ≡ self.file }
