@@ -1,5 +1,5 @@
 -- One place more of what is gone through.
-use Rattle.std.proofs.Common.{◌≡◌, ℕ, zero, suc, ◌+◌, ◌<◌, ◌≤◌, inl, inr, List, [], ◌∷◌, ◌++◌, length, get_or, take, drop, map, filter, count_by, slice_get, Bool, true, false, cond, ◌&&◌, if◌then◌else◌, nat_le, nat_lt, Option, Some, None, option_and_then, refl, sym, ap, ◌∙◌, arith}
+use Rattle.std.proofs.Common.{◌≡◌, ℕ, zero, suc, ◌+◌, ◌<◌, ◌≤◌, inl, inr, List, [], ◌∷◌, ◌++◌, length, get_or, take, drop, map, filter, count_by, slice_get, Bool, true, false, cond, ◌&&◌, if◌then◌else◌, nat_le, nat_lt, Option, Some, None, option_and_then, refl, sym, ap, ◌∙◌, arith, IsTrue, ◌↔◌, subst}
 use Rattle.std.specs.List.{range_with_len, filter_map, cons_option}
 use Rattle.std.specs.Option.{option_to_list}
 use Rattle.std.specs.Borrow.{Bor}
@@ -12,6 +12,7 @@ use Rattle.std.proofs.lemmas.List.FromFn.{length-range_with_len}
 use Rattle.conflict_desk.specs.Docket.{parent_of}
 use Rattle.conflict_desk.specs.declared.docket.Case.{Case}
 use Rattle.review_state.specs.Paging.{shown_of}
+use Rattle.review_state.specs.Finding.{IsFoundIn}
 
 module _ {X : Type 0} where
   pub there_is : (xs : List X) (k : ℕ) → k < length xs → (x : X) × (slice_get xs k ≡ Some x)
@@ -119,10 +120,37 @@ opener_more cases place openers opener are is = record {
   ];
 }
 
--- ---- clients by their names
+-- ---- texts by their places
 
 pub name_at : (clients : List (Bor (List ℕ))) (k : ℕ) (client : Bor (List ℕ)) → k < length clients
     → client ≡ get_or clients k client → get_or (map (λ c. c.now) clients) k [] ≡ client.now
 name_at [] k client within is = absurd (omega (arith, within))
 name_at (c ∷ clients) zero client within is = ap (λ x. x.now) (sym is)
 name_at (c ∷ clients) (suc k) client within is = name_at clients k client (omega (arith, within)) is
+
+-- those before that place are marked where they have the part
+pub record AreFoundTo (part : List ℕ) (texts : List (List ℕ)) (place : ℕ) (marks : List Bool) : Type 0 where
+  pub count : length marks ≡ place
+  pub each : (k : ℕ) → k < place → IsTrue (get_or marks k false) ↔ IsFoundIn part (get_or texts k [])
+
+pub found_more : (part : List ℕ) (texts : List (List ℕ)) (place : ℕ) (marks : List Bool) (mark : Bool)
+    → AreFoundTo part texts place marks → (IsTrue mark ↔ IsFoundIn part (get_or texts place []))
+    → AreFoundTo part texts (place + 1) (marks ++ mark ∷ [])
+found_more part texts place marks mark are is = record {
+  count = omega (arith, are.count, length_push marks mark);
+  each = λ k less. elim (cases_lt k place) [
+    | inl before ↦
+        subst (λ b. IsTrue b ↔ IsFoundIn part (get_or texts k []))
+        (sym (get_or_append_left marks (mark ∷ []) false k (omega (arith, are.count)))) (are.each k before)
+    | inr here ↦
+        let same : k ≡ place = omega arith in
+        subst (λ p. IsTrue (get_or (marks ++ mark ∷ []) p false) ↔ IsFoundIn part (get_or texts p [])) (sym same)
+        (subst (λ b. IsTrue b ↔ IsFoundIn part (get_or texts place [])) (sym (get_or_push marks mark false place are.count)) is)
+  ];
+}
+
+pub text_at : (texts : List (Bor (List ℕ))) (k : ℕ) (none : Bor (List ℕ)) → none.now ≡ []
+    → (get_or texts k none).now ≡ get_or (map (λ t. t.now) texts) k []
+text_at [] k none is = is
+text_at (t ∷ texts) zero none is = refl
+text_at (t ∷ texts) (suc k) none is = text_at texts k none is

@@ -5,13 +5,15 @@
 #![tactic(auto)]
 
 mod branches;
+mod codes;
 mod counts;
 mod finding;
 mod fronts;
 mod paging;
 
 pub use branches::{Branches, branches_of};
+pub use codes::{coded, conflict_code};
 pub use counts::{VisitCounts, counts_of};
-pub use finding::has_part;
+pub use finding::{found_in, has_part};
 pub use fronts::{Front, fronts_of};
 pub use paging::{ShownPage, page_of};
