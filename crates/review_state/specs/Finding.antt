@@ -8,7 +8,7 @@ abbrev pub IsFoundIn : List ℕ → List ℕ → Type 0
 IsFoundIn part text = (front rest : List ℕ) × (text ≡ front ++ (part ++ rest))
 
 -- just those of the texts are marked that have the part
-pub record AreFound (part : List ℕ) (texts : List (List ℕ)) (marks : List Bool) : Type 0 where
+pub record AreMarkedFound (part : List ℕ) (texts : List (List ℕ)) (marks : List Bool) : Type 0 where
   pub count : length marks ≡ length texts
   pub each : (k : ℕ) → k < length texts
       → IsTrue (slice_index_or marks k false) ↔ IsFoundIn part (slice_index_or texts k [])

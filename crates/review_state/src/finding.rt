@@ -1,6 +1,6 @@
 //! What is looked for stands in a text.
 ghost use Rattle.std.specs.Prelude.{◌↔◌, map, IfOk, IsTrue};
-ghost use Rattle.review_state.specs.Finding.{IsFoundIn, AreFound};
+ghost use Rattle.review_state.specs.Finding.{IsFoundIn, AreMarkedFound};
 
 use memchr::memmem::Finder;
 use page_tree::NoMemory;
@@ -15,7 +15,7 @@ pub fn has_part(part: &Finder, text: &[u8]) -> bool
 
 /// Marks those of some texts that have that part.
 pub fn found_in(alloc: Global, part: &Finder, texts: &[&str]) -> Result<Vec<bool>, NoMemory>
-    ensures { IfOk result (λ marks. AreFound part.now (map (λ text. text.now) texts.now) marks.items) }
+    ensures { IfOk result (λ marks. AreMarkedFound part.now (map (λ text. text.now) texts.now) marks.items) }
 {
     let mut marks = Vec::with_capacity(alloc, texts.len())?;
     for place in 0..texts.len() {
