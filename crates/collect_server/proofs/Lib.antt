@@ -1,3 +1,1 @@
 pub mod CallLaws
-pub mod Places
-pub mod RoundLaws

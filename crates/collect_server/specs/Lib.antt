@@ -1,4 +1,3 @@
 pub mod Call
 pub mod Fault
 pub mod Rounds
-pub mod inside

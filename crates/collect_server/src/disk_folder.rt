@@ -1,7 +1,7 @@
 //! Folders of this machine.
 ghost use Rattle.std.specs.Prelude.{None, false};
 
-use crate::disk_file::{DiskFile, file_fault};
+use disk_file::{DiskFile, file_fault};
 use std::alloc::{AllocError, Global};
 use std::fs::{File, OpenOptions, TryLockError};
 use std::io::{Eprint, ErrorKind};

@@ -2,14 +2,11 @@
 #![tactic(auto)]
 
 mod call;
-mod disk_file;
 mod disk_folder;
-mod peer;
-mod peers;
 mod recorder;
+mod round_collector;
 mod serve_fault;
 mod serving;
-mod work;
 
 pub use call::{CollectFault, Collecting, accept_call};
 pub use disk_file::DiskFile;

@@ -1,5 +1,0 @@
-use Rattle.std.proofs.Common.{◌≡◌, None, replicate}
-use Rattle.collect_server.proofs.peers.Peers.new.Given as goal
-
-abbrev pub invariant-loop : goal.invariant-loop
-invariant-loop l = l.places.items ≡ replicate l.counter None

@@ -1,6 +1,0 @@
-use Rattle.collect_server.specs.Rounds.{AreAt, PlaceBegins}
-use Rattle.collect_server.proofs.Places.{Over}
-use Rattle.collect_server.proofs.peers.Peers.sweep.Given as goal
-
-abbrev pub invariant-loop-peer : goal.invariant-loop-peer
-invariant-loop-peer l = Over (AreAt PlaceBegins) l.peer-index l.fn.self.places.items l.peer-items
