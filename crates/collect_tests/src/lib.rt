@@ -5,6 +5,8 @@
 #[cfg(test)]
 mod answer_tests;
 #[cfg(test)]
+mod disk_tests;
+#[cfg(test)]
 mod file_tests;
 #[cfg(test)]
 mod memory_folder;

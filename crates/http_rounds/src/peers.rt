@@ -231,11 +231,7 @@ fn read_next<S: RoundService>(
 }
 
 // Gives the bytes of a small request that is answered.
-fn read<S: RoundService>(
-    peer: &mut Option<Peer>,
-    service: &mut S,
-    now: Instant,
-) -> usize
+fn read<S: RoundService>(peer: &mut Option<Peer>, service: &mut S, now: Instant) -> usize
     ensures { PlaceAnswers S.answers service.old peer.old peer.new service.new }
 {
     match peer {
