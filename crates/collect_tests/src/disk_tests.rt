@@ -16,13 +16,16 @@ fn what_somebody_else_wrote_stays(rt: HostRuntime) -> Result<(), Fail> {
     assert!(rt;
         file.append(b"two\n").is_ok() && file.append(b"three\n").is_ok() && file.cut(8).is_ok()
     );
-    assert_eq!(rt; fs::read(&rt, PATH)?.as_slice(), b"one\ntwo\n");
+    assert_eq!(rt; fs::read(&rt, PATH)?.as_slice(), b"one\ntwo\n".as_slice());
     fs::write(&rt, PATH, b"one\ntwo\nother\n".as_slice())?;
     for _ in 0..2 {
         assert!(rt; matches!(file.append(b"three\n"), Err(FileFault::Failed)));
         assert!(rt; file.cut(8).is_ok());
     }
-    assert_eq!(rt; fs::read(&rt, PATH)?.as_slice(), b"one\ntwo\nother\n");
+    assert_eq!(rt;
+        fs::read(&rt, PATH)?.as_slice(),
+        b"one\ntwo\nother\n".as_slice()
+    );
     fs::remove_file(&rt, PATH)?;
     Ok(())
 }
