@@ -1,4 +1,4 @@
-use Rattle.std.proofs.Common.{◌≡◌, length, take, drop, arith, ap, ◌∙◌}
+use Rattle.std.proofs.Common.{length, take, drop, arith, ap, ◌∙◌}
 use Rattle.http_rounds.proofs.Places.{answered_from}
 use Rattle.http_rounds.proofs.peers.Peers.read.Goals as goal
 
