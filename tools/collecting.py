@@ -32,7 +32,8 @@ AGAIN, SHUT = "then as ever", "then its file is closed"
 SHUT_TEXTS = [b'{"why":"the client\'s file is closed"}\n', b'{"why":"a file can\'t be used"}\n']
 
 # How each call of the system is refused, in the words of refuse.c, and what may come of the request. Behind a write
-# that goes through by half come the rest of it, the look how long the file is, the cut, and the round's sync.
+# that goes through by half come the rest of it, the look how long the file is, the cut, and the round's sync. Before
+# each write the collector looks so, too.
 REFUSALS = {
     "allocation": {"": f"503, {AGAIN}|no answer, {AGAIN}|200"},
     "open": {" 24": "200", " 28": f"507, {AGAIN}"},
