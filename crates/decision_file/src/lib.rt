@@ -6,7 +6,7 @@
 
 mod keeping;
 mod line;
-mod putting;
+mod refusing;
 mod undecided;
 
 pub use keeping::DecisionFile;

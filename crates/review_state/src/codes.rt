@@ -1,12 +1,11 @@
 //! Visits are found by the code of their conflict.
 ghost use Rattle.std.specs.Prelude.{◌≡◌, map, IfOk};
-ghost use Rattle.visit_replay.specs.Conflict.{conflict_code};
 ghost use Rattle.review_state.specs.Finding.{has_code};
 
 use conflict_desk::{Case, OpenDocket};
 use page_tree::NoMemory;
 use std::alloc::Global;
-use visit_replay::{ConflictKind, Outcome};
+use visit_replay::{Outcome, conflict_code};
 
 /// Marks the visits of a client that are conflicts of that code, whatever was decided of them.
 pub fn coded(alloc: Global, docket: &OpenDocket, code: &str) -> Result<Vec<bool>, NoMemory>
@@ -25,24 +24,5 @@ fn has_code(case: &Case, code: &str) -> bool
     match &case.outcome {
         Outcome::Conflict { kind, .. } => conflict_code(*kind) == code,
         _ => false,
-    }
-}
-
-/// The code of a conflict.
-pub fn conflict_code(kind: ConflictKind) -> &'static str
-    ensures { result.now ≡ conflict_code kind }
-{
-    match kind {
-        ConflictKind::NoPage => "K1",
-        ConflictKind::NoTarget => "K2",
-        ConflictKind::ManyTargets => "K3",
-        ConflictKind::NotAField => "K4",
-        ConflictKind::BaseChanged => "K5",
-        ConflictKind::NotALink => "K6",
-        ConflictKind::NotAForm => "K7",
-        ConflictKind::LogCut => "K8",
-        ConflictKind::Ui => "K9",
-        ConflictKind::Moved => "K10",
-        ConflictKind::Changed => "K11",
     }
 }

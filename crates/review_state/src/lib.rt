@@ -12,7 +12,7 @@ mod fronts;
 mod paging;
 
 pub use branches::{Branches, branches_of};
-pub use codes::{coded, conflict_code};
+pub use codes::coded;
 pub use counts::{VisitCounts, counts_of};
 pub use finding::{found_in, has_part};
 pub use fronts::{Front, fronts_of};

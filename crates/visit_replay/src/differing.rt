@@ -453,7 +453,8 @@ fn changed_beside(
     Difference::of(alloc, Contrast::Changed { was, now })
 }
 
-fn was_asked(alloc: Global, visit: &Visit, k: usize) -> Result<Option<Single>, NoMemory>
+/// What the visit's event with `k` events before it asked for on the page that it was made on, behind all these.
+pub fn was_asked(alloc: Global, visit: &Visit, k: usize) -> Result<Option<Single>, NoMemory>
     ensures { IfOk result (λ request. request ≡ was_asked visit.now k) }
 {
     let events = visit.events.as_slice();

@@ -34,13 +34,7 @@ pub fn place_of_event<'v>(
         Some(fresh) => {
             let mut page = RepairedPage::of(alloc, repaired, fresh)?;
             let beside = page.beside(alloc, recorded)?;
-            place_by(
-                alloc,
-                &Aiming::ByElement(beside),
-                recorded,
-                repaired,
-                event,
-            )
+            place_by(alloc, &Aiming::ByElement(beside), recorded, repaired, event)
         }
     }
 }
