@@ -1,1 +1,0 @@
-use Rattle.visit_replay.proofs.board.Board.look_anew.Goals as goal
