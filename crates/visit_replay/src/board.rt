@@ -1,5 +1,5 @@
 //! A page as a visit filled it in, at any point of its trail. It is gone along without memory, which is asked for once, for pages of so many nodes.
-ghost use Rattle.std.specs.Prelude.{ℕ, ◌≡◌, ◌<◌, ◌≤◌, true, length, take, IfOk, IfSome, IsTrue, Some, option_map};
+ghost use Rattle.std.specs.Prelude.{ℕ, List, ◌≡◌, ◌<◌, ◌≤◌, true, length, take, IfOk, IfSome, IsTrue, Some, option_map};
 ghost use Rattle.page_tree.specs.Limits.{nodes};
 ghost use Rattle.page_tree.specs.Number.{place_numbered};
 ghost use Rattle.visit_replay.specs.Requests.{link_request};
