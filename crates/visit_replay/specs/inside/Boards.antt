@@ -20,7 +20,8 @@ pub record IsWide (board : Board) : Type 0 where
   pub senders : HasPlaces board.nodes board.senders
   pub known : IfSome (known_page board) (λ page. AreRight board.names.now page board.senders)
 
--- how far it has gone along these deeds, what the fields hold there, and that the page's nodes are known, once a form was listed
+-- how far it has gone along these deeds, what the fields hold there, and that the page's nodes are known, once a form
+-- was listed
 pub record IsOn (page : Tree) (deeds : List Deed) (board : Board) : Type 0 where
   pub wide : IsWide board
   pub few : nodes page ≤ board.nodes
