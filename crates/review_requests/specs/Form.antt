@@ -1,0 +1,52 @@
+-- The words of a form, or of a query (URL Standard, section 5), and the numbers that they write: this project's own rule.
+use Rattle.std.specs.Prelude.{ℕ, List, length, Bool, false, not, ◌&&◌, ◌||◌, ◌==◌, nat_le, bytes_eq, if◌then◌else◌, Option, Some, None, codes, option_and_then}
+use Rattle.std.specs.Char.{is_ascii_digit}
+use Rattle.std.specs.List.{list_all, filter_map, slice_get}
+use Rattle.std.specs.Option.{option_map_or}
+use Rattle.std.specs.Str.Lossy.{utf8_lossy}
+use Rattle.std.specs.Str.Parse.{digits_value}
+use Rattle.form_urlencoded.specs.Form.{raw_pairs, decode}
+use Rattle.upload_reader.specs.Client.{is_client}
+
+-- ---- words
+
+-- what a name or a value of a form stands for
+abbrev pub read_word : List ℕ → List ℕ
+read_word written = utf8_lossy (decode written)
+
+-- the value of a pair that has this name
+abbrev pub value_named : List ℕ → List ℕ × List ℕ → Option (List ℕ)
+value_named name pair = if bytes_eq (read_word pair.0) name then Some (read_word pair.1) else None
+
+-- the value of the first pair that has this name
+abbrev pub word_in : List ℕ → List ℕ → Option (List ℕ)
+word_in name form = slice_get (filter_map (value_named name) (raw_pairs form)) 0
+
+-- ---- numbers
+
+-- digits alone, and no 0 before others
+abbrev pub is_numeral : List ℕ → Bool
+is_numeral text = list_all is_ascii_digit text
+    && (length text == 1 || option_map_or (λ c. not (c == 48)) (slice_get text 0) false)
+
+-- as many as the greatest number has that a word may write, 2^53 - 1
+abbrev pub max_number_digits : ℕ
+max_number_digits = 16
+
+abbrev pub number_said : List ℕ → Option ℕ
+number_said text = let n = digits_value 10 text in
+    if is_numeral text && nat_le (length text) max_number_digits && nat_le n 9007199254740991 then Some n else None
+
+-- ---- what words say
+
+abbrev pub client_in : List ℕ → List ℕ → Option (List ℕ)
+client_in name form = option_and_then (λ text. if is_client text then Some text else None) (word_in name form)
+
+-- the number of a visit, from 1 on
+abbrev pub visit_in : List ℕ → List ℕ → Option ℕ
+visit_in name form =
+    option_and_then (λ n. if nat_le 1 n then Some n else None) (option_and_then number_said (word_in name form))
+
+-- where a list is to begin: at 0 where nothing is said
+abbrev pub begin_in : List ℕ → List ℕ → Option ℕ
+begin_in name form = option_map_or number_said (word_in name form) (Some 0)

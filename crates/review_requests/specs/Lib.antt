@@ -1,0 +1,5 @@
+pub mod Form
+pub mod Host
+pub mod Origin
+pub mod Target
+pub mod Verdict
