@@ -1,4 +1,4 @@
--- The words of a form, or of a query (URL Standard, section 5), and the numbers that they write: this project's own rule.
+-- The words of a form, or of a query (URL Standard, section 5), and what they say: this project's own rule.
 use Rattle.std.specs.Prelude.{ℕ, List, length, Bool, false, not, ◌&&◌, ◌||◌, ◌==◌, nat_le, bytes_eq, if◌then◌else◌, Option, Some, None, codes, option_and_then}
 use Rattle.std.specs.Char.{is_ascii_digit}
 use Rattle.std.specs.List.{list_all, filter_map, slice_get}
@@ -39,14 +39,14 @@ number_said text = let n = digits_value 10 text in
 
 -- ---- what words say
 
-abbrev pub client_in : List ℕ → List ℕ → Option (List ℕ)
-client_in name form = option_and_then (λ text. if is_client text then Some text else None) (word_in name form)
+abbrev pub client_said : List ℕ → List ℕ → Option (List ℕ)
+client_said name form = option_and_then (λ text. if is_client text then Some text else None) (word_in name form)
 
 -- the number of a visit, from 1 on
-abbrev pub visit_in : List ℕ → List ℕ → Option ℕ
-visit_in name form =
+abbrev pub visit_said : List ℕ → List ℕ → Option ℕ
+visit_said name form =
     option_and_then (λ n. if nat_le 1 n then Some n else None) (option_and_then number_said (word_in name form))
 
 -- where a list is to begin: at 0 where nothing is said
-abbrev pub begin_in : List ℕ → List ℕ → Option ℕ
-begin_in name form = option_map_or number_said (word_in name form) (Some 0)
+abbrev pub begin_said : List ℕ → List ℕ → Option ℕ
+begin_said name form = option_map_or number_said (word_in name form) (Some 0)

@@ -1,6 +1,6 @@
 -- The views, by their addresses: this project's own rule.
 use Rattle.std.specs.Prelude.{ℕ, List, [], codes, bytes_eq, if◌then◌else◌, Option, Some, None, unwrap_or, option_map, option_and_then}
-use Rattle.review_requests.specs.Form.{word_in, client_in, visit_in, begin_in}
+use Rattle.review_requests.specs.Form.{word_in, client_said, visit_said, begin_said}
 use Rattle.review_requests.specs.declared.target.Address.{Address}
 use Rattle.review_requests.specs.declared.target.Address.TheVariants as at
 use Rattle.review_requests.specs.declared.target.Side.{Side}
@@ -24,42 +24,44 @@ address_at path =
 
 -- ---- what a query says of each
 
-abbrev pub overview_asked : List ℕ → Option View
-overview_asked query =
-    option_and_then (λ from. option_map (Overview from) (begin_in (codes "clients") query)) (begin_in (codes "from") query)
+abbrev pub asks_overview : List ℕ → Option View
+asks_overview query =
+    option_and_then (λ from. option_map (Overview from) (begin_said (codes "clients") query))
+    (begin_said (codes "from") query)
 
-abbrev pub visits_asked : List ℕ → Option View
-visits_asked query =
-    option_and_then (λ client. option_map (Visits client) (begin_in (codes "from") query)) (client_in (codes "c") query)
+abbrev pub asks_visits : List ℕ → Option View
+asks_visits query =
+    option_and_then (λ client. option_map (Visits client) (begin_said (codes "from") query))
+    (client_said (codes "c") query)
 
-abbrev pub visit_asked : List ℕ → Option View
-visit_asked query =
-    option_and_then (λ client. option_map (Visit client) (visit_in (codes "v") query)) (client_in (codes "c") query)
+abbrev pub asks_visit : List ℕ → Option View
+asks_visit query =
+    option_and_then (λ client. option_map (Visit client) (visit_said (codes "v") query)) (client_said (codes "c") query)
 
 abbrev pub side_named : List ℕ → Option Side
 side_named word = if bytes_eq word (codes "recorded") then Some Recorded else (
     if bytes_eq word (codes "repaired") then Some Repaired else None)
 
-abbrev pub side_in : List ℕ → Option Side
-side_in query = option_and_then side_named (word_in (codes "of") query)
+abbrev pub side_said : List ℕ → Option Side
+side_said query = option_and_then side_named (word_in (codes "of") query)
 
-abbrev pub drawing_asked : List ℕ → Option View
-drawing_asked query = option_and_then (λ client.
-    option_and_then (λ visit. option_map (Drawing client visit) (side_in query)) (visit_in (codes "v") query))
-    (client_in (codes "c") query)
+abbrev pub asks_drawing : List ℕ → Option View
+asks_drawing query = option_and_then (λ client.
+    option_and_then (λ visit. option_map (Drawing client visit) (side_said query)) (visit_said (codes "v") query))
+    (client_said (codes "c") query)
 
 -- the text is empty where none is said
-abbrev pub search_asked : List ℕ → Option View
-search_asked query =
-    option_map (Search (unwrap_or (word_in (codes "q") query) [])) (begin_in (codes "from") query)
+abbrev pub asks_search : List ℕ → Option View
+asks_search query =
+    option_map (Search (unwrap_or (word_in (codes "q") query) [])) (begin_said (codes "from") query)
 
 -- the view, where the query says all that it needs
 abbrev pub view_at : Address → List ℕ → Option View
-view_at at.Overview query = overview_asked query
-view_at at.Visits query = visits_asked query
-view_at at.Visit query = visit_asked query
-view_at at.Drawing query = drawing_asked query
-view_at at.Search query = search_asked query
+view_at at.Overview query = asks_overview query
+view_at at.Visits query = asks_visits query
+view_at at.Visit query = asks_visit query
+view_at at.Drawing query = asks_drawing query
+view_at at.Search query = asks_search query
 view_at at.Report query = Some Report
 view_at at.State query = Some State
 view_at at.PageStyle query = Some PageStyle

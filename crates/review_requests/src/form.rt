@@ -4,7 +4,7 @@ ghost use Rattle.std.specs.Char.{is_ascii_digit};
 ghost use Rattle.std.specs.List.{list_all, slice_get};
 ghost use Rattle.std.specs.Option.{option_map_or};
 ghost use Rattle.form_urlencoded.specs.Form.{pair_text};
-ghost use Rattle.review_requests.specs.Form.{begin_in, client_in, is_numeral, number_said, read_word, value_named, visit_in, word_in};
+ghost use Rattle.review_requests.specs.Form.{begin_said, client_said, is_numeral, number_said, read_word, value_named, visit_said, word_in};
 
 use form_urlencoded::{decode, raw_pairs};
 use page_tree::{NoMemory, Text};
@@ -52,8 +52,8 @@ fn is_named(alloc: Global, name: &str, written: &[u8]) -> Result<bool, NoMemory>
 }
 
 /// The client of that name in a form.
-pub(crate) fn client_in(alloc: Global, name: &str, form: &[u8]) -> Result<Option<Client>, NoMemory>
-    ensures { IfOk result (λ client. client ≡ client_in name.now form.now) }
+pub(crate) fn client_said(alloc: Global, name: &str, form: &[u8]) -> Result<Option<Client>, NoMemory>
+    ensures { IfOk result (λ client. client ≡ client_said name.now form.now) }
 {
     match word_in(alloc, name, form)? {
         Some(word) => match Client::read(alloc, word.as_str()) {
@@ -66,8 +66,8 @@ pub(crate) fn client_in(alloc: Global, name: &str, form: &[u8]) -> Result<Option
 }
 
 /// The number of a visit, from 1 on.
-pub(crate) fn visit_in(alloc: Global, name: &str, form: &[u8]) -> Result<Option<u64>, NoMemory>
-    ensures { IfOk result (λ visit. visit ≡ visit_in name.now form.now) }
+pub(crate) fn visit_said(alloc: Global, name: &str, form: &[u8]) -> Result<Option<u64>, NoMemory>
+    ensures { IfOk result (λ visit. visit ≡ visit_said name.now form.now) }
 {
     match word_in(alloc, name, form)? {
         Some(word) => match number_said(word.as_str()) {
@@ -79,8 +79,8 @@ pub(crate) fn visit_in(alloc: Global, name: &str, form: &[u8]) -> Result<Option<
 }
 
 /// Where a list is to begin: at 0 where nothing is said.
-pub(crate) fn begin_in(alloc: Global, name: &str, form: &[u8]) -> Result<Option<u64>, NoMemory>
-    ensures { IfOk result (λ begin. begin ≡ begin_in name.now form.now) }
+pub(crate) fn begin_said(alloc: Global, name: &str, form: &[u8]) -> Result<Option<u64>, NoMemory>
+    ensures { IfOk result (λ begin. begin ≡ begin_said name.now form.now) }
 {
     match word_in(alloc, name, form)? {
         Some(word) => Ok(number_said(word.as_str())),

@@ -1,6 +1,6 @@
 //! What a request to the administrator's page asks for: a function of the request, the port and the token alone.
 //!
-//! `judge` is refused requests of another host or page, and gives what is to be shown, or the decision that is to be made.
+//! `judge` refuses what comes to another host or from another page, and gives what is to be shown or decided.
 #![tactic(auto)]
 
 mod form;
@@ -10,4 +10,4 @@ mod target;
 mod verdict;
 
 pub use target::{Side, View};
-pub use verdict::{Asked, Refusal, judge};
+pub use verdict::{Judged, Refusal, judge};

@@ -1,8 +1,8 @@
 //! The views, by their addresses.
 ghost use Rattle.std.specs.Prelude.{◌≡◌, IfOk};
-ghost use Rattle.review_requests.specs.Target.{address_at, drawing_asked, overview_asked, search_asked, side_in, side_named, view_at, visit_asked, visits_asked};
+ghost use Rattle.review_requests.specs.Target.{address_at, asks_drawing, asks_overview, asks_search, side_said, side_named, view_at, asks_visit, asks_visits};
 
-use crate::form::{begin_in, client_in, visit_in, word_in};
+use crate::form::{begin_said, client_said, visit_said, word_in};
 use page_tree::{NoMemory, Text};
 use std::alloc::Global;
 use upload_reader::Client;
@@ -100,11 +100,11 @@ pub(crate) fn view_at(
     ensures { IfOk result (λ view. view ≡ view_at address query.now) }
 {
     match address {
-        Address::Overview => overview_asked(alloc, query),
-        Address::Visits => visits_asked(alloc, query),
-        Address::Visit => visit_asked(alloc, query),
-        Address::Drawing => drawing_asked(alloc, query),
-        Address::Search => search_asked(alloc, query),
+        Address::Overview => asks_overview(alloc, query),
+        Address::Visits => asks_visits(alloc, query),
+        Address::Visit => asks_visit(alloc, query),
+        Address::Drawing => asks_drawing(alloc, query),
+        Address::Search => asks_search(alloc, query),
         Address::Report => Ok(Some(View::Report)),
         Address::State => Ok(Some(View::State)),
         Address::PageStyle => Ok(Some(View::PageStyle)),
@@ -113,59 +113,59 @@ pub(crate) fn view_at(
     }
 }
 
-fn overview_asked(alloc: Global, query: &[u8]) -> Result<Option<View>, NoMemory>
-    ensures { IfOk result (λ view. view ≡ overview_asked query.now) }
+fn asks_overview(alloc: Global, query: &[u8]) -> Result<Option<View>, NoMemory>
+    ensures { IfOk result (λ view. view ≡ asks_overview query.now) }
 {
-    let Some(from) = begin_in(alloc, "from", query)? else {
+    let Some(from) = begin_said(alloc, "from", query)? else {
         return Ok(None);
     };
-    match begin_in(alloc, "clients", query)? {
+    match begin_said(alloc, "clients", query)? {
         Some(clients) => Ok(Some(View::Overview { from, clients })),
         None => Ok(None),
     }
 }
 
-fn visits_asked(alloc: Global, query: &[u8]) -> Result<Option<View>, NoMemory>
-    ensures { IfOk result (λ view. view ≡ visits_asked query.now) }
+fn asks_visits(alloc: Global, query: &[u8]) -> Result<Option<View>, NoMemory>
+    ensures { IfOk result (λ view. view ≡ asks_visits query.now) }
 {
-    let Some(client) = client_in(alloc, "c", query)? else {
+    let Some(client) = client_said(alloc, "c", query)? else {
         return Ok(None);
     };
-    match begin_in(alloc, "from", query)? {
+    match begin_said(alloc, "from", query)? {
         Some(from) => Ok(Some(View::Visits { client, from })),
         None => Ok(None),
     }
 }
 
-fn visit_asked(alloc: Global, query: &[u8]) -> Result<Option<View>, NoMemory>
-    ensures { IfOk result (λ view. view ≡ visit_asked query.now) }
+fn asks_visit(alloc: Global, query: &[u8]) -> Result<Option<View>, NoMemory>
+    ensures { IfOk result (λ view. view ≡ asks_visit query.now) }
 {
-    let Some(client) = client_in(alloc, "c", query)? else {
+    let Some(client) = client_said(alloc, "c", query)? else {
         return Ok(None);
     };
-    match visit_in(alloc, "v", query)? {
+    match visit_said(alloc, "v", query)? {
         Some(visit) => Ok(Some(View::Visit { client, visit })),
         None => Ok(None),
     }
 }
 
-fn drawing_asked(alloc: Global, query: &[u8]) -> Result<Option<View>, NoMemory>
-    ensures { IfOk result (λ view. view ≡ drawing_asked query.now) }
+fn asks_drawing(alloc: Global, query: &[u8]) -> Result<Option<View>, NoMemory>
+    ensures { IfOk result (λ view. view ≡ asks_drawing query.now) }
 {
-    let Some(client) = client_in(alloc, "c", query)? else {
+    let Some(client) = client_said(alloc, "c", query)? else {
         return Ok(None);
     };
-    let Some(visit) = visit_in(alloc, "v", query)? else {
+    let Some(visit) = visit_said(alloc, "v", query)? else {
         return Ok(None);
     };
-    match side_in(alloc, query)? {
+    match side_said(alloc, query)? {
         Some(side) => Ok(Some(View::Drawing { client, visit, side })),
         None => Ok(None),
     }
 }
 
-fn side_in(alloc: Global, query: &[u8]) -> Result<Option<Side>, NoMemory>
-    ensures { IfOk result (λ side. side ≡ side_in query.now) }
+fn side_said(alloc: Global, query: &[u8]) -> Result<Option<Side>, NoMemory>
+    ensures { IfOk result (λ side. side ≡ side_said query.now) }
 {
     match word_in(alloc, "of", query)? {
         Some(word) => Ok(side_named(word.as_str())),
@@ -185,10 +185,10 @@ fn side_named(word: &str) -> Option<Side>
     None
 }
 
-fn search_asked(alloc: Global, query: &[u8]) -> Result<Option<View>, NoMemory>
-    ensures { IfOk result (λ view. view ≡ search_asked query.now) }
+fn asks_search(alloc: Global, query: &[u8]) -> Result<Option<View>, NoMemory>
+    ensures { IfOk result (λ view. view ≡ asks_search query.now) }
 {
-    let Some(from) = begin_in(alloc, "from", query)? else {
+    let Some(from) = begin_said(alloc, "from", query)? else {
         return Ok(None);
     };
     match word_in(alloc, "q", query)? {

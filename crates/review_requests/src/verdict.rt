@@ -2,9 +2,9 @@
 ghost use Rattle.std.specs.Prelude.{◌≡◌, ◌==◌, is_some, IfOk};
 ghost use Rattle.std.specs.List.{before_first};
 ghost use Rattle.review_requests.specs.Form.{word_in};
-ghost use Rattle.review_requests.specs.Verdict.{asked_of, asked_of_host, choice_by, choice_in, decision_in, form_asks, has_token, is_form, is_form_type, only_looks, posting_asks, reading_asks};
+ghost use Rattle.review_requests.specs.Verdict.{asked_of, asked_of_host, choice_by, choice_said, decision_said, form_asks, has_token, sends_form, is_form_type, only_looks, posting_asks, reading_asks};
 
-use crate::form::{client_in, visit_in, word_in};
+use crate::form::{client_said, visit_said, word_in};
 use crate::host::{field_text, host_of, is_local};
 use crate::origin::is_from_host;
 use crate::target::{Address, View, address_at, view_at};
@@ -42,7 +42,7 @@ pub enum Refusal {
 
 /// What a request is.
 #[derive(Debug, Drop)]
-pub enum Asked {
+pub enum Judged {
     Refused(Refusal),
     Shows(View),
     Decides(Decision),
@@ -54,15 +54,15 @@ pub fn judge(
     request: &Request<Bytes>,
     port: u16,
     token: &str,
-) -> Result<Asked, NoMemory>
+) -> Result<Judged, NoMemory>
     ensures { IfOk result (λ asked. asked ≡ asked_of request.now port token.now) }
 {
     let Some(host) = host_of(request) else {
-        return Ok(Asked::Refused(Refusal::OtherHost));
+        return Ok(Judged::Refused(Refusal::OtherHost));
     };
     match is_local(alloc, port, host) {
         Ok(true) => judge_local(alloc, request, host, token),
-        Ok(false) => Ok(Asked::Refused(Refusal::OtherHost)),
+        Ok(false) => Ok(Judged::Refused(Refusal::OtherHost)),
         Err(e) => Err(e),
     }
 }
@@ -73,7 +73,7 @@ fn judge_local(
     request: &Request<Bytes>,
     host: &str,
     token: &str,
-) -> Result<Asked, NoMemory>
+) -> Result<Judged, NoMemory>
     ensures { IfOk result (λ asked. asked ≡ asked_of_host request.now host.now token.now) }
 {
     let path = request.uri().path();
@@ -81,12 +81,12 @@ fn judge_local(
         return if request.method().as_str() == "POST" {
             judge_posting(alloc, request, host, token)
         } else {
-            Ok(Asked::Refused(Refusal::OnlyPosted))
+            Ok(Judged::Refused(Refusal::OnlyPosted))
         };
     }
     match address_at(path) {
         Some(address) => judge_reading(alloc, address, request),
-        None => Ok(Asked::Refused(Refusal::NoAddress)),
+        None => Ok(Judged::Refused(Refusal::NoAddress)),
     }
 }
 
@@ -94,19 +94,19 @@ fn judge_reading(
     alloc: Global,
     address: Address,
     request: &Request<Bytes>,
-) -> Result<Asked, NoMemory>
+) -> Result<Judged, NoMemory>
     ensures { IfOk result (λ asked. asked ≡ reading_asks address request.now) }
 {
     if !only_looks(request.method().as_str()) {
-        return Ok(Asked::Refused(Refusal::OnlyRead));
+        return Ok(Judged::Refused(Refusal::OnlyRead));
     }
     let query = match request.uri().query() {
         Some(query) => query,
         None => "",
     };
     match view_at(alloc, address, query.as_bytes()) {
-        Ok(Some(view)) => Ok(Asked::Shows(view)),
-        Ok(None) => Ok(Asked::Refused(Refusal::NoAddress)),
+        Ok(Some(view)) => Ok(Judged::Shows(view)),
+        Ok(None) => Ok(Judged::Refused(Refusal::NoAddress)),
         Err(e) => Err(e),
     }
 }
@@ -122,23 +122,23 @@ fn judge_posting(
     request: &Request<Bytes>,
     host: &str,
     token: &str,
-) -> Result<Asked, NoMemory>
+) -> Result<Judged, NoMemory>
     ensures { IfOk result (λ asked. asked ≡ posting_asks request.now host.now token.now) }
 {
     if !is_from_host(request, host) {
-        return Ok(Asked::Refused(Refusal::OtherPage));
+        return Ok(Judged::Refused(Refusal::OtherPage));
     }
-    if !is_form(request) {
-        return Ok(Asked::Refused(Refusal::NoForm));
+    if !sends_form(request) {
+        return Ok(Judged::Refused(Refusal::NoForm));
     }
     if request.body().len() > MAX_FORM_BYTES {
-        return Ok(Asked::Refused(Refusal::LongForm));
+        return Ok(Judged::Refused(Refusal::LongForm));
     }
     judge_form(alloc, token, request.body().as_slice())
 }
 
-fn is_form(request: &Request<Bytes>) -> bool
-    ensures { result ≡ is_form request.now }
+fn sends_form(request: &Request<Bytes>) -> bool
+    ensures { result ≡ sends_form request.now }
 {
     match field_text(request, CONTENT_TYPE) {
         Some(value) => is_form_type(value),
@@ -163,16 +163,16 @@ fn kind_of(value: &str) -> &str
     }
 }
 
-fn judge_form(alloc: Global, token: &str, form: &[u8]) -> Result<Asked, NoMemory>
+fn judge_form(alloc: Global, token: &str, form: &[u8]) -> Result<Judged, NoMemory>
     ensures { IfOk result (λ asked. asked ≡ form_asks token.now form.now) }
 {
-    let Some(decision) = decision_in(alloc, form)? else {
-        return Ok(Asked::Refused(Refusal::BadForm));
+    let Some(decision) = decision_said(alloc, form)? else {
+        return Ok(Judged::Refused(Refusal::BadForm));
     };
     if has_token(alloc, token, form)? {
-        Ok(Asked::Decides(decision))
+        Ok(Judged::Decides(decision))
     } else {
-        Ok(Asked::Refused(Refusal::OldToken))
+        Ok(Judged::Refused(Refusal::OldToken))
     }
 }
 
@@ -185,16 +185,16 @@ fn has_token(alloc: Global, token: &str, form: &[u8]) -> Result<bool, NoMemory>
     }
 }
 
-fn decision_in(alloc: Global, form: &[u8]) -> Result<Option<Decision>, NoMemory>
-    ensures { IfOk result (λ decision. decision ≡ decision_in form.now) }
+fn decision_said(alloc: Global, form: &[u8]) -> Result<Option<Decision>, NoMemory>
+    ensures { IfOk result (λ decision. decision ≡ decision_said form.now) }
 {
-    let Some(client) = client_in(alloc, "client", form)? else {
+    let Some(client) = client_said(alloc, "client", form)? else {
         return Ok(None);
     };
-    let Some(visit) = visit_in(alloc, "visit", form)? else {
+    let Some(visit) = visit_said(alloc, "visit", form)? else {
         return Ok(None);
     };
-    match choice_in(alloc, form)? {
+    match choice_said(alloc, form)? {
         Some(choice) => Ok(Some(Decision {
             client,
             visit,
@@ -204,8 +204,8 @@ fn decision_in(alloc: Global, form: &[u8]) -> Result<Option<Decision>, NoMemory>
     }
 }
 
-fn choice_in(alloc: Global, form: &[u8]) -> Result<Option<Choice>, NoMemory>
-    ensures { IfOk result (λ choice. choice ≡ choice_in form.now) }
+fn choice_said(alloc: Global, form: &[u8]) -> Result<Option<Choice>, NoMemory>
+    ensures { IfOk result (λ choice. choice ≡ choice_said form.now) }
 {
     let keeps = has_word(alloc, "keep", form)?;
     let cancels = has_word(alloc, "cancel", form)?;
