@@ -17,7 +17,8 @@ pub joined_by_rest : (text front rest left : List ℕ) → bytes_eq (take (lengt
 joined_by_rest text front rest left begins is = by_both (bytes_eq left rest) (bytes_eq text (front ++ rest)) refl refl
   where
     split : text ≡ front ++ left
-    split = sym (take-append-drop (length front) text) ∙ ap (λ f. f ++ drop (length front) text) ((bytes_eq-Decides (take (length front) text) front).0 begins)
+    split = sym (take-append-drop (length front) text)
+        ∙ ap (λ f. f ++ drop (length front) text) ((bytes_eq-Decides (take (length front) text) front).0 begins)
         ∙ ap (λ l. front ++ l) (sym is)
 
     by_both : (part whole : Bool) → bytes_eq left rest ≡ part → bytes_eq text (front ++ rest) ≡ whole → part ≡ whole

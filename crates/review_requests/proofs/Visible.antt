@@ -14,7 +14,8 @@ no_test bytes false is not = refl
 abbrev text_by : Option FieldValue → Option (List ℕ)
 text_by o = option_and_then (λ (v : FieldValue). if is_visible_text v.bytes then Some v.bytes else None) o
 
-pub text_some : (o : Option FieldValue) (value : FieldValue) (text : List ℕ) → Some value ≡ o → text ≡ value.bytes → IsVisibleAscii value.bytes → Some text ≡ text_by o
+pub text_some : (o : Option FieldValue) (value : FieldValue) (text : List ℕ) →
+    Some value ≡ o → text ≡ value.bytes → IsVisibleAscii value.bytes → Some text ≡ text_by o
 text_some o value text is same visible =
     ap Some same ∙ ap (λ b. if b then Some value.bytes else None) (sym (is_visible value.bytes visible)) ∙ ap text_by is
 

@@ -23,7 +23,8 @@ has_digit : (text : List ℕ) → (length text == 1 || option_map_or (λ c. not 
 has_digit [] is = absurd (false≢true is)
 has_digit (c ∷ cs) is = omega arith
 
-pub parse_number : {E : Type 0} (text : List ℕ) (r : Result ℕ E) → ParsesUnsigned 64 10 text r → is_numeral text ≡ true → nat_le (length text) 16 ≡ true
+pub parse_number : {E : Type 0} (text : List ℕ) (r : Result ℕ E) → ParsesUnsigned 64 10 text r
+    → is_numeral text ≡ true → nat_le (length text) 16 ≡ true
     → result_ok r ≡ Some (digits_value 10 text)
 parse_number text r parses numeral short =
     let tested = and_parts _ _ numeral in

@@ -2,6 +2,8 @@
 #![tactic(auto)]
 
 #[cfg(test)]
+mod request_tests;
+#[cfg(test)]
 mod text_tests;
 #[cfg(test)]
 mod tree_tests;
