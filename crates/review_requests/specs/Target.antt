@@ -1,6 +1,6 @@
 -- The views, by their addresses: this project's own rule.
 use Rattle.std.specs.Prelude.{ℕ, List, [], codes, bytes_eq, if◌then◌else◌, Option, Some, None, unwrap_or, option_map, option_and_then}
-use Rattle.review_requests.specs.Form.{word_in, client_said, visit_said, begin_said}
+use Rattle.review_requests.specs.Form.{word_in, client_word, visit_word, visit_word_if_any, begin_word}
 use Rattle.review_requests.specs.declared.target.Address.{Address}
 use Rattle.review_requests.specs.declared.target.Address.TheVariants as at
 use Rattle.review_requests.specs.declared.target.Side.{Side}
@@ -26,34 +26,36 @@ address_at path =
 
 abbrev pub asks_overview : List ℕ → Option View
 asks_overview query =
-    option_and_then (λ from. option_map (Overview from) (begin_said (codes "clients") query))
-    (begin_said (codes "from") query)
+    option_and_then (λ from. option_map (Overview from) (begin_word (codes "clients") query))
+    (begin_word (codes "from") query)
 
 abbrev pub asks_visits : List ℕ → Option View
 asks_visits query =
-    option_and_then (λ client. option_map (Visits client) (begin_said (codes "from") query))
-    (client_said (codes "c") query)
+    option_and_then (λ client. option_map (Visits client) (begin_word (codes "from") query))
+    (client_word (codes "c") query)
 
 abbrev pub asks_visit : List ℕ → Option View
-asks_visit query =
-    option_and_then (λ client. option_map (Visit client) (visit_said (codes "v") query)) (client_said (codes "c") query)
+asks_visit query = option_and_then (λ client.
+    option_and_then (λ visit. option_map (Visit client visit) (visit_word_if_any (codes "told") query))
+    (visit_word (codes "v") query))
+    (client_word (codes "c") query)
 
 abbrev pub side_named : List ℕ → Option Side
 side_named word = if bytes_eq word (codes "recorded") then Some Recorded else (
     if bytes_eq word (codes "repaired") then Some Repaired else None)
 
-abbrev pub side_said : List ℕ → Option Side
-side_said query = option_and_then side_named (word_in (codes "of") query)
+abbrev pub side_word : List ℕ → Option Side
+side_word query = option_and_then side_named (word_in (codes "of") query)
 
 abbrev pub asks_drawing : List ℕ → Option View
 asks_drawing query = option_and_then (λ client.
-    option_and_then (λ visit. option_map (Drawing client visit) (side_said query)) (visit_said (codes "v") query))
-    (client_said (codes "c") query)
+    option_and_then (λ visit. option_map (Drawing client visit) (side_word query)) (visit_word (codes "v") query))
+    (client_word (codes "c") query)
 
 -- the text is empty where none is said
 abbrev pub asks_search : List ℕ → Option View
 asks_search query =
-    option_map (Search (unwrap_or (word_in (codes "q") query) [])) (begin_said (codes "from") query)
+    option_map (Search (unwrap_or (word_in (codes "q") query) [])) (begin_word (codes "from") query)
 
 -- the view, where the query says all that it needs
 abbrev pub view_at : Address → List ℕ → Option View

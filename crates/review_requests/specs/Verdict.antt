@@ -10,7 +10,7 @@ use Rattle.http_uri.specs.Uri.{uri_path, uri_query}
 use Rattle.conflict_desk.specs.declared.decided.Choice.{Choice}
 use Rattle.conflict_desk.specs.declared.decided.Choice.TheVariants.{Cancel, Keep}
 use Rattle.conflict_desk.specs.declared.decision.Decision.{Decision}
-use Rattle.review_requests.specs.Form.{word_in, client_said, visit_said}
+use Rattle.review_requests.specs.Form.{word_in, client_word, visit_word}
 use Rattle.review_requests.specs.Host.{field_text, host_of, is_local}
 use Rattle.review_requests.specs.Origin.{is_from_host}
 use Rattle.review_requests.specs.Target.{address_at, view_at}
@@ -26,17 +26,17 @@ abbrev pub choice_by : Bool → Bool → Option Choice
 choice_by keeps cancels =
     if keeps then (if cancels then None else Some Keep) else (if cancels then Some Cancel else None)
 
-abbrev pub choice_said : List ℕ → Option Choice
-choice_said form = choice_by (is_some (word_in (codes "keep") form)) (is_some (word_in (codes "cancel") form))
+abbrev pub choice_pressed : List ℕ → Option Choice
+choice_pressed form = choice_by (is_some (word_in (codes "keep") form)) (is_some (word_in (codes "cancel") form))
 
 abbrev pub decision_by : List ℕ → ℕ → Choice → Decision
 decision_by client visit choice = record { client = client; visit = visit; choice = choice }
 
-abbrev pub decision_said : List ℕ → Option Decision
-decision_said form = option_and_then (λ client.
-    option_and_then (λ visit. option_map (decision_by client visit) (choice_said form))
-    (visit_said (codes "visit") form))
-    (client_said (codes "client") form)
+abbrev pub decision_asked : List ℕ → Option Decision
+decision_asked form = option_and_then (λ client.
+    option_and_then (λ visit. option_map (decision_by client visit) (choice_pressed form))
+    (visit_word (codes "visit") form))
+    (client_word (codes "client") form)
 
 abbrev pub has_token : List ℕ → List ℕ → Bool
 has_token token form = option_map_or (λ word. bytes_eq word token) (word_in (codes "token") form) false
@@ -45,7 +45,7 @@ has_token token form = option_map_or (λ word. bytes_eq word token) (word_in (co
 abbrev pub form_asks : List ℕ → List ℕ → Judged
 form_asks token form = option_map_or
     (λ decision. if has_token token form then Decides decision else Refused OldToken)
-    (decision_said form) (Refused BadForm)
+    (decision_asked form) (Refused BadForm)
 
 -- a form as a browser sends it, its parameters aside
 abbrev pub is_form_type : List ℕ → Bool

@@ -4,16 +4,12 @@ ghost use Rattle.std.specs.Char.{is_ascii_digit};
 ghost use Rattle.std.specs.List.{list_all, slice_get};
 ghost use Rattle.std.specs.Option.{option_map_or};
 ghost use Rattle.form_urlencoded.specs.Form.{pair_text};
-ghost use Rattle.review_requests.specs.Form.{begin_said, client_said, is_numeral, number_said, read_word, value_named, visit_said, word_in};
+ghost use Rattle.review_requests.specs.Form.{begin_word, client_word, is_numeral, number_said, read_word, value_named, visit_word_if_any, visit_written, visit_word, word_in};
 
 use form_urlencoded::{decode, raw_pairs};
 use page_tree::{NoMemory, Text};
 use std::alloc::{AllocError, Global};
-use upload_reader::{Client, HelloFault};
-
-const MAX_NUMBER_DIGITS: usize = 16;
-
-const MAX_NUMBER: u64 = (1 << 53) - 1;
+use upload_reader::{Client, HelloFault, MAX_NUMBER};
 
 /// The value of the first pair that has this name.
 pub(crate) fn word_in(alloc: Global, name: &str, form: &[u8]) -> Result<Option<Text>, NoMemory>
@@ -30,11 +26,7 @@ pub(crate) fn word_in(alloc: Global, name: &str, form: &[u8]) -> Result<Option<T
 }
 
 // The value of a pair that has this name.
-fn value_named(
-    alloc: Global,
-    name: &str,
-    pair: (&[u8], &[u8]),
-) -> Result<Option<Text>, NoMemory>
+fn value_named(alloc: Global, name: &str, pair: (&[u8], &[u8])) -> Result<Option<Text>, NoMemory>
     ensures { IfOk result (λ value. value ≡ value_named name.now (pair_text pair.entry)) }
 {
     if !is_named(alloc, name, pair.0)? {
@@ -52,8 +44,12 @@ fn is_named(alloc: Global, name: &str, written: &[u8]) -> Result<bool, NoMemory>
 }
 
 /// The client of that name in a form.
-pub(crate) fn client_said(alloc: Global, name: &str, form: &[u8]) -> Result<Option<Client>, NoMemory>
-    ensures { IfOk result (λ client. client ≡ client_said name.now form.now) }
+pub(crate) fn client_word(
+    alloc: Global,
+    name: &str,
+    form: &[u8],
+) -> Result<Option<Client>, NoMemory>
+    ensures { IfOk result (λ client. client ≡ client_word name.now form.now) }
 {
     match word_in(alloc, name, form)? {
         Some(word) => match Client::read(alloc, word.as_str()) {
@@ -66,21 +62,42 @@ pub(crate) fn client_said(alloc: Global, name: &str, form: &[u8]) -> Result<Opti
 }
 
 /// The number of a visit, from 1 on.
-pub(crate) fn visit_said(alloc: Global, name: &str, form: &[u8]) -> Result<Option<u64>, NoMemory>
-    ensures { IfOk result (λ visit. visit ≡ visit_said name.now form.now) }
+pub(crate) fn visit_word(alloc: Global, name: &str, form: &[u8]) -> Result<Option<u64>, NoMemory>
+    ensures { IfOk result (λ visit. visit ≡ visit_word name.now form.now) }
 {
     match word_in(alloc, name, form)? {
-        Some(word) => match number_said(word.as_str()) {
-            Some(visit) => Ok(if 1 <= visit { Some(visit) } else { None }),
-            None => Ok(None),
-        },
+        Some(word) => Ok(visit_written(word.as_str())),
         None => Ok(None),
     }
 }
 
+/// The same where it may be left out: without a number where another word is said.
+pub(crate) fn visit_word_if_any(
+    alloc: Global,
+    name: &str,
+    form: &[u8],
+) -> Result<Option<Option<u64>>, NoMemory>
+    ensures { IfOk result (λ visit. visit ≡ visit_word_if_any name.now form.now) }
+{
+    match word_in(alloc, name, form)? {
+        Some(word) => match visit_written(word.as_str()) {
+            Some(visit) => Ok(Some(Some(visit))),
+            None => Ok(None),
+        },
+        None => Ok(Some(None)),
+    }
+}
+
+fn visit_written(text: &str) -> Option<u64>
+    ensures { result ≡ visit_written text.now }
+{
+    let visit = number_said(text)?;
+    if 1 <= visit { Some(visit) } else { None }
+}
+
 /// Where a list is to begin: at 0 where nothing is said.
-pub(crate) fn begin_said(alloc: Global, name: &str, form: &[u8]) -> Result<Option<u64>, NoMemory>
-    ensures { IfOk result (λ begin. begin ≡ begin_said name.now form.now) }
+pub(crate) fn begin_word(alloc: Global, name: &str, form: &[u8]) -> Result<Option<u64>, NoMemory>
+    ensures { IfOk result (λ begin. begin ≡ begin_word name.now form.now) }
 {
     match word_in(alloc, name, form)? {
         Some(word) => Ok(number_said(word.as_str())),
@@ -91,7 +108,7 @@ pub(crate) fn begin_said(alloc: Global, name: &str, form: &[u8]) -> Result<Optio
 fn number_said(text: &str) -> Option<u64>
     ensures { result ≡ number_said text.now }
 {
-    if !is_numeral(text.as_bytes()) || text.len() > MAX_NUMBER_DIGITS {
+    if !is_numeral(text.as_bytes()) {
         return None;
     }
     let n: u64 = text.parse().ok()?;

@@ -39,9 +39,11 @@ pub(crate) fn is_local(alloc: Global, port: u16, host: &str) -> Result<bool, NoM
     let digits = format!(in alloc; "{port}")?;
     let digits = digits.as_bytes();
     let named = host.as_bytes();
-    Ok(is_joined(named, b"127.0.0.1:", digits)
-        || is_joined(named, b"localhost:", digits)
-        || (port == 80 && (host == "127.0.0.1" || host == "localhost")))
+    Ok(
+        is_joined(named, b"127.0.0.1:", digits)
+            || is_joined(named, b"localhost:", digits)
+            || (port == 80 && (host == "127.0.0.1" || host == "localhost")),
+    )
 }
 
 /// Whether a text is made of these two.

@@ -1,8 +1,8 @@
 //! The views, by their addresses.
 ghost use Rattle.std.specs.Prelude.{◌≡◌, IfOk};
-ghost use Rattle.review_requests.specs.Target.{address_at, asks_drawing, asks_overview, asks_search, side_said, side_named, view_at, asks_visit, asks_visits};
+ghost use Rattle.review_requests.specs.Target.{address_at, asks_drawing, asks_overview, asks_search, side_word, side_named, view_at, asks_visit, asks_visits};
 
-use crate::form::{begin_said, client_said, visit_said, word_in};
+use crate::form::{begin_word, client_word, visit_word, visit_word_if_any, word_in};
 use page_tree::{NoMemory, Text};
 use std::alloc::Global;
 use upload_reader::Client;
@@ -35,10 +35,21 @@ pub enum Side {
 #[derive(Debug, Drop)]
 pub enum View {
     /// What wants attention: conflicts from one place on, clients from the other.
-    Overview { from: u64, clients: u64 },
+    Overview {
+        from: u64,
+        clients: u64,
+    },
     /// A client, and its visits from a place on.
-    Visits { client: Client, from: u64 },
-    Visit { client: Client, visit: u64 },
+    Visits {
+        client: Client,
+        from: u64,
+    },
+    /// A visit, and which one was decided before, where this is told.
+    Visit {
+        client: Client,
+        visit: u64,
+        told: Option<u64>,
+    },
     /// A page of a visit, drawn.
     Drawing {
         client: Client,
@@ -46,7 +57,10 @@ pub enum View {
         side: Side,
     },
     /// What has this text, from a place on.
-    Search { text: Text, from: u64 },
+    Search {
+        text: Text,
+        from: u64,
+    },
     Report,
     /// How many decisions there are.
     State,
@@ -116,10 +130,10 @@ pub(crate) fn view_at(
 fn asks_overview(alloc: Global, query: &[u8]) -> Result<Option<View>, NoMemory>
     ensures { IfOk result (λ view. view ≡ asks_overview query.now) }
 {
-    let Some(from) = begin_said(alloc, "from", query)? else {
+    let Some(from) = begin_word(alloc, "from", query)? else {
         return Ok(None);
     };
-    match begin_said(alloc, "clients", query)? {
+    match begin_word(alloc, "clients", query)? {
         Some(clients) => Ok(Some(View::Overview { from, clients })),
         None => Ok(None),
     }
@@ -128,10 +142,10 @@ fn asks_overview(alloc: Global, query: &[u8]) -> Result<Option<View>, NoMemory>
 fn asks_visits(alloc: Global, query: &[u8]) -> Result<Option<View>, NoMemory>
     ensures { IfOk result (λ view. view ≡ asks_visits query.now) }
 {
-    let Some(client) = client_said(alloc, "c", query)? else {
+    let Some(client) = client_word(alloc, "c", query)? else {
         return Ok(None);
     };
-    match begin_said(alloc, "from", query)? {
+    match begin_word(alloc, "from", query)? {
         Some(from) => Ok(Some(View::Visits { client, from })),
         None => Ok(None),
     }
@@ -140,11 +154,18 @@ fn asks_visits(alloc: Global, query: &[u8]) -> Result<Option<View>, NoMemory>
 fn asks_visit(alloc: Global, query: &[u8]) -> Result<Option<View>, NoMemory>
     ensures { IfOk result (λ view. view ≡ asks_visit query.now) }
 {
-    let Some(client) = client_said(alloc, "c", query)? else {
+    let Some(client) = client_word(alloc, "c", query)? else {
         return Ok(None);
     };
-    match visit_said(alloc, "v", query)? {
-        Some(visit) => Ok(Some(View::Visit { client, visit })),
+    let Some(visit) = visit_word(alloc, "v", query)? else {
+        return Ok(None);
+    };
+    match visit_word_if_any(alloc, "told", query)? {
+        Some(told) => Ok(Some(View::Visit {
+            client,
+            visit,
+            told,
+        })),
         None => Ok(None),
     }
 }
@@ -152,20 +173,24 @@ fn asks_visit(alloc: Global, query: &[u8]) -> Result<Option<View>, NoMemory>
 fn asks_drawing(alloc: Global, query: &[u8]) -> Result<Option<View>, NoMemory>
     ensures { IfOk result (λ view. view ≡ asks_drawing query.now) }
 {
-    let Some(client) = client_said(alloc, "c", query)? else {
+    let Some(client) = client_word(alloc, "c", query)? else {
         return Ok(None);
     };
-    let Some(visit) = visit_said(alloc, "v", query)? else {
+    let Some(visit) = visit_word(alloc, "v", query)? else {
         return Ok(None);
     };
-    match side_said(alloc, query)? {
-        Some(side) => Ok(Some(View::Drawing { client, visit, side })),
+    match side_word(alloc, query)? {
+        Some(side) => Ok(Some(View::Drawing {
+            client,
+            visit,
+            side,
+        })),
         None => Ok(None),
     }
 }
 
-fn side_said(alloc: Global, query: &[u8]) -> Result<Option<Side>, NoMemory>
-    ensures { IfOk result (λ side. side ≡ side_said query.now) }
+fn side_word(alloc: Global, query: &[u8]) -> Result<Option<Side>, NoMemory>
+    ensures { IfOk result (λ side. side ≡ side_word query.now) }
 {
     match word_in(alloc, "of", query)? {
         Some(word) => Ok(side_named(word.as_str())),
@@ -188,7 +213,7 @@ fn side_named(word: &str) -> Option<Side>
 fn asks_search(alloc: Global, query: &[u8]) -> Result<Option<View>, NoMemory>
     ensures { IfOk result (λ view. view ≡ asks_search query.now) }
 {
-    let Some(from) = begin_said(alloc, "from", query)? else {
+    let Some(from) = begin_word(alloc, "from", query)? else {
         return Ok(None);
     };
     match word_in(alloc, "q", query)? {

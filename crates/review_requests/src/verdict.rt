@@ -2,9 +2,9 @@
 ghost use Rattle.std.specs.Prelude.{◌≡◌, ◌==◌, is_some, IfOk};
 ghost use Rattle.std.specs.List.{before_first};
 ghost use Rattle.review_requests.specs.Form.{word_in};
-ghost use Rattle.review_requests.specs.Verdict.{asked_of, asked_of_host, choice_by, choice_said, decision_said, form_asks, has_token, sends_form, is_form_type, only_looks, posting_asks, reading_asks};
+ghost use Rattle.review_requests.specs.Verdict.{asked_of, asked_of_host, choice_by, choice_pressed, decision_asked, form_asks, has_token, sends_form, is_form_type, only_looks, posting_asks, reading_asks};
 
-use crate::form::{client_said, visit_said, word_in};
+use crate::form::{client_word, visit_word, word_in};
 use crate::host::{field_text, host_of, is_local};
 use crate::origin::is_from_host;
 use crate::target::{Address, View, address_at, view_at};
@@ -150,7 +150,9 @@ fn sends_form(request: &Request<Bytes>) -> bool
 fn is_form_type(value: &str) -> bool
     ensures { result ≡ is_form_type value.now }
 {
-    kind_of(value).trim().eq_ignore_ascii_case("application/x-www-form-urlencoded")
+    kind_of(value)
+        .trim()
+        .eq_ignore_ascii_case("application/x-www-form-urlencoded")
 }
 
 // What stands before the first semicolon.
@@ -166,7 +168,7 @@ fn kind_of(value: &str) -> &str
 fn judge_form(alloc: Global, token: &str, form: &[u8]) -> Result<Judged, NoMemory>
     ensures { IfOk result (λ asked. asked ≡ form_asks token.now form.now) }
 {
-    let Some(decision) = decision_said(alloc, form)? else {
+    let Some(decision) = decision_asked(alloc, form)? else {
         return Ok(Judged::Refused(Refusal::BadForm));
     };
     if has_token(alloc, token, form)? {
@@ -185,16 +187,16 @@ fn has_token(alloc: Global, token: &str, form: &[u8]) -> Result<bool, NoMemory>
     }
 }
 
-fn decision_said(alloc: Global, form: &[u8]) -> Result<Option<Decision>, NoMemory>
-    ensures { IfOk result (λ decision. decision ≡ decision_said form.now) }
+fn decision_asked(alloc: Global, form: &[u8]) -> Result<Option<Decision>, NoMemory>
+    ensures { IfOk result (λ decision. decision ≡ decision_asked form.now) }
 {
-    let Some(client) = client_said(alloc, "client", form)? else {
+    let Some(client) = client_word(alloc, "client", form)? else {
         return Ok(None);
     };
-    let Some(visit) = visit_said(alloc, "visit", form)? else {
+    let Some(visit) = visit_word(alloc, "visit", form)? else {
         return Ok(None);
     };
-    match choice_said(alloc, form)? {
+    match choice_pressed(alloc, form)? {
         Some(choice) => Ok(Some(Decision {
             client,
             visit,
@@ -204,8 +206,8 @@ fn decision_said(alloc: Global, form: &[u8]) -> Result<Option<Decision>, NoMemor
     }
 }
 
-fn choice_said(alloc: Global, form: &[u8]) -> Result<Option<Choice>, NoMemory>
-    ensures { IfOk result (λ choice. choice ≡ choice_said form.now) }
+fn choice_pressed(alloc: Global, form: &[u8]) -> Result<Option<Choice>, NoMemory>
+    ensures { IfOk result (λ choice. choice ≡ choice_pressed form.now) }
 {
     let keeps = has_word(alloc, "keep", form)?;
     let cancels = has_word(alloc, "cancel", form)?;

@@ -27,8 +27,18 @@ const READINGS: &[(&str, &str, &str, u16)] = &[
     ("GET", "/client?c=a+n", "127.0.0.1:8900", 404),
     ("GET", "/client", "127.0.0.1:8900", 404),
     ("GET", "/visit?c=ann&v=3", "127.0.0.1:8900", 200),
-    ("GET", "/visit?c=ann&v=9007199254740991", "127.0.0.1:8900", 200),
-    ("GET", "/visit?c=ann&v=9007199254740992", "127.0.0.1:8900", 404),
+    (
+        "GET",
+        "/visit?c=ann&v=9007199254740991",
+        "127.0.0.1:8900",
+        200,
+    ),
+    (
+        "GET",
+        "/visit?c=ann&v=9007199254740992",
+        "127.0.0.1:8900",
+        404,
+    ),
     ("GET", "/visit?c=ann&v=0", "127.0.0.1:8900", 404),
     ("GET", "/page?c=ann&v=3&of=repaired", "127.0.0.1:8900", 200),
     ("GET", "/page?c=ann&v=3&of=both", "127.0.0.1:8900", 404),
@@ -39,15 +49,35 @@ const READINGS: &[(&str, &str, &str, u16)] = &[
 const POSTINGS: &[(Option<&str>, &str, &str, u16)] = &[
     (None, FORM, "token=t&client=ann&visit=3&keep=1", 403),
     (Some("null"), FORM, "token=t&client=ann&visit=3&keep=1", 403),
-    (Some("http://localhost:8900"), FORM, "token=t&client=ann&visit=3&keep=1", 403),
-    (Some(OWN), "text/plain", "token=t&client=ann&visit=3&keep=1", 415),
+    (
+        Some("http://localhost:8900"),
+        FORM,
+        "token=t&client=ann&visit=3&keep=1",
+        403,
+    ),
+    (
+        Some(OWN),
+        "text/plain",
+        "token=t&client=ann&visit=3&keep=1",
+        415,
+    ),
     (Some(OWN), FORM, "client=ann&visit=3&keep=1", 403),
     (Some(OWN), FORM, "token=u&client=ann&visit=3&keep=1", 403),
-    (Some(OWN), FORM, "token=t&client=ann&visit=3&keep=1&cancel=1", 400),
+    (
+        Some(OWN),
+        FORM,
+        "token=t&client=ann&visit=3&keep=1&cancel=1",
+        400,
+    ),
     (Some(OWN), FORM, "token=t&client=ann&visit=3", 400),
     (Some(OWN), FORM, "token=t&client=ann&visit=03&keep=1", 400),
     (Some(OWN), FORM, "token=t&client=zoe&visit=3&keep=1", 303),
-    (Some(OWN), "Application/X-WWW-Form-Urlencoded; charset=UTF-8", "token=t&client=ann&visit=3&cancel=1", 303),
+    (
+        Some(OWN),
+        "Application/X-WWW-Form-Urlencoded; charset=UTF-8",
+        "token=t&client=ann&visit=3&cancel=1",
+        303,
+    ),
 ];
 
 const OWN: &str = "http://127.0.0.1:8900";

@@ -8,5 +8,5 @@ abbrev pub invariant-loop-pair : goal.invariant-loop-pair
 invariant-loop-pair l = record {
   next : (goal.iterator-loop-pair).can_next l.pair-iterator;
   finite : (goal.iterator-loop-pair).is_finite l.pair-iterator;
-  left : slice_get (filter_map (value_named l.args.name.now) (raw_pairs_left l.pair-iterator)) 0 ≡ word_in l.args.name.now l.args.form.now;
+  left : slice_get (filter_map (value_named l.name) (raw_pairs_left l.pair-iterator)) 0 ≡ word_in l.name l.form;
 }
