@@ -1,5 +1,5 @@
 -- What a request to the administrator's page is, by itself, the port and the token alone: this project's own rule.
-use Rattle.std.specs.Prelude.{ℕ, List, [], length, map, codes, Bool, false, not, ◌&&◌, ◌||◌, ◌==◌, nat_lt, bytes_eq, if◌then◌else◌, Option, Some, None, is_some, unwrap_or, option_map, option_and_then}
+use Rattle.std.specs.Prelude.{ℕ, List, [], length, map, codes, Bool, false, not, ◌||◌, ◌==◌, nat_lt, bytes_eq, if◌then◌else◌, Option, Some, None, is_some, unwrap_or, option_map, option_and_then}
 use Rattle.std.specs.Char.{to_ascii_lowercase}
 use Rattle.std.specs.List.{before_first}
 use Rattle.std.specs.Option.{option_map_or}
