@@ -1,5 +1,6 @@
 pub mod Form
 pub mod Host
 pub mod Origin
+pub mod Status
 pub mod Target
 pub mod Verdict

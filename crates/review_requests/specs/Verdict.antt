@@ -17,7 +17,7 @@ use Rattle.review_requests.specs.Target.{address_at, view_at}
 use Rattle.review_requests.specs.declared.target.Address.{Address}
 use Rattle.review_requests.specs.declared.verdict.Judged.{Judged}
 use Rattle.review_requests.specs.declared.verdict.Judged.TheVariants.{Refused, Shows, Decides}
-use Rattle.review_requests.specs.declared.verdict.Refusal.TheVariants.{OtherHost, NoAddress, OnlyRead, OnlyPosted, OtherPage, NoForm, LongForm, BadForm, OldToken}
+use Rattle.review_requests.specs.declared.refusal.Refusal.TheVariants.{OtherHost, NoAddress, OnlyRead, OnlyPosted, OtherPage, NoForm, LongForm, BadForm, OldToken}
 
 -- ---- a decision
 

@@ -6,8 +6,10 @@
 mod form;
 mod host;
 mod origin;
+mod refusal;
 mod target;
 mod verdict;
 
+pub use refusal::Refusal;
 pub use target::{Side, View};
-pub use verdict::{Judged, Refusal, judge};
+pub use verdict::{Judged, judge};

@@ -7,6 +7,7 @@ ghost use Rattle.review_requests.specs.Verdict.{asked_of, asked_of_host, choice_
 use crate::form::{client_word, visit_word, word_in};
 use crate::host::{field_text, host_of, is_local};
 use crate::origin::is_from_host;
+use crate::refusal::Refusal;
 use crate::target::{Address, View, address_at, view_at};
 use bytes::Bytes;
 use conflict_desk::{Choice, Decision};
@@ -16,29 +17,6 @@ use page_tree::NoMemory;
 use std::alloc::Global;
 
 const MAX_FORM_BYTES: usize = 4096;
-
-/// Why a request isn't answered.
-#[derive(Clone, Copy, Debug, PartialEq, Eq)]
-pub enum Refusal {
-    /// 421: it is for another host, or for none.
-    OtherHost,
-    /// 404: nothing stands there, or the query doesn't say what the view needs.
-    NoAddress,
-    /// 405: what stands there is only read, by GET and HEAD.
-    OnlyRead,
-    /// 405: decisions are only posted.
-    OnlyPosted,
-    /// 403: it comes from another page, or from none.
-    OtherPage,
-    /// 415: what is posted is no form.
-    NoForm,
-    /// 413: the form is too long.
-    LongForm,
-    /// 400: the form says no decision.
-    BadForm,
-    /// 403: the form is without this start's token.
-    OldToken,
-}
 
 /// What a request is.
 #[derive(Debug, Drop)]
