@@ -1,3 +1,4 @@
 pub mod Visible
 pub mod Joined
 pub mod Words
+pub mod Posted

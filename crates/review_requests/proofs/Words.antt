@@ -12,7 +12,8 @@ use Rattle.review_requests.specs.Form.{is_numeral}
 
 -- the first value that `f` gives, as a loop over the items comes to it
 module _ {X Y : Type 0} (f : X → Option Y) (first : Option Y) where
-  pub goes_on : (items rest : List X) (x : X) → items ≡ x ∷ rest → None ≡ f x → slice_get (filter_map f items) 0 ≡ first → slice_get (filter_map f rest) 0 ≡ first
+  pub goes_on : (items rest : List X) (x : X) → items ≡ x ∷ rest → None ≡ f x
+      → slice_get (filter_map f items) 0 ≡ first → slice_get (filter_map f rest) 0 ≡ first
   goes_on items rest x are none is =
       ap (λ o. slice_get (cons_option o (filter_map f rest)) 0) none ∙ ap (λ xs. slice_get (filter_map f xs) 0) (sym are) ∙ is
 

@@ -2,6 +2,7 @@
 ghost use Rattle.std.specs.Prelude.{◌≡◌, ◌==◌, is_some, IfOk};
 ghost use Rattle.std.specs.List.{before_first};
 ghost use Rattle.review_requests.specs.Form.{word_in};
+ghost use Rattle.review_requests.specs.Posting.{DecidesByOwnPosting};
 ghost use Rattle.review_requests.specs.Verdict.{asked_of, asked_of_host, choice_by, choice_pressed, decision_asked, form_asks, has_token, sends_form, is_form_type, only_looks, posting_asks, reading_asks};
 
 use crate::form::{client_word, visit_word, word_in};
@@ -28,6 +29,18 @@ pub enum Judged {
 
 /// Judges a request to the page at that port, whose forms have that token.
 pub fn judge(
+    alloc: Global,
+    request: &Request<Bytes>,
+    port: u16,
+    token: &str,
+) -> Result<Judged, NoMemory>
+    ensures asked { IfOk result (λ asked. asked ≡ asked_of request.now port token.now) }
+    ensures own { IfOk result (DecidesByOwnPosting request.now port token.now) }
+{
+    judge_request(alloc, request, port, token)
+}
+
+fn judge_request(
     alloc: Global,
     request: &Request<Bytes>,
     port: u16,
