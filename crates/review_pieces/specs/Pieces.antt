@@ -111,6 +111,22 @@ unfoldable pub foot_html : List ℕ
 foot_html = concat (
     codes "</main>\n</body>\n</html>\n" ∷ [])
 
+unfoldable pub found_html : List ℕ → List ℕ → List ℕ → List ℕ → List ℕ → List ℕ
+found_html client visit state address conflict = concat (
+    codes "<li><span class=\"what\"><a href=\"/visit?c=" ∷ escaped client ∷ codes "&amp;v=" ∷ escaped visit
+    ∷ codes "\">" ∷ escaped client ∷ codes ", visit " ∷ escaped visit ∷ codes "</a><span class=\"state " ∷ escaped state
+    ∷ codes "\">" ∷ escaped state ∷ codes "</span><code>" ∷ escaped address ∷ codes "</code><span>" ∷ escaped conflict
+    ∷ codes "</span></span></li>\n" ∷ [])
+
+unfoldable pub found_client_html : List ℕ → List ℕ
+found_client_html client = concat (
+    codes "<li><span class=\"what\"><a href=\"/client?c=" ∷ escaped client ∷ codes "\">" ∷ escaped client
+    ∷ codes "</a></span></li>\n" ∷ [])
+
+unfoldable pub found_clients_html : List ℕ → List ℕ
+found_clients_html items = concat (
+    codes "<ul class=\"tree\">\n" ∷ items ∷ codes "</ul>\n" ∷ [])
+
 unfoldable pub front_html : List ℕ → List ℕ → List ℕ → List ℕ → List ℕ → List ℕ → List ℕ → List ℕ
 front_html client visit code at address sentence behind = concat (
     codes "<li>\n<p><a href=\"/visit?c=" ∷ escaped client ∷ codes "&amp;v=" ∷ escaped visit ∷ codes "\"><strong>"
@@ -144,6 +160,10 @@ head_html title waiting decided query at_overview = concat (
 unfoldable pub level_html : List ℕ
 level_html = concat (
     codes "<span class=\"level\"></span>" ∷ [])
+
+unfoldable pub more_html : List ℕ → List ℕ
+more_html count = concat (
+    codes "<li class=\"soft\">and " ∷ escaped count ∷ codes " more</li>\n" ∷ [])
 
 unfoldable pub next_html : List ℕ → List ℕ → List ℕ
 next_html client visit = concat (

@@ -1,6 +1,6 @@
 //! The pieces of `review/pieces/`, each with its slots filled. `tools/pieces` writes this file.
 ghost use Rattle.std.specs.Prelude.{◌≡◌, ◌++◌, OnOk};
-ghost use Rattle.review_pieces.specs.Pieces.{along_html, along_more_html, along_none_html, along_one_html, around_html, branch_html, client_html, client_counts_html, client_upload_html, closed_html, conflict_html, decide_html, drawn_html, event_html, event_line_html, figure_html, foot_html, front_html, fronts_html, head_html, level_html, next_html, no_fronts_html, no_page_html, not_front_html, note_html, opener_html, overview_html, page_here_html, page_link_html, pages_html, pairs_html, part_gone_html, part_new_html, part_same_html, pressed_html, refused_html, request_html, requests_html, requests_none_html, row_html, search_html, text_html, text_empty_html, texts_html, typed_html, upload_html, uploads_html, value_html, visit_html, visit_events_html, visit_pages_html, visit_requests_html};
+ghost use Rattle.review_pieces.specs.Pieces.{along_html, along_more_html, along_none_html, along_one_html, around_html, branch_html, client_html, client_counts_html, client_upload_html, closed_html, conflict_html, decide_html, drawn_html, event_html, event_line_html, figure_html, foot_html, found_html, found_client_html, found_clients_html, front_html, fronts_html, head_html, level_html, more_html, next_html, no_fronts_html, no_page_html, not_front_html, note_html, opener_html, overview_html, page_here_html, page_link_html, pages_html, pairs_html, part_gone_html, part_new_html, part_same_html, pressed_html, refused_html, request_html, requests_html, requests_none_html, row_html, search_html, text_html, text_empty_html, texts_html, typed_html, upload_html, uploads_html, value_html, visit_html, visit_events_html, visit_pages_html, visit_requests_html};
 
 use markup::{Part, fill};
 use std::alloc::AllocError;
@@ -461,6 +461,72 @@ pub fn add_foot(out: &mut Vec<u8>) -> Result<(), AllocError>
 
 const FOOT: [Part; 1] = [Part::Fixed("</main>\n</body>\n</html>\n")];
 
+/// Adds `found.html`.
+#[tactic(auto, unfolding(crate::specs::Pieces::found_html))]
+pub fn add_found<'t>(
+    out: &mut Vec<u8>,
+    client: &'t str,
+    visit: &'t str,
+    state: &'t str,
+    address: &'t str,
+    conflict: &'t str,
+) -> Result<(), AllocError>
+    ensures { OnOk result (out.new.items ≡ out.old.items
+        ++ found_html client.now visit.now state.now address.now conflict.now) }
+{
+    fill(out, &FOUND, &[client, visit, state, address, conflict], &[])
+}
+
+const FOUND: [Part; 17] = [
+    Part::Fixed("<li><span class=\"what\"><a href=\"/visit?c="),
+    Part::Words(0),
+    Part::Fixed("&amp;v="),
+    Part::Words(1),
+    Part::Fixed("\">"),
+    Part::Words(0),
+    Part::Fixed(", visit "),
+    Part::Words(1),
+    Part::Fixed("</a><span class=\"state "),
+    Part::Words(2),
+    Part::Fixed("\">"),
+    Part::Words(2),
+    Part::Fixed("</span><code>"),
+    Part::Words(3),
+    Part::Fixed("</code><span>"),
+    Part::Words(4),
+    Part::Fixed("</span></span></li>\n"),
+];
+
+/// Adds `found_client.html`.
+#[tactic(auto, unfolding(crate::specs::Pieces::found_client_html))]
+pub fn add_found_client(out: &mut Vec<u8>, client: &str) -> Result<(), AllocError>
+    ensures { OnOk result (out.new.items ≡ out.old.items ++ found_client_html client.now) }
+{
+    fill(out, &FOUND_CLIENT, &[client], &[])
+}
+
+const FOUND_CLIENT: [Part; 5] = [
+    Part::Fixed("<li><span class=\"what\"><a href=\"/client?c="),
+    Part::Words(0),
+    Part::Fixed("\">"),
+    Part::Words(0),
+    Part::Fixed("</a></span></li>\n"),
+];
+
+/// Adds `found_clients.html`.
+#[tactic(auto, unfolding(crate::specs::Pieces::found_clients_html))]
+pub fn add_found_clients(out: &mut Vec<u8>, items: &[u8]) -> Result<(), AllocError>
+    ensures { OnOk result (out.new.items ≡ out.old.items ++ found_clients_html items.now) }
+{
+    fill(out, &FOUND_CLIENTS, &[], &[items])
+}
+
+const FOUND_CLIENTS: [Part; 3] = [
+    Part::Fixed("<ul class=\"tree\">\n"),
+    Part::Made(0),
+    Part::Fixed("</ul>\n"),
+];
+
 /// Adds `front.html`.
 #[tactic(auto, unfolding(crate::specs::Pieces::front_html))]
 pub fn add_front<'t>(
@@ -580,6 +646,20 @@ pub fn add_level(out: &mut Vec<u8>) -> Result<(), AllocError>
 }
 
 const LEVEL: [Part; 1] = [Part::Fixed("<span class=\"level\"></span>")];
+
+/// Adds `more.html`.
+#[tactic(auto, unfolding(crate::specs::Pieces::more_html))]
+pub fn add_more(out: &mut Vec<u8>, count: &str) -> Result<(), AllocError>
+    ensures { OnOk result (out.new.items ≡ out.old.items ++ more_html count.now) }
+{
+    fill(out, &MORE, &[count], &[])
+}
+
+const MORE: [Part; 3] = [
+    Part::Fixed("<li class=\"soft\">and "),
+    Part::Words(0),
+    Part::Fixed(" more</li>\n"),
+];
 
 /// Adds `next.html`.
 #[tactic(auto, unfolding(crate::specs::Pieces::next_html))]

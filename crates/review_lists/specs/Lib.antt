@@ -1,0 +1,10 @@
+pub mod Sentences
+pub mod Addresses
+pub mod Words
+pub mod Standings
+pub mod PageLinks
+pub mod Attention
+pub mod UploadList
+pub mod Overview
+pub mod ClientView
+pub mod SearchView

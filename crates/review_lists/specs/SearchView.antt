@@ -1,0 +1,73 @@
+-- What is found: clients by a part of their names, visits by a part of their addresses or by their conflict's code.
+use Rattle.std.specs.Prelude.{ℕ, ◌+◌, List, [], ◌∷◌, ◌++◌, length, map, filter, flat_map, codes, decimal, Bool, false, ◌||◌, ◌==◌, nat_eq, if◌then◌else◌}
+use Rattle.std.specs.Option.{option_map_or}
+use Rattle.std.specs.List.{concat, starts_with}
+use Rattle.form_urlencoded.specs.Form.{byte_serialize}
+use Rattle.client_log.specs.declared.visit.Visit.{Visit}
+use Rattle.conflict_desk.specs.Book.{Book, standing_in}
+use Rattle.conflict_desk.specs.Desk.{Books, book_of}
+use Rattle.conflict_desk.specs.declared.docket.Case.{Case}
+use Rattle.lanes_in_turn.specs.declared.gathered.Gathered.{Gathered}
+use Rattle.warp_run.specs.Report.{standing_word}
+use Rattle.warp_run.specs.declared.repaired.ClientSummary.{ClientSummary}
+use Rattle.warp_run.specs.declared.repaired.Repaired.{Repaired}
+use Rattle.review_state.specs.Finding.{has_code}
+use Rattle.review_pieces.specs.Pieces.{found_html, found_client_html, found_clients_html, search_html}
+use Rattle.review_lists.specs.Addresses.{logged_visits, visit_address}
+use Rattle.review_lists.specs.Overview.{client_names}
+use Rattle.review_lists.specs.PageLinks.{listed_from, page_links}
+use Rattle.review_lists.specs.Standings.{capped}
+use Rattle.review_lists.specs.UploadList.{more_than}
+use Rattle.review_lists.specs.Words.{outcome_text}
+use Rattle.review_lists.specs.declared.search_view.TheConstants.{CLIENTS_FOUND, VISITS_FOUND}
+
+-- the text has that part: it begins with it, or what stands behind its first byte has it
+abbrev pub has_in_it : List ℕ → List ℕ → Bool
+has_in_it part [] = starts_with nat_eq [] part
+has_in_it part (byte ∷ rest) = starts_with nat_eq (byte ∷ rest) part || has_in_it part rest
+
+-- nothing is looked for in any, where nothing is asked for
+abbrev pub searched : List ℕ → List ClientSummary → List ClientSummary
+searched text clients = if length text == 0 then [] else clients
+
+-- ---- clients
+
+abbrev pub found_names : List ℕ → List ClientSummary → List (List ℕ)
+found_names text clients = filter (has_in_it text) (client_names clients)
+
+-- the first of them, and how many more there are; nothing where none is
+unfoldable pub client_finds : List (List ℕ) → List ℕ
+client_finds names = if length names == 0 then []
+    else found_clients_html (flat_map found_client_html (listed_from 0 CLIENTS_FOUND names)
+    ++ more_than CLIENTS_FOUND (length names))
+
+-- ---- visits
+
+unfoldable pub is_found_visit : List ℕ → List Visit → Case → Bool
+is_found_visit text visits case = has_code text case.outcome || has_in_it text (visit_address visits case.visit)
+
+unfoldable pub visit_find : List ℕ → Book → List Visit → Case → List ℕ
+visit_find client book visits case = found_html client (decimal case.visit) (standing_word (standing_in book case))
+    (visit_address visits case.visit) (outcome_text case.outcome)
+
+-- a client's, in the order of their numbers
+unfoldable pub finds_in : List ℕ → List ℕ → List Visit → Book → List (List ℕ)
+finds_in text client visits book =
+    map (visit_find client book visits) (filter (is_found_visit text visits) book.cases)
+
+unfoldable pub finds_of : {R : Type 0} → List ℕ → Gathered R → Books → ClientSummary → List (List ℕ)
+finds_of text logs desk client = let name = client.client in
+    option_map_or (finds_in text name (logged_visits logs name)) (book_of name desk) []
+
+-- ---- all of it
+
+abbrev pub search_pages : List ℕ → ℕ → ℕ → List ℕ
+search_pages text from count = page_links (codes "Visits found")
+    (codes "/search?q=" ++ (byte_serialize text ++ codes "&from=")) [] VISITS_FOUND from count
+
+unfoldable pub search_told : {R : Type 0} → Gathered R → Repaired → List ℕ → ℕ → List ℕ
+search_told logs repaired text from = let clients = searched text repaired.clients in
+    let names = found_names text clients in
+    let finds = flat_map (finds_of text logs repaired.desk) clients in
+    search_html (decimal (capped (length names + length finds))) text (client_finds names)
+    (concat (listed_from from VISITS_FOUND finds)) (search_pages text from (capped (length finds)))
