@@ -1,20 +1,23 @@
 -- A client: its last upload, how its visits stand, and the tree of them.
-use Rattle.std.specs.Prelude.{◌≡◌, ℕ, ◌+◌, List, [], ◌++◌, length, flat_map, codes, decimal, Bool, if◌then◌else◌, nat_eq, min, Option, Some, slice_get, slice_index_or}
+use Rattle.std.specs.Prelude.{◌≡◌, ℕ, List, [], ◌++◌, length, flat_map, codes, decimal, Bool, true, false, if◌then◌else◌, nat_eq, min, Option, Some, MatchOption, option_and_then, option_map, slice_get, slice_index_or}
 use Rattle.std.specs.Option.{option_eq, option_map_or}
 use Rattle.std.specs.List.{find, range_with_len}
 use Rattle.std.specs.Str.{bytes_eq}
 use Rattle.client_log.specs.declared.visit.Visit.{Visit}
 use Rattle.conflict_desk.specs.Book.{Book, front_visit, standing_in}
+use Rattle.conflict_desk.specs.Desk.{book_of}
 use Rattle.conflict_desk.specs.Docket.{parent_of}
 use Rattle.conflict_desk.specs.declared.decided.Standing.TheVariants.{Untouched, Done, Waiting, Kept, Cancelled}
 use Rattle.conflict_desk.specs.declared.docket.Case.{Case}
+use Rattle.lanes_in_turn.specs.declared.gathered.Gathered.{Gathered}
 use Rattle.warp_run.specs.Report.{end_word, standing_word}
 use Rattle.warp_run.specs.declared.repaired.ClientSummary.{ClientSummary}
+use Rattle.warp_run.specs.declared.repaired.Repaired.{Repaired}
 use Rattle.review_state.specs.Branches.{IsBranched}
 use Rattle.review_state.specs.Counts.{how_many}
 use Rattle.review_state.specs.declared.branches.Branches.{Branches}
 use Rattle.review_pieces.specs.Pieces.{branch_html, client_html, client_counts_html, client_upload_html, level_html, next_html}
-use Rattle.review_lists.specs.Addresses.{visit_address}
+use Rattle.review_lists.specs.Addresses.{logged_visits, visit_address}
 use Rattle.review_lists.specs.PageLinks.{listed_from, page_links}
 use Rattle.review_lists.specs.Words.{outcome_text}
 use Rattle.review_lists.specs.declared.tree_rows.TheConstants.{VISITS_A_PAGE, LEVELS_DRAWN, HERE}
@@ -74,3 +77,15 @@ client_told client book visits tree from = let order = tree.order.items in let n
 abbrev pub TellsClient : ClientSummary → Book → List Visit → ℕ → List ℕ → Type 0
 TellsClient client book visits from html =
     (tree : Branches) × IsBranched book.cases tree × (html ≡ client_told client book visits tree from)
+
+-- the client with its book, where both are there
+abbrev pub client_there : Repaired → List ℕ → Option (ClientSummary × Book)
+client_there repaired name = option_and_then
+    (λ client. option_map (λ book. (client, book)) (book_of name repaired.desk)) (summary_named name repaired.clients)
+
+-- true where the client is there, which is told; else false, and nothing is added
+abbrev pub AddsClient : {R : Type 0} → Gathered R → Repaired → List ℕ → ℕ → List ℕ → List ℕ → Bool → Type 0
+AddsClient logs repaired name from old new there = MatchOption (client_there repaired name)
+    ((there ≡ false) × (new ≡ old))
+    (λ found. (there ≡ true) × (html : List ℕ) × (new ≡ old ++ html)
+    × TellsClient found.0 found.1 (logged_visits logs name) from html)

@@ -1,5 +1,6 @@
 pub mod Sentences
 pub mod Addresses
+pub mod Capped
 pub mod Words
 pub mod Standings
 pub mod PageLinks
@@ -8,3 +9,4 @@ pub mod UploadList
 pub mod Overview
 pub mod ClientView
 pub mod SearchView
+pub mod inside

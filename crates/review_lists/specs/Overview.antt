@@ -40,6 +40,11 @@ unfoldable pub waiting_front : List ℕ → ℕ → List ℕ → ℕ → ℕ × 
 waiting_front client visit address waiting conflict = front_html client (decimal visit) (conflict_code conflict.1)
     (decimal conflict.0) address (conflict_sentence conflict.1) (behind_words waiting)
 
+-- the address of another page of them keeps which clients are shown
+abbrev pub front_pages : ℕ → ℕ → ℕ → List ℕ
+front_pages from shown count = page_links (codes "Clients whose visits wait")
+    (codes "/?clients=" ++ (decimal shown ++ codes "&from=")) [] FRONTS_A_PAGE from count
+
 module _ {R : Type 0} (logs : Gathered R) (desk : Books) where
   unfoldable pub front_entry_of : List ℕ → ℕ → List ℕ
   front_entry_of client visit = option_map_or
@@ -51,13 +56,12 @@ module _ {R : Type 0} (logs : Gathered R) (desk : Books) where
   front_entry clients front =
       option_map_or (λ client. front_entry_of client front.visit) (slice_get clients front.client) []
 
-  -- the page of them that begins at the front `from`; the address of another keeps which clients are shown
+  -- the page of them that begins at the front `from`
   unfoldable pub front_list : List (List ℕ) → ℕ → ℕ → List ℕ
   front_list clients from shown = let fronts = fronts_of desk clients in
       if length fronts == 0 then no_fronts_html
       else fronts_html (flat_map (front_entry clients) (listed_from from FRONTS_A_PAGE fronts))
-      (page_links (codes "Clients whose visits wait") (codes "/?clients=" ++ (decimal shown ++ codes "&from=")) []
-      FRONTS_A_PAGE from (length fronts))
+      (front_pages from shown (length fronts))
 
 -- ---- the table of clients
 

@@ -1,7 +1,8 @@
 -- What is found: clients by a part of their names, visits by a part of their addresses or by their conflict's code.
-use Rattle.std.specs.Prelude.{ℕ, ◌+◌, List, [], ◌∷◌, ◌++◌, length, map, filter, flat_map, codes, decimal, Bool, false, ◌||◌, ◌==◌, nat_eq, if◌then◌else◌}
+use Rattle.std.specs.Prelude.{ℕ, ◌+◌, List, [], ◌∷◌, ◌++◌, length, map, filter, take, flat_map, codes, decimal, Bool, false, ◌||◌, ◌==◌, if◌then◌else◌}
 use Rattle.std.specs.Option.{option_map_or}
-use Rattle.std.specs.List.{concat, starts_with}
+use Rattle.std.specs.List.{concat}
+use Rattle.std.specs.Str.{bytes_eq}
 use Rattle.form_urlencoded.specs.Form.{byte_serialize}
 use Rattle.client_log.specs.declared.visit.Visit.{Visit}
 use Rattle.conflict_desk.specs.Book.{Book, standing_in}
@@ -13,18 +14,22 @@ use Rattle.warp_run.specs.declared.repaired.ClientSummary.{ClientSummary}
 use Rattle.warp_run.specs.declared.repaired.Repaired.{Repaired}
 use Rattle.review_state.specs.Finding.{has_code}
 use Rattle.review_pieces.specs.Pieces.{found_html, found_client_html, found_clients_html, search_html}
+use Rattle.review_lists.specs.Capped.{capped}
 use Rattle.review_lists.specs.Addresses.{logged_visits, visit_address}
 use Rattle.review_lists.specs.Overview.{client_names}
 use Rattle.review_lists.specs.PageLinks.{listed_from, page_links}
-use Rattle.review_lists.specs.Standings.{capped}
 use Rattle.review_lists.specs.UploadList.{more_than}
 use Rattle.review_lists.specs.Words.{outcome_text}
-use Rattle.review_lists.specs.declared.search_view.TheConstants.{CLIENTS_FOUND, VISITS_FOUND}
+use Rattle.review_lists.specs.declared.found_page.TheConstants.{VISITS_FOUND}
+use Rattle.review_lists.specs.declared.search_view.TheConstants.{CLIENTS_FOUND}
 
--- the text has that part: it begins with it, or what stands behind its first byte has it
+abbrev pub starts_so : List ℕ → List ℕ → Bool
+starts_so part text = bytes_eq (take (length part) text) part
+
+-- the text has that part: it starts with it, or what stands behind its first byte has it
 abbrev pub has_in_it : List ℕ → List ℕ → Bool
-has_in_it part [] = starts_with nat_eq [] part
-has_in_it part (byte ∷ rest) = starts_with nat_eq (byte ∷ rest) part || has_in_it part rest
+has_in_it part [] = starts_so part []
+has_in_it part (byte ∷ rest) = starts_so part (byte ∷ rest) || has_in_it part rest
 
 -- nothing is looked for in any, where nothing is asked for
 abbrev pub searched : List ℕ → List ClientSummary → List ClientSummary
@@ -50,10 +55,13 @@ unfoldable pub visit_find : List ℕ → Book → List Visit → Case → List �
 visit_find client book visits case = found_html client (decimal case.visit) (standing_word (standing_in book case))
     (visit_address visits case.visit) (outcome_text case.outcome)
 
+unfoldable pub visit_finds : List ℕ → List ℕ → Book → List Visit → Case → List (List ℕ)
+visit_finds text client book visits case =
+    if is_found_visit text visits case then visit_find client book visits case ∷ [] else []
+
 -- a client's, in the order of their numbers
-unfoldable pub finds_in : List ℕ → List ℕ → List Visit → Book → List (List ℕ)
-finds_in text client visits book =
-    map (visit_find client book visits) (filter (is_found_visit text visits) book.cases)
+abbrev pub finds_in : List ℕ → List ℕ → List Visit → Book → List (List ℕ)
+finds_in text client visits book = flat_map (visit_finds text client book visits) book.cases
 
 unfoldable pub finds_of : {R : Type 0} → List ℕ → Gathered R → Books → ClientSummary → List (List ℕ)
 finds_of text logs desk client = let name = client.client in

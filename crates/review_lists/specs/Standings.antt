@@ -1,5 +1,5 @@
 -- How many visits stand so or so: of a client, and of all of them.
-use Rattle.std.specs.Prelude.{ℕ, ◌-◌, ◌^◌, List, Bool, count_by, min, sum_by}
+use Rattle.std.specs.Prelude.{ℕ, List, Bool, sum_by}
 use Rattle.std.specs.Option.{option_map_or}
 use Rattle.std.specs.Result.{is_ok}
 use Rattle.conflict_desk.specs.Desk.{Books, book_of}
@@ -15,10 +15,6 @@ how_many_of desk client standing = option_map_or (λ book. how_many book standin
 
 abbrev pub was_made : PutDecision → Bool
 was_made put = is_ok put.answer
-
--- a number of the program's, which a greater one wouldn't fit
-abbrev pub capped : ℕ → ℕ
-capped n = min n (2 ^ 64 - 1)
 
 abbrev pub all_waiting : Repaired → ℕ
 all_waiting repaired = sum_by (λ client. how_many_of repaired.desk client.client Waiting) repaired.clients

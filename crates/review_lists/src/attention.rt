@@ -1,5 +1,7 @@
 //! What wants the administrator's attention before any conflict.
-ghost use Rattle.std.specs.Prelude.{◌≡◌, ◌++◌, count_by, not, OnOk};
+ghost use Rattle.std.specs.Prelude.{ℕ, ◌≡◌, ◌++◌, count_by, not, OnOk};
+ghost use Rattle.upload_reader.specs.declared.ending.Ending.TheVariants.{Over};
+ghost use Rattle.upload_reader.specs.declared.lane_fault.LaneEnd.TheVariants.{Fault};
 ghost use Rattle.review_lists.specs.Attention.{was_taken, ends_well, loses_visits, ends_oddly, counted_note, closed_note, stop_note, attention_html};
 
 use crate::words::counted_words;
@@ -132,7 +134,9 @@ fn is_whole_or_cut(end: LaneEnd) -> bool
     }
 }
 
-fn is_cut(kind: LaneFault) -> bool {
+fn is_cut(kind: LaneFault) -> bool
+    ensures { (line : ℕ) → result ≡ ends_well (Some (Over (Fault line kind))) }
+{
     match kind {
         LaneFault::Truncated => true,
         _ => false,

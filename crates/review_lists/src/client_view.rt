@@ -1,10 +1,11 @@
 //! A client: its last upload, how its visits stand, and the tree of them.
-ghost use Rattle.std.specs.Prelude.{◌≡◌, ◌++◌, ◌×◌, true, false, None, Some, map, option_map, IfOk, OnOk};
+ghost use Rattle.std.specs.Prelude.{ℕ, List, ◌≡◌, ◌++◌, [], decimal, map, option_and_then, option_map, IfOk, OnOk};
 ghost use Rattle.std.specs.List.Sorted.{IsStrictlyIncreasing};
+ghost use Rattle.std.specs.Option.{option_map_or};
 ghost use Rattle.conflict_desk.specs.Book.{front_visit};
 ghost use Rattle.conflict_desk.specs.Desk.{book_of};
-ghost use Rattle.review_lists.specs.Addresses.{logged_visits};
-ghost use Rattle.review_lists.specs.ClientView.{summary_named, told_upload, told_counts, told_next, tree_pages, TellsClient, AddsClient};
+ghost use Rattle.review_pieces.specs.Pieces.{next_html};
+ghost use Rattle.review_lists.specs.ClientView.{summary_named, told_upload, told_counts, tree_pages, TellsClient, AddsClient};
 
 use crate::addresses::logged_visits;
 use crate::page_links::{add_page_links, listed_from};

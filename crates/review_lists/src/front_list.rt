@@ -1,7 +1,6 @@
 //! What each client has to be decided first.
-ghost use Rattle.std.specs.Prelude.{ℕ, List, ◌≡◌, ◌++◌, length, map, flat_map, IfOk, OnOk, string_bytes};
-ghost use Rattle.visit_replay.specs.declared.outcome.ConflictKind.{ConflictKind as OneKind};
-ghost use Rattle.review_lists.specs.Overview.{behind_words, client_names, conflict_at_visit, front_entry, front_entry_of, front_list, waiting_front};
+ghost use Rattle.std.specs.Prelude.{◌≡◌, ◌++◌, map, flat_map, IfOk, OnOk, string_bytes};
+ghost use Rattle.review_lists.specs.Overview.{behind_words, client_names, conflict_at_visit, front_entry, front_entry_of, front_list, front_pages, waiting_front};
 
 use crate::addresses::{logged_visits, visit_address};
 use crate::page_links::{add_page_links, listed_from};

@@ -8,10 +8,12 @@
 mod addresses;
 mod attention;
 mod client_table;
+mod found_page;
 mod front_list;
 mod page_links;
 mod search_rows;
 mod sentences;
+mod sought;
 mod standings;
 mod tree_rows;
 mod upload_list;

@@ -1,5 +1,6 @@
 //! A list is shown by pages, with links to others of them.
-ghost use Rattle.std.specs.Prelude.{◌≡◌, ◌+◌, ◌-◌, ◌*◌, ◌<◌, ◌≤◌, ◌++◌, flat_map, IfOk, OnOk, string_bytes};
+ghost use Rattle.std.specs.Prelude.{◌≡◌, ◌+◌, ◌-◌, ◌*◌, ◌<◌, ◌≤◌, [], ◌∷◌, ◌++◌, flat_map, if◌then◌else◌, IfOk, OnOk, string_bytes};
+ghost use Rattle.std.specs.List.{range_with_len};
 ghost use Rattle.review_lists.specs.PageLinks.{listed_from, last_page, page_here, pages_linked, page_name, page_entry, page_links};
 
 use page_tree::NoMemory;
@@ -10,7 +11,7 @@ use std::alloc::Global;
 const NEAR: usize = 3;
 
 /// At most so many, from that one on.
-pub(crate) fn listed_from<T>(items: &[T], from: usize, most: usize) -> &[T]
+pub fn listed_from<T>(items: &[T], from: usize, most: usize) -> &[T]
     ensures { result.now ≡ listed_from from most items.now }
 {
     let (_, rest) = items.split_at(from.min(items.len()));
@@ -20,7 +21,8 @@ pub(crate) fn listed_from<T>(items: &[T], from: usize, most: usize) -> &[T]
 
 /// Links to other pages of a list that has so many; nothing, where one page has all. `before` and `behind` stand in an address around the number of the
 /// first that a page shows.
-pub(crate) fn add_page_links<'t>(
+#[tactic(auto, unfolding(crate::specs::PageLinks::page_links))]
+pub fn add_page_links<'t>(
     alloc: Global,
     out: &mut Vec<u8>,
     label: &'t str,
@@ -76,18 +78,61 @@ fn add_links<'t>(
     let last = last_page(per, count);
     let low = here.saturating_sub(NEAR);
     let high = here.saturating_add(NEAR).min(last);
-    if low > 0 {
-        add_link(alloc, out, before, behind, per, count, here, 0)?;
+    let is_first_far = 0 < low;
+    add_far(alloc, out, before, behind, per, count, here, is_first_far, 0)?;
+    add_near(alloc, out, before, behind, per, count, here, low, high)?;
+    let is_last_far = high < last;
+    add_far(alloc, out, before, behind, per, count, here, is_last_far, last)
+}
+
+// That of a page that may be far.
+fn add_far<'t>(
+    alloc: Global,
+    out: &mut Vec<u8>,
+    before: &'t str,
+    behind: &'t str,
+    per: usize,
+    count: usize,
+    here: usize,
+    is_far: bool,
+    page: usize,
+) -> Result<(), NoMemory>
+    requires { page * per < count }
+    ensures { OnOk result (out.new.items ≡ out.old.items
+        ++ flat_map (page_entry before.now behind.now per count here) (if is_far then page ∷ [] else [])) }
+{
+    if is_far {
+        add_link(alloc, out, before, behind, per, count, here, page)
+    } else {
+        Ok(())
     }
+}
+
+// Those from one page to another.
+fn add_near<'t>(
+    alloc: Global,
+    out: &mut Vec<u8>,
+    before: &'t str,
+    behind: &'t str,
+    per: usize,
+    count: usize,
+    here: usize,
+    low: usize,
+    high: usize,
+) -> Result<(), NoMemory>
+    requires per { 0 < per }
+    requires some { 0 < count }
+    requires within { high ≤ last_page per count }
+    ensures { OnOk result (out.new.items ≡ out.old.items
+        ++ flat_map (page_entry before.now behind.now per count here) (range_with_len low (high + 1 - low))) }
+{
     for page in low..high + 1 {
         add_link(alloc, out, before, behind, per, count, here, page)?;
-    }
-    if high < last {
-        add_link(alloc, out, before, behind, per, count, here, last)?;
     }
     Ok(())
 }
 
+#[tactic(auto, unfolding(crate::specs::PageLinks::page_entry))]
 fn add_link<'t>(
     alloc: Global,
     out: &mut Vec<u8>,

@@ -1,24 +1,29 @@
 //! What is found.
-ghost use Rattle.std.specs.Prelude.{◌≡◌, ◌++◌, OnOk};
+ghost use Rattle.std.specs.Prelude.{◌≡◌, ◌++◌, codes, flat_map, map, IfOk, OnOk, string_bytes};
+ghost use Rattle.form_urlencoded.specs.Form.{byte_serialize};
+ghost use Rattle.review_pieces.specs.Pieces.{found_client_html};
+ghost use Rattle.review_lists.specs.SearchView.{searched, found_names, client_finds, search_pages, search_told};
 
+use crate::found_page::{FoundPage, VISITS_FOUND};
 use crate::page_links::{add_page_links, listed_from};
-use crate::search_rows::{FoundPage, Sought, VISITS_FOUND, find_all};
+use crate::search_rows::find_all;
+use crate::sought::Sought;
 use crate::upload_list::add_more_than;
 use byte_streams::Source;
 use form_urlencoded::byte_serialize;
 use itoa::Buffer;
 use lanes_in_turn::Gathered;
-use memchr::memmem::Finder;
 use page_tree::NoMemory;
 use review_pieces::pieces;
-use review_state::has_part;
 use std::alloc::Global;
 use warp_run::{ClientSummary, Repaired};
 
 /// How many clients are shown.
 const CLIENTS_FOUND: usize = 100;
 
-/// Adds the clients whose names have that part, and the visits whose addresses have it or whose conflicts have that code, from that visit on.
+/// Adds the clients whose names have that part, and the visits whose addresses have it or whose conflicts have that code, from that visit on. Nothing is
+/// found where nothing is asked for.
+#[tactic(auto, unfolding(crate::specs::SearchView::search_told))]
 pub fn add_search<R: Source>(
     alloc: Global,
     out: &mut Vec<u8>,
@@ -26,32 +31,34 @@ pub fn add_search<R: Source>(
     repaired: &Repaired,
     text: &str,
     from: u64,
-) -> Result<(), NoMemory> {
-    let sought = Sought {
-        text,
-        part: Finder::new(text.as_bytes()),
-    };
+) -> Result<(), NoMemory>
+    ensures { OnOk result (out.new.items ≡ out.old.items ++ search_told logs.now repaired.now text.now from) }
+{
+    let from = from as usize;
+    let sought = Sought::new(text);
     let clients = searched(text, repaired.clients.as_slice());
     let names = found_names(alloc, &sought, clients)?;
     let mut items = Vec::new(alloc);
-    add_client_finds(&mut items, names.as_slice())?;
-    let mut page = FoundPage::new(alloc, from as usize);
+    add_client_finds(alloc, &mut items, names.as_slice())?;
+    let mut page = FoundPage::new(alloc, from);
     find_all(alloc, &mut page, &sought, logs, &repaired.desk, clients)?;
     let mut pages = Vec::new(alloc);
-    add_search_pages(alloc, &mut pages, text, from as usize, page.count)?;
+    add_search_pages(alloc, &mut pages, text, from, page.count())?;
     let mut count = Buffer::new();
     pieces::add_search(
         out,
-        count.format(names.len().saturating_add(page.count)),
+        count.format(names.len().saturating_add(page.count())),
         text,
         items.as_slice(),
-        page.rows.as_slice(),
+        page.rows(),
         pages.as_slice(),
     )
 }
 
 // None, where nothing is asked for.
-fn searched<'s>(text: &str, clients: &'s [ClientSummary]) -> &'s [ClientSummary] {
+fn searched<'s>(text: &str, clients: &'s [ClientSummary]) -> &'s [ClientSummary]
+    ensures { result.now ≡ searched text.now clients.now }
+{
     if text.len() == 0 { &[] } else { clients }
 }
 
@@ -61,11 +68,13 @@ fn found_names<'s>(
     alloc: Global,
     sought: &Sought<'_>,
     clients: &'s [ClientSummary],
-) -> Result<Vec<&'s str>, NoMemory> {
+) -> Result<Vec<&'s str>, NoMemory>
+    ensures { IfOk result (λ names. map (λ name. name.now) names.items ≡ found_names sought.now.text.now clients.now) }
+{
     let mut names = Vec::new(alloc);
     for client in clients {
         let name = client.client.text();
-        if has_part(&sought.part, name.as_bytes()) {
+        if sought.is_in(name) {
             names.push(name)?;
         }
     }
@@ -73,17 +82,27 @@ fn found_names<'s>(
 }
 
 // The first of them, and how many more there are; nothing where none is.
-fn add_client_finds(out: &mut Vec<u8>, names: &[&str]) -> Result<(), NoMemory> {
+#[tactic(auto, unfolding(crate::specs::SearchView::client_finds))]
+fn add_client_finds(alloc: Global, out: &mut Vec<u8>, names: &[&str]) -> Result<(), NoMemory>
+    ensures { OnOk result (out.new.items ≡ out.old.items ++ client_finds (map (λ name. name.now) names.now)) }
+{
     if names.len() == 0 {
         return Ok(());
     }
-    let alloc = *out.allocator();
     let mut items = Vec::new(alloc);
-    for name in listed_from(names, 0, CLIENTS_FOUND) {
-        pieces::add_found_client(&mut items, name)?;
-    }
+    add_found_clients(&mut items, listed_from(names, 0, CLIENTS_FOUND))?;
     add_more_than(&mut items, CLIENTS_FOUND, names.len())?;
     pieces::add_found_clients(out, items.as_slice())
+}
+
+fn add_found_clients(out: &mut Vec<u8>, names: &[&str]) -> Result<(), NoMemory>
+    ensures { OnOk result (out.new.items ≡ out.old.items
+        ++ flat_map found_client_html (map (λ name. name.now) names.now)) }
+{
+    for name in names {
+        pieces::add_found_client(out, name)?;
+    }
+    Ok(())
 }
 
 // ---- pages
@@ -94,7 +113,9 @@ fn add_search_pages(
     text: &str,
     from: usize,
     count: usize,
-) -> Result<(), NoMemory> {
+) -> Result<(), NoMemory>
+    ensures { OnOk result (out.new.items ≡ out.old.items ++ search_pages text.now from count) }
+{
     let before = search_address(alloc, text)?;
     add_page_links(
         alloc,
@@ -109,11 +130,21 @@ fn add_search_pages(
 }
 
 // That of a page of what is found, up to the number of its first visit.
-fn search_address(alloc: Global, text: &str) -> Result<String, NoMemory> {
+fn search_address(alloc: Global, text: &str) -> Result<String, NoMemory>
+    ensures { IfOk result (λ address. string_bytes address
+        ≡ codes "/search?q=" ++ (byte_serialize text.now ++ codes "&from=")) }
+{
     let mut address = String::from_str(alloc, "/search?q=")?;
+    add_encoded(&mut address, text)?;
+    address.push_str("&from=")?;
+    Ok(address)
+}
+
+fn add_encoded(address: &mut String, text: &str) -> Result<(), NoMemory>
+    ensures { OnOk result (string_bytes address.new ≡ string_bytes address.old ++ byte_serialize text.now) }
+{
     for piece in byte_serialize(text.as_bytes()) {
         address.push_str(piece)?;
     }
-    address.push_str("&from=")?;
-    Ok(address)
+    Ok(())
 }

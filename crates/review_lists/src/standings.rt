@@ -3,7 +3,8 @@ ghost use Rattle.std.specs.Prelude.{◌≡◌, count_by, sum_by};
 ghost use Rattle.conflict_desk.specs.declared.decided.Standing.{Standing as OneStanding};
 ghost use Rattle.conflict_desk.specs.declared.decided.Standing.TheVariants.{Waiting};
 ghost use Rattle.review_state.specs.Counts.{count_in};
-ghost use Rattle.review_lists.specs.Standings.{how_many_of, was_made, capped, all_waiting};
+ghost use Rattle.review_lists.specs.Capped.{capped};
+ghost use Rattle.review_lists.specs.Standings.{how_many_of, was_made, all_waiting};
 
 use conflict_desk::Desk;
 use review_state::{VisitCounts, counts_of};

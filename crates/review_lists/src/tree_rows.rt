@@ -1,6 +1,8 @@
 //! Rows of the tree of a client's visits.
-ghost use Rattle.std.specs.Prelude.{◌≡◌, ◌++◌, ◌<◌, length, flat_map, IfOk, OnOk, slice_get, Some, map, string_bytes};
+ghost use Rattle.std.specs.Prelude.{◌≡◌, ◌++◌, ◌<◌, [], length, flat_map, nat_eq, if◌then◌else◌, IfOk, OnOk, slice_get, slice_index_or, Some, map, string_bytes};
 ghost use Rattle.std.specs.List.Sorted.{IsStrictlyIncreasing};
+ghost use Rattle.std.specs.Option.{option_eq};
+ghost use Rattle.conflict_desk.specs.declared.docket.Case.{Case as OneCase};
 ghost use Rattle.conflict_desk.specs.Book.{front_visit};
 ghost use Rattle.review_lists.specs.ClientView.{opened_text, level_marks, front_mark, visit_branch, branch_at};
 

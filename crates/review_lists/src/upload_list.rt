@@ -1,5 +1,6 @@
 //! The uploads with what became of each.
-ghost use Rattle.std.specs.Prelude.{◌≡◌, ◌-◌, ◌++◌, length, map, flat_map, not, IfOk, OnOk};
+ghost use Rattle.std.specs.Prelude.{◌≡◌, ◌++◌, length, map, flat_map, not, IfOk, OnOk};
+ghost use Rattle.replay_folder.specs.Names.{named_name};
 ghost use Rattle.review_lists.specs.Attention.{was_taken};
 ghost use Rattle.review_lists.specs.UploadList.{upload_entry, more_than, untaken_places, taken_places, listed_uploads, upload_list};
 

@@ -1,0 +1,5 @@
+pub mod Ascending
+pub mod Pages
+pub mod InText
+pub mod Finding
+pub mod FoundPages
