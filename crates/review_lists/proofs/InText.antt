@@ -6,7 +6,7 @@ use Rattle.std.proofs.lemmas.List.{take_at, take-append-drop}
 use Rattle.std.proofs.lemmas.Slice.Eq.{bytes_eq-Decides}
 use Rattle.review_lists.specs.SearchView.{starts_so, has_in_it}
 
-abbrev StandsIn : List ℕ → List ℕ → Type 0
+abbrev pub StandsIn : List ℕ → List ℕ → Type 0
 StandsIn part text = (front rest : List ℕ) × (text ≡ front ++ (part ++ rest))
 
 starts : (part text rest : List ℕ) → text ≡ part ++ rest → starts_so part text ≡ true

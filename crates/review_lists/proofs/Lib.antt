@@ -3,3 +3,5 @@ pub mod Pages
 pub mod InText
 pub mod Finding
 pub mod FoundPages
+pub mod AddedFinds
+pub mod Levels

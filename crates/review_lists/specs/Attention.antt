@@ -13,7 +13,7 @@ use Rattle.replay_folder.specs.declared.ends.UploadEnd.TheVariants.{Taken}
 use Rattle.replay_folder.specs.declared.replayed.ToldUploads.{ToldUploads}
 use Rattle.review_pieces.specs.Pieces.{closed_html, note_html}
 use Rattle.review_lists.specs.Words.{counted_words}
-use Rattle.review_lists.specs.declared.attention.TheConstants.{STOPPED, ONE_UNTAKEN, MORE_UNTAKEN, ONE_LOSES, MORE_LOSE, ONE_FAILS, MORE_FAIL, LAST_OF}
+use Rattle.review_lists.specs.declared.attention.TheConstants.{STOPPED, ONE_UNTAKEN, MORE_UNTAKEN, ONE_LOSES, MORE_LOSE, ONE_FAILS, MORE_FAIL}
 
 -- it was taken, however it ended
 abbrev pub was_taken : UploadEnd → Bool
@@ -33,9 +33,9 @@ abbrev pub ends_oddly : ClientSummary → Bool
 ends_oddly client = not (ends_well client.end)
 
 -- nothing of none
-unfoldable pub counted_note : ℕ → List ℕ → List ℕ → List ℕ → List ℕ
-counted_note count one before behind =
-    if count == 0 then [] else note_html (codes "note") (counted_words count one before behind)
+unfoldable pub counted_note : ℕ → List ℕ → List ℕ → List ℕ
+counted_note count one several =
+    if count == 0 then [] else note_html (codes "note") (counted_words count one several)
 
 abbrev pub closed_note : Bool → List ℕ
 closed_note is_closed = if is_closed then closed_html else []
@@ -50,6 +50,6 @@ abbrev pub attention_html : ToldUploads → Repaired → Bool → List ℕ
 attention_html told repaired is_closed =
     closed_note is_closed
     ++ (stop_note repaired.stop
-    ++ (counted_note (count_by (λ end. not (was_taken end)) told.ends) ONE_UNTAKEN.now [] MORE_UNTAKEN.now
-    ++ (counted_note (count_by loses_visits repaired.clients) ONE_LOSES.now (codes "Of ") MORE_LOSE.now
-    ++ counted_note (count_by ends_oddly repaired.clients) ONE_FAILS.now LAST_OF.now MORE_FAIL.now)))
+    ++ (counted_note (count_by (λ end. not (was_taken end)) told.ends) ONE_UNTAKEN.now MORE_UNTAKEN.now
+    ++ (counted_note (count_by loses_visits repaired.clients) ONE_LOSES.now MORE_LOSE.now
+    ++ counted_note (count_by ends_oddly repaired.clients) ONE_FAILS.now MORE_FAIL.now)))

@@ -1,7 +1,7 @@
 -- A client: its last upload, how its visits stand, and the tree of them.
-use Rattle.std.specs.Prelude.{◌≡◌, ℕ, List, [], ◌++◌, length, flat_map, codes, decimal, Bool, true, false, if◌then◌else◌, nat_eq, min, Option, Some, MatchOption, option_and_then, option_map, slice_get, slice_index_or}
+use Rattle.std.specs.Prelude.{◌≡◌, ℕ, zero, suc, List, [], ◌++◌, length, flat_map, codes, decimal, Bool, true, false, if◌then◌else◌, nat_eq, min, Option, Some, MatchOption, slice_get, slice_index_or}
 use Rattle.std.specs.Option.{option_eq, option_map_or}
-use Rattle.std.specs.List.{find, range_with_len}
+use Rattle.std.specs.List.{find}
 use Rattle.std.specs.Str.{bytes_eq}
 use Rattle.client_log.specs.declared.visit.Visit.{Visit}
 use Rattle.conflict_desk.specs.Book.{Book, front_visit, standing_in}
@@ -28,13 +28,21 @@ summary_named name clients = find (λ client. bytes_eq name client.client) clien
 
 -- ---- a visit in the tree
 
+abbrev pub opened_words : Option Case → List ℕ
+opened_words parent = option_map_or (λ parent. codes "opened by visit " ++ decimal parent.visit) parent []
+
 -- which visit opened it, where the docket has that
 abbrev pub opened_text : List Case → Case → List ℕ
-opened_text cases case =
-    option_map_or (λ parent. codes "opened by visit " ++ decimal parent.visit) (parent_of cases case) []
+opened_text cases case = opened_words (parent_of cases case)
 
+-- so many marks of levels
+unfoldable pub drawn_levels : ℕ → List ℕ
+drawn_levels zero = []
+drawn_levels (suc n) = level_html ++ drawn_levels n
+
+-- one for each visit above, as far as there is room
 abbrev pub level_marks : ℕ → List ℕ
-level_marks level = flat_map (λ _. level_html) (range_with_len 0 (min level LEVELS_DRAWN))
+level_marks level = drawn_levels (min level LEVELS_DRAWN)
 
 -- the front is marked
 abbrev pub front_mark : Book → Case → List ℕ
@@ -78,14 +86,15 @@ abbrev pub TellsClient : ClientSummary → Book → List Visit → ℕ → List 
 TellsClient client book visits from html =
     (tree : Branches) × IsBranched book.cases tree × (html ≡ client_told client book visits tree from)
 
--- the client with its book, where both are there
-abbrev pub client_there : Repaired → List ℕ → Option (ClientSummary × Book)
-client_there repaired name = option_and_then
-    (λ client. option_map (λ book. (client, book)) (book_of name repaired.desk)) (summary_named name repaired.clients)
+-- true where the client has a book, and then it is told; else false, and nothing is added
+abbrev pub AddsBook : {R : Type 0}
+    → Gathered R → Option Book → ClientSummary → List ℕ → ℕ → List ℕ → List ℕ → Bool → Type 0
+AddsBook logs found client name from old new there = MatchOption found ((there ≡ false) × (new ≡ old))
+    (λ book. (there ≡ true) × (html : List ℕ) × (new ≡ old ++ html)
+    × TellsClient client book (logged_visits logs name) from html)
 
--- true where the client is there, which is told; else false, and nothing is added
+-- the same of the client of that name, if there is one
 abbrev pub AddsClient : {R : Type 0} → Gathered R → Repaired → List ℕ → ℕ → List ℕ → List ℕ → Bool → Type 0
-AddsClient logs repaired name from old new there = MatchOption (client_there repaired name)
-    ((there ≡ false) × (new ≡ old))
-    (λ found. (there ≡ true) × (html : List ℕ) × (new ≡ old ++ html)
-    × TellsClient found.0 found.1 (logged_visits logs name) from html)
+AddsClient logs repaired name from old new there =
+    MatchOption (summary_named name repaired.clients) ((there ≡ false) × (new ≡ old))
+    (λ client. AddsBook logs (book_of name repaired.desk) client name from old new there)

@@ -30,7 +30,7 @@ client_names clients = map (λ client. client.client) clients
 
 -- of so many that wait
 abbrev pub behind_words : ℕ → List ℕ
-behind_words waiting = if nat_le waiting 1 then [] else counted_words (waiting - 1) ONE_BEHIND.now [] MORE_BEHIND.now
+behind_words waiting = if nat_le waiting 1 then [] else counted_words (waiting - 1) ONE_BEHIND.now MORE_BEHIND.now
 
 abbrev pub conflict_at_visit : Books → List ℕ → ℕ → Option (ℕ × ConflictKind)
 conflict_at_visit desk client visit = option_and_then conflict_in (by_case (λ _ case. case.outcome) client visit desk)

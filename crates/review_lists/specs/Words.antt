@@ -26,6 +26,6 @@ outcome_text outcome = option_map_or conflict_text (conflict_in outcome) []
 abbrev pub upload_words : UploadEnd → List ℕ
 upload_words end = join_with_byte 32 (end_words end)
 
--- a sentence for one, and what stands around the number of several
-abbrev pub counted_words : ℕ → List ℕ → List ℕ → List ℕ → List ℕ
-counted_words count one before behind = if count == 1 then one else before ++ (decimal count ++ behind)
+-- a sentence for one, or what stands behind the number of several
+abbrev pub counted_words : ℕ → List ℕ → List ℕ → List ℕ
+counted_words count one several = if count == 1 then one else decimal count ++ several

@@ -17,12 +17,10 @@ const STOPPED: &str =
     "Memory was refused while uploads were taken: what is shown is of the first messages.";
 const ONE_UNTAKEN: &str = "1 upload couldn't be taken: see Uploads below.";
 const MORE_UNTAKEN: &str = " uploads couldn't be taken: see Uploads below.";
-const ONE_LOSES: &str = "Of 1 client visits were lost for want of room: raise quota and start again, before you decide.";
-const MORE_LOSE: &str = " clients visits were lost for want of room: raise quota and start again, before you decide.";
+const ONE_LOSES: &str = "1 client lost visits for want of room: raise quota and start again, before you decide.";
+const MORE_LOSE: &str = " clients lost visits for want of room: raise quota and start again, before you decide.";
 const ONE_FAILS: &str = "The last upload of 1 client ended otherwise than by its bye or by being cut off (E3): see Clients below.";
-const LAST_OF: &str = "The last uploads of ";
-const MORE_FAIL: &str =
-    " clients ended otherwise than by their bye or by being cut off (E3): see Clients below.";
+const MORE_FAIL: &str = " clients have a last upload that ended otherwise than by its bye or by being cut off (E3): see Clients below.";
 
 /// Adds what there is of it, the closed file first.
 pub(crate) fn add_attention(
@@ -38,9 +36,9 @@ pub(crate) fn add_attention(
     add_closed_note(out, is_closed)?;
     add_stop_note(out, repaired.stop)?;
     let untaken = untaken_of(told.ends.as_slice());
-    add_counted_note(alloc, out, untaken, ONE_UNTAKEN, "", MORE_UNTAKEN)?;
-    add_counted_note(alloc, out, losing(clients), ONE_LOSES, "Of ", MORE_LOSE)?;
-    add_counted_note(alloc, out, failing(clients), ONE_FAILS, LAST_OF, MORE_FAIL)
+    add_counted_note(alloc, out, untaken, ONE_UNTAKEN, MORE_UNTAKEN)?;
+    add_counted_note(alloc, out, losing(clients), ONE_LOSES, MORE_LOSE)?;
+    add_counted_note(alloc, out, failing(clients), ONE_FAILS, MORE_FAIL)
 }
 
 fn add_closed_note(out: &mut Vec<u8>, is_closed: bool) -> Result<(), NoMemory>
@@ -69,15 +67,14 @@ fn add_counted_note(
     out: &mut Vec<u8>,
     count: usize,
     one: &str,
-    before: &str,
-    behind: &str,
+    several: &str,
 ) -> Result<(), NoMemory>
-    ensures { OnOk result (out.new.items ≡ out.old.items ++ counted_note count one.now before.now behind.now) }
+    ensures { OnOk result (out.new.items ≡ out.old.items ++ counted_note count one.now several.now) }
 {
     if count == 0 {
         return Ok(());
     }
-    let text = counted_words(alloc, count, one, before, behind)?;
+    let text = counted_words(alloc, count, one, several)?;
     pieces::add_note(out, "note", text.as_str())
 }
 

@@ -5,7 +5,7 @@ ghost use Rattle.std.specs.Option.{option_map_or};
 ghost use Rattle.conflict_desk.specs.Book.{front_visit};
 ghost use Rattle.conflict_desk.specs.Desk.{book_of};
 ghost use Rattle.review_pieces.specs.Pieces.{next_html};
-ghost use Rattle.review_lists.specs.ClientView.{summary_named, told_upload, told_counts, tree_pages, TellsClient, AddsClient};
+ghost use Rattle.review_lists.specs.ClientView.{summary_named, told_upload, told_counts, tree_pages, client_told, TellsClient, AddsBook, AddsClient};
 
 use crate::addresses::logged_visits;
 use crate::page_links::{add_page_links, listed_from};
@@ -18,7 +18,7 @@ use itoa::Buffer;
 use lanes_in_turn::Gathered;
 use page_tree::NoMemory;
 use review_pieces::pieces;
-use review_state::{branches_of, counts_of};
+use review_state::{Branches, branches_of, counts_of};
 use std::alloc::Global;
 use upload_reader::Client;
 use warp_run::{ClientSummary, Repaired};
@@ -35,15 +35,34 @@ pub fn add_client<R: Source>(
 ) -> Result<bool, NoMemory>
     ensures { IfOk result (AddsClient logs.now repaired.now client.now from out.old.items out.new.items) }
 {
-    let Some(summary) = summary_named(client, repaired.clients.as_slice()) else {
-        return Ok(false);
-    };
-    let Some(docket) = repaired.desk.docket(client) else {
-        return Ok(false);
-    };
-    let visits = logged_visits(logs, client);
-    add_told(alloc, out, summary, docket, visits, front_of(&repaired.desk, client), from as usize)?;
-    Ok(true)
+    match summary_named(client, repaired.clients.as_slice()) {
+        None => Ok(false),
+        Some(summary) => add_summary(alloc, out, logs, &repaired.desk, client, summary, from),
+    }
+}
+
+// The same of a client with that summary.
+fn add_summary<R: Source>(
+    alloc: Global,
+    out: &mut Vec<u8>,
+    logs: &Gathered<R>,
+    desk: &Desk,
+    client: &Client,
+    summary: &ClientSummary,
+    from: u64,
+) -> Result<bool, NoMemory>
+    ensures { IfOk result (AddsBook logs.now (book_of client.now desk.now) summary.now client.now from
+        out.old.items out.new.items) }
+{
+    match desk.docket(client) {
+        None => Ok(false),
+        Some(docket) => {
+            let visits = logged_visits(logs, client);
+            let front = front_of(desk, client);
+            add_told(alloc, out, summary, docket, visits, front, from as usize)?;
+            Ok(true)
+        }
+    }
 }
 
 // What is said of a client of that name.
@@ -76,8 +95,30 @@ fn add_told(
     ensures { OnOk result ((html : List ℕ) × (out.new.items ≡ out.old.items ++ html)
         × TellsClient summary.now docket.now visits.now from html) }
 {
-    let client = summary.client.text();
     let tree = branches_of(alloc, docket)?;
+    add_tree(alloc, out, summary, docket, visits, &tree, front, from)?;
+    Ok(())
+}
+
+// All of it, with that tree of its visits.
+#[tactic(auto, unfolding(crate::specs::ClientView::client_told))]
+fn add_tree(
+    alloc: Global,
+    out: &mut Vec<u8>,
+    summary: &ClientSummary,
+    docket: &OpenDocket,
+    visits: &[Visit],
+    tree: &Branches,
+    front: Option<u64>,
+    from: usize,
+) -> Result<(), NoMemory>
+    requires ascend { IsStrictlyIncreasing (map (λ visit. visit.number) visits.now) }
+    requires front { front ≡ front_visit docket.now }
+    ensures { OnOk result (out.new.items ≡ out.old.items
+        ++ client_told summary.now docket.now visits.now tree.now from) }
+{
+    let client = summary.client.text();
+    let order = tree.order.as_slice();
     let mut upload = Vec::new(alloc);
     add_told_upload(alloc, &mut upload, summary)?;
     let mut counts = Vec::new(alloc);
@@ -91,10 +132,10 @@ fn add_told(
         visits,
         front,
     };
-    let places = listed_from(tree.order.as_slice(), from, VISITS_A_PAGE);
+    let places = listed_from(order, from, VISITS_A_PAGE);
     add_branches(alloc, &mut items, &rows, tree.levels.as_slice(), places)?;
     let mut pages = Vec::new(alloc);
-    add_tree_pages(alloc, &mut pages, client, from, tree.order.len())?;
+    add_tree_pages(alloc, &mut pages, client, from, order.len())?;
     pieces::add_client(
         out,
         client,

@@ -186,5 +186,5 @@ fn behind_words(alloc: Global, waiting: usize) -> Result<String, NoMemory>
     if waiting <= 1 {
         return Ok(String::new(alloc));
     }
-    counted_words(alloc, waiting - 1, ONE_BEHIND, "", MORE_BEHIND)
+    counted_words(alloc, waiting - 1, ONE_BEHIND, MORE_BEHIND)
 }

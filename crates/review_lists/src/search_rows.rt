@@ -1,5 +1,5 @@
 //! Visits that are found by a part of their addresses or by their conflict's code.
-ghost use Rattle.std.specs.Prelude.{◌≡◌, ◌++◌, Some, slice_get, flat_map, map, IfOk, OnOk};
+ghost use Rattle.std.specs.Prelude.{◌≡◌, [], ◌∷◌, Some, slice_get, flat_map, map, IfOk, OnOk};
 ghost use Rattle.std.specs.List.Sorted.{IsStrictlyIncreasing};
 ghost use Rattle.review_state.specs.Finding.{has_code};
 ghost use Rattle.review_lists.specs.SearchView.{is_found_visit, visit_find, visit_finds, finds_in, finds_of};
@@ -97,6 +97,24 @@ fn look_at(
     if !is_found_visit(sought, visits, case) {
         return Ok(());
     }
+    take_find(alloc, page, client, visits, docket, place, case)
+}
+
+// It is found.
+fn take_find(
+    alloc: Global,
+    page: &mut FoundPage,
+    client: &str,
+    visits: &[Visit],
+    docket: &OpenDocket,
+    place: usize,
+    case: &Case,
+) -> Result<(), NoMemory>
+    requires there { slice_get docket.now.cases place ≡ Some case.now }
+    requires ascend { IsStrictlyIncreasing (map (λ visit. visit.number) visits.now) }
+    ensures { OnOk result (AddsFinds page.old page.new
+        (visit_find client.now docket.now visits.now case.now ∷ [])) }
+{
     if !page.takes_next() {
         page.pass();
         return Ok(());

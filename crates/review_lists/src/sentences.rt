@@ -18,6 +18,7 @@ const K10: &str = "The link or form that led to this visit leads elsewhere now, 
 const K11: &str = "Only with same: it is known which element it was, and it, its form, or what looked so around it sends something else now: another address, another hidden value; or a field that was touched stands under the submitted form on one of the two pages alone.";
 
 /// What that conflict is.
+#[tactic(auto, unfolding(crate::specs::Sentences::conflict_sentence))]
 pub fn conflict_sentence(kind: ConflictKind) -> &'static str
     ensures { result.now ≡ conflict_sentence kind }
 {

@@ -4,7 +4,7 @@ ghost use Rattle.std.specs.List.Sorted.{IsStrictlyIncreasing};
 ghost use Rattle.std.specs.Option.{option_eq};
 ghost use Rattle.conflict_desk.specs.declared.docket.Case.{Case as OneCase};
 ghost use Rattle.conflict_desk.specs.Book.{front_visit};
-ghost use Rattle.review_lists.specs.ClientView.{opened_text, level_marks, front_mark, visit_branch, branch_at};
+ghost use Rattle.review_lists.specs.ClientView.{opened_text, opened_words, level_marks, visit_branch, branch_at};
 
 use crate::addresses::visit_address;
 use crate::words::{outcome_text, standing_word};
@@ -126,7 +126,10 @@ fn opened_text(alloc: Global, docket: &OpenDocket, place: usize) -> Result<Strin
     }
 }
 
-fn opened_by(alloc: Global, cases: &[Case], parent: usize) -> Result<String, NoMemory> {
+// By the one at that place.
+fn opened_by(alloc: Global, cases: &[Case], parent: usize) -> Result<String, NoMemory>
+    ensures { IfOk result (λ text. string_bytes text ≡ opened_words (slice_get cases.now parent)) }
+{
     match cases.get(parent) {
         None => Ok(String::new(alloc)),
         Some(parent) => {
@@ -136,11 +139,15 @@ fn opened_by(alloc: Global, cases: &[Case], parent: usize) -> Result<String, NoM
     }
 }
 
+#[tactic(auto, using(crate::proofs::Levels::one_drawn), unfolding(crate::specs::ClientView::drawn_levels))]
 fn add_levels(out: &mut Vec<u8>, level: usize) -> Result<(), NoMemory>
     ensures { OnOk result (out.new.items ≡ out.old.items ++ level_marks level) }
 {
-    for _ in 0..level.min(LEVELS_DRAWN) {
+    let drawn = level.min(LEVELS_DRAWN);
+    let mut left = drawn;
+    while left > 0 {
         pieces::add_level(out)?;
+        left -= 1;
     }
     Ok(())
 }

@@ -101,19 +101,18 @@ fn hello_word(alloc: Global, fault: HelloFault) -> Result<String, NoMemory>
     }
 }
 
-/// A sentence for one, or what stands around the number of several.
+/// A sentence for one, or what stands behind the number of several.
 pub(crate) fn counted_words(
     alloc: Global,
     count: usize,
     one: &str,
-    before: &str,
-    behind: &str,
+    several: &str,
 ) -> Result<String, NoMemory>
-    ensures { IfOk result (λ text. string_bytes text ≡ counted_words count one.now before.now behind.now) }
+    ensures { IfOk result (λ text. string_bytes text ≡ counted_words count one.now several.now) }
 {
     if count == 1 {
         String::from_str(alloc, one)
     } else {
-        format!(in alloc; "{before}{count}{behind}")
+        format!(in alloc; "{count}{several}")
     }
 }
