@@ -5,3 +5,4 @@ pub mod Finding
 pub mod FoundPages
 pub mod AddedFinds
 pub mod Levels
+pub mod Found

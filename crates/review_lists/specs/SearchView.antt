@@ -73,9 +73,12 @@ abbrev pub search_pages : List ℕ → ℕ → ℕ → List ℕ
 search_pages text from count = page_links (codes "Visits found")
     (codes "/search?q=" ++ (byte_serialize text ++ codes "&from=")) [] VISITS_FOUND from count
 
-unfoldable pub search_told : {R : Type 0} → Gathered R → Repaired → List ℕ → ℕ → List ℕ
-search_told logs repaired text from = let clients = searched text repaired.clients in
-    let names = found_names text clients in
-    let finds = flat_map (finds_of text logs repaired.desk) clients in
+-- these clients and these rows of visits were found
+unfoldable pub found_told : List ℕ → List (List ℕ) → List (List ℕ) → ℕ → List ℕ
+found_told text names finds from =
     search_html (decimal (capped (length names + length finds))) text (client_finds names)
     (concat (listed_from from VISITS_FOUND finds)) (search_pages text from (capped (length finds)))
+
+abbrev pub search_told : {R : Type 0} → Gathered R → Repaired → List ℕ → ℕ → List ℕ
+search_told logs repaired text from = let clients = searched text repaired.clients in
+    found_told text (found_names text clients) (flat_map (finds_of text logs repaired.desk) clients) from

@@ -15,12 +15,22 @@ use warp_run::{ClientSummary, Repaired};
 
 const STOPPED: &str =
     "Memory was refused while uploads were taken: what is shown is of the first messages.";
+
 const ONE_UNTAKEN: &str = "1 upload couldn't be taken: see Uploads below.";
+
 const MORE_UNTAKEN: &str = " uploads couldn't be taken: see Uploads below.";
-const ONE_LOSES: &str = "1 client lost visits for want of room: raise quota and start again, before you decide.";
-const MORE_LOSE: &str = " clients lost visits for want of room: raise quota and start again, before you decide.";
-const ONE_FAILS: &str = "The last upload of 1 client ended otherwise than by its bye or by being cut off (E3): see Clients below.";
-const MORE_FAIL: &str = " clients have a last upload that ended otherwise than by its bye or by being cut off (E3): see Clients below.";
+
+const ONE_LOSES: &str =
+    "1 client lost visits for want of room: raise quota and start again, before you decide.";
+
+const MORE_LOSE: &str =
+    " clients lost visits for want of room: raise quota and start again, before you decide.";
+
+const ONE_FAILS: &str =
+    "The last upload of 1 client ended otherwise than by its bye or by being cut off (E3): see Clients below.";
+
+const MORE_FAIL: &str =
+    " clients have a last upload that ended otherwise than by its bye or by being cut off (E3): see Clients below.";
 
 /// Adds what there is of it, the closed file first.
 pub(crate) fn add_attention(
@@ -109,7 +119,10 @@ fn losing(clients: &[ClientSummary]) -> usize
 fn failing(clients: &[ClientSummary]) -> usize
     ensures { result ≡ count_by ends_oddly clients.now }
 {
-    clients.iter().filter(|client| !ends_well(client.end)).count()
+    clients
+        .iter()
+        .filter(|client| !ends_well(client.end))
+        .count()
 }
 
 fn ends_well(end: Option<Ending>) -> bool

@@ -22,6 +22,7 @@ use warp_run::ClientSummary;
 const FRONTS_A_PAGE: usize = 50;
 
 const ONE_BEHIND: &str = "1 more waits behind it.";
+
 const MORE_BEHIND: &str = " more wait behind it.";
 
 /// Adds the page of them that begins at the front `from`. `shown` is the first client of the table on the same page.
@@ -51,7 +52,10 @@ pub(crate) fn add_front_list<R: Source>(
     pieces::add_fronts(out, items.as_slice(), pages.as_slice())
 }
 
-fn clients_of<'s>(alloc: Global, summaries: &'s [ClientSummary]) -> Result<Vec<&'s Client>, NoMemory>
+fn clients_of<'s>(
+    alloc: Global,
+    summaries: &'s [ClientSummary],
+) -> Result<Vec<&'s Client>, NoMemory>
     ensures { IfOk result (λ clients. map (λ client. client.now) clients.items ≡ client_names summaries.now) }
 {
     let mut clients = Vec::with_capacity(alloc, summaries.len())?;

@@ -79,10 +79,30 @@ fn add_links<'t>(
     let low = here.saturating_sub(NEAR);
     let high = here.saturating_add(NEAR).min(last);
     let is_first_far = 0 < low;
-    add_far(alloc, out, before, behind, per, count, here, is_first_far, 0)?;
+    add_far(
+        alloc,
+        out,
+        before,
+        behind,
+        per,
+        count,
+        here,
+        is_first_far,
+        0,
+    )?;
     add_near(alloc, out, before, behind, per, count, here, low, high)?;
     let is_last_far = high < last;
-    add_far(alloc, out, before, behind, per, count, here, is_last_far, last)
+    add_far(
+        alloc,
+        out,
+        before,
+        behind,
+        per,
+        count,
+        here,
+        is_last_far,
+        last,
+    )
 }
 
 // That of a page that may be far.

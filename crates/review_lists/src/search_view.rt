@@ -1,8 +1,9 @@
 //! What is found.
-ghost use Rattle.std.specs.Prelude.{◌≡◌, ◌++◌, codes, flat_map, map, IfOk, OnOk, string_bytes};
+ghost use Rattle.std.specs.Prelude.{ℕ, List, ◌≡◌, ◌++◌, codes, flat_map, map, IfOk, OnOk, string_bytes};
 ghost use Rattle.form_urlencoded.specs.Form.{byte_serialize};
 ghost use Rattle.review_pieces.specs.Pieces.{found_client_html};
-ghost use Rattle.review_lists.specs.SearchView.{searched, found_names, client_finds, search_pages, search_told};
+ghost use Rattle.review_lists.specs.inside.FoundPages.{IsFoundPage};
+ghost use Rattle.review_lists.specs.SearchView.{searched, found_names, finds_of, client_finds, found_told, search_pages, search_told};
 
 use crate::found_page::{FoundPage, VISITS_FOUND};
 use crate::page_links::{add_page_links, listed_from};
@@ -10,6 +11,7 @@ use crate::search_rows::find_all;
 use crate::sought::Sought;
 use crate::upload_list::add_more_than;
 use byte_streams::Source;
+use conflict_desk::Desk;
 use form_urlencoded::byte_serialize;
 use itoa::Buffer;
 use lanes_in_turn::Gathered;
@@ -23,7 +25,6 @@ const CLIENTS_FOUND: usize = 100;
 
 /// Adds the clients whose names have that part, and the visits whose addresses have it or whose conflicts have that code, from that visit on. Nothing is
 /// found where nothing is asked for.
-#[tactic(auto, unfolding(crate::specs::SearchView::search_told))]
 pub fn add_search<R: Source>(
     alloc: Global,
     out: &mut Vec<u8>,
@@ -38,10 +39,39 @@ pub fn add_search<R: Source>(
     let sought = Sought::new(text);
     let clients = searched(text, repaired.clients.as_slice());
     let names = found_names(alloc, &sought, clients)?;
-    let mut items = Vec::new(alloc);
-    add_client_finds(alloc, &mut items, names.as_slice())?;
+    let page = found_page(alloc, &sought, logs, &repaired.desk, clients, from)?;
+    add_found(alloc, out, text, names.as_slice(), &page, from)?;
+    Ok(())
+}
+
+fn found_page<R: Source>(
+    alloc: Global,
+    sought: &Sought<'_>,
+    logs: &Gathered<R>,
+    desk: &Desk,
+    clients: &[ClientSummary],
+    from: usize,
+) -> Result<FoundPage, NoMemory>
+    ensures { IfOk result (IsFoundPage from (flat_map (finds_of sought.now.text.now logs.now desk.now) clients.now)) }
+{
     let mut page = FoundPage::new(alloc, from);
-    find_all(alloc, &mut page, &sought, logs, &repaired.desk, clients)?;
+    find_all(alloc, &mut page, sought, logs, desk, clients)?;
+    Ok(page)
+}
+
+fn add_found<'t>(
+    alloc: Global,
+    out: &mut Vec<u8>,
+    text: &'t str,
+    names: &[&'t str],
+    page: &FoundPage,
+    from: usize,
+) -> Result<(), NoMemory>
+    ensures { OnOk result ((finds : List (List ℕ)) → IsFoundPage from finds page.now
+        → out.new.items ≡ out.old.items ++ found_told text.now (map (λ name. name.now) names.now) finds from) }
+{
+    let mut items = Vec::new(alloc);
+    add_client_finds(alloc, &mut items, names)?;
     let mut pages = Vec::new(alloc);
     add_search_pages(alloc, &mut pages, text, from, page.count())?;
     let mut count = Buffer::new();
@@ -52,7 +82,8 @@ pub fn add_search<R: Source>(
         items.as_slice(),
         page.rows(),
         pages.as_slice(),
-    )
+    )?;
+    Ok(())
 }
 
 // None, where nothing is asked for.
@@ -82,7 +113,6 @@ fn found_names<'s>(
 }
 
 // The first of them, and how many more there are; nothing where none is.
-#[tactic(auto, unfolding(crate::specs::SearchView::client_finds))]
 fn add_client_finds(alloc: Global, out: &mut Vec<u8>, names: &[&str]) -> Result<(), NoMemory>
     ensures { OnOk result (out.new.items ≡ out.old.items ++ client_finds (map (λ name. name.now) names.now)) }
 {
@@ -92,7 +122,8 @@ fn add_client_finds(alloc: Global, out: &mut Vec<u8>, names: &[&str]) -> Result<
     let mut items = Vec::new(alloc);
     add_found_clients(&mut items, listed_from(names, 0, CLIENTS_FOUND))?;
     add_more_than(&mut items, CLIENTS_FOUND, names.len())?;
-    pieces::add_found_clients(out, items.as_slice())
+    pieces::add_found_clients(out, items.as_slice())?;
+    Ok(())
 }
 
 fn add_found_clients(out: &mut Vec<u8>, names: &[&str]) -> Result<(), NoMemory>

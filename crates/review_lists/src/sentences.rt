@@ -5,17 +5,30 @@ ghost use Rattle.review_lists.specs.Sentences.{conflict_sentence};
 use visit_replay::ConflictKind;
 
 const K1: &str = "The address was repaired, and the site has no page at the visit's whole address.";
+
 const K2: &str = "The event's path selects nothing on the repaired page.";
+
 const K3: &str = "The path selects several elements: a new one made it ambiguous.";
-const K4: &str = "The element takes no input, or no click: it is no text field any more, or is disabled, or is a radio button, which always is K4.";
+
+const K4: &str =
+    "The element takes no input, or no click: it is no text field any more, or is disabled, or is a radio button, which always is K4.";
+
 const K5: &str = "The field starts with another text than it did for the user.";
+
 const K6: &str = "The click made a request, and what was clicked is no link now.";
+
 const K7: &str =
     "The form is gone, or the button that was pressed is none of its enabled submit buttons.";
+
 const K8: &str = "The log kept only a part of the visit, for want of room.";
+
 const K9: &str = "All could be replayed, and a watched text has changed.";
-const K10: &str = "The link or form that led to this visit leads elsewhere now, so the user would not have come here.";
-const K11: &str = "Only with same: it is known which element it was, and it, its form, or what looked so around it sends something else now: another address, another hidden value; or a field that was touched stands under the submitted form on one of the two pages alone.";
+
+const K10: &str =
+    "The link or form that led to this visit leads elsewhere now, so the user would not have come here.";
+
+const K11: &str =
+    "Only with same: it is known which element it was, and it, its form, or what looked so around it sends something else now: another address, another hidden value; or a field that was touched stands under the submitted form on one of the two pages alone.";
 
 /// What that conflict is.
 #[tactic(auto, unfolding(crate::specs::Sentences::conflict_sentence))]

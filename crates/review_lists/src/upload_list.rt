@@ -46,7 +46,12 @@ fn add_listed(alloc: Global, out: &mut Vec<u8>, told: &ToldUploads) -> Result<us
     ensures untaken { IfOk result (λ count. count ≡ length (untaken_places told.now.ends)) }
 {
     let ends = told.ends.as_slice();
-    let untaken = page_of(alloc, untaken_marks(alloc, ends)?.as_slice(), 0, MOST_UPLOADS)?;
+    let untaken = page_of(
+        alloc,
+        untaken_marks(alloc, ends)?.as_slice(),
+        0,
+        MOST_UPLOADS,
+    )?;
     let room = MOST_UPLOADS.saturating_sub(untaken.places.len());
     let taken = page_of(alloc, taken_marks(alloc, ends)?.as_slice(), 0, room)?;
     add_uploads_at(alloc, out, told, untaken.places.as_slice())?;

@@ -71,21 +71,23 @@ pub(crate) fn upload_words(alloc: Global, end: &UploadEnd) -> Result<String, NoM
     match end {
         UploadEnd::Unopened => String::from_str(alloc, "U5"),
         UploadEnd::NoHello(fault) => hello_word(alloc, *fault),
-        UploadEnd::Taken { client, taken, end } => taken_words(alloc, client.text(), *taken, *end),
+        UploadEnd::Taken { client, taken, end } => {
+            let end = end_word(alloc, *end)?;
+            taken_words(alloc, client.text(), *taken, end.as_str())
+        }
         UploadEnd::Unread => String::from_str(alloc, "none"),
     }
 }
 
-fn taken_words(
+fn taken_words<'t>(
     alloc: Global,
-    client: &str,
+    client: &'t str,
     taken: u64,
-    end: Option<Ending>,
+    end: &'t str,
 ) -> Result<String, NoMemory>
     ensures { IfOk result (λ text. string_bytes text ≡ codes "client " ++ (client.now
-        ++ (codes " taken " ++ (decimal taken ++ (codes " end " ++ end_word end))))) }
+        ++ (codes " taken " ++ (decimal taken ++ (codes " end " ++ end.now))))) }
 {
-    let end = end_word(alloc, end)?;
     format!(in alloc; "client {client} taken {taken} end {end}")
 }
 
