@@ -1,8 +1,8 @@
 -- What is found, as it is told.
-use Rattle.std.proofs.Common.{◌≡◌, ℕ, ◌+◌, ◌-◌, ◌^◌, List, [], ◌∷◌, ◌++◌, length, map, take, min, decimal, eqb, false, cond, ap, ◌∙◌, arith, length-map}
+use Rattle.std.proofs.Common.{◌≡◌, ℕ, ◌+◌, ◌-◌, ◌^◌, List, [], ◌++◌, length, map, min, decimal, eqb, false, cond, ap, ◌∙◌, arith}
 use Rattle.std.specs.Borrow.{Bor}
 use Rattle.std.specs.List.{flat_map, concat}
-use Rattle.std.proofs.lemmas.List.{take-map}
+use Rattle.std.proofs.lemmas.List.{length-map, take-map}
 use Rattle.review_pieces.specs.Pieces.{found_client_html, found_clients_html, search_html}
 use Rattle.review_lists.specs.Capped.{capped}
 use Rattle.review_lists.specs.PageLinks.{listed_from}

@@ -1,5 +1,5 @@
 -- Numbers of pages.
-use Rattle.std.proofs.Common.{◌≡◌, ℕ, suc, ◌+◌, ◌-◌, ◌*◌, ◌/◌, ◌<◌, ◌≤◌, List, [], ◌∷◌, ◌++◌, refl, ap, arith}
+use Rattle.std.proofs.Common.{◌≡◌, ℕ, suc, ◌+◌, ◌-◌, ◌*◌, ◌<◌, ◌≤◌, ◌∷◌, ap, arith}
 use Rattle.std.specs.List.{range_with_len}
 use Rattle.review_lists.specs.PageLinks.{last_page}
 

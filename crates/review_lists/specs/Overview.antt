@@ -1,5 +1,5 @@
 -- The overview: what wants attention, what each client has to be decided first, the clients, and the uploads.
-use Rattle.std.specs.Prelude.{ℕ, ◌+◌, ◌-◌, List, [], ◌++◌, length, map, flat_map, codes, decimal, Bool, ◌==◌, nat_le, if◌then◌else◌, Option, slice_get, option_map, option_and_then}
+use Rattle.std.specs.Prelude.{ℕ, ◌-◌, List, [], ◌++◌, length, map, flat_map, codes, decimal, Bool, ◌==◌, nat_le, if◌then◌else◌, Option, slice_get, option_and_then}
 use Rattle.std.specs.Option.{option_map_or}
 use Rattle.visit_replay.specs.Conflict.{conflict_code}
 use Rattle.visit_replay.specs.declared.outcome.ConflictKind.{ConflictKind}

@@ -1,5 +1,5 @@
 -- A list is shown by pages, with links to others of them.
-use Rattle.std.specs.Prelude.{ℕ, suc, ◌+◌, ◌-◌, ◌*◌, ◌/◌, List, [], ◌∷◌, ◌++◌, take, drop, flat_map, codes, decimal, nat_le, nat_lt, ◌==◌, if◌then◌else◌, min}
+use Rattle.std.specs.Prelude.{ℕ, ◌+◌, ◌-◌, ◌*◌, ◌/◌, List, [], ◌∷◌, ◌++◌, take, drop, flat_map, codes, decimal, nat_le, nat_lt, ◌==◌, if◌then◌else◌, min}
 use Rattle.std.specs.List.{range_with_len}
 use Rattle.review_pieces.specs.Pieces.{pages_html, page_here_html, page_link_html}
 

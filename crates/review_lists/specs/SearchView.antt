@@ -1,5 +1,5 @@
 -- What is found: clients by a part of their names, visits by a part of their addresses or by their conflict's code.
-use Rattle.std.specs.Prelude.{ℕ, ◌+◌, List, [], ◌∷◌, ◌++◌, length, map, filter, take, flat_map, codes, decimal, Bool, false, ◌||◌, ◌==◌, if◌then◌else◌}
+use Rattle.std.specs.Prelude.{ℕ, ◌+◌, List, [], ◌∷◌, ◌++◌, length, filter, take, flat_map, codes, decimal, Bool, ◌||◌, ◌==◌, if◌then◌else◌}
 use Rattle.std.specs.Option.{option_map_or}
 use Rattle.std.specs.List.{concat}
 use Rattle.std.specs.Str.{bytes_eq}

@@ -1,8 +1,7 @@
 -- The uploads with what became of each. Those that weren't taken come first, as on a long list they would be lost.
-use Rattle.std.specs.Prelude.{ℕ, ◌-◌, List, [], ◌++◌, length, map, filter, count_by, flat_map, decimal, not, nat_lt, if◌then◌else◌, slice_get}
+use Rattle.std.specs.Prelude.{ℕ, ◌-◌, List, [], ◌++◌, length, map, flat_map, decimal, not, nat_lt, if◌then◌else◌, slice_get}
 use Rattle.std.specs.Option.{option_map_or}
 use Rattle.replay_folder.specs.Names.{named_name}
-use Rattle.replay_folder.specs.declared.names.Named.{Named}
 use Rattle.replay_folder.specs.declared.ends.UploadEnd.{UploadEnd}
 use Rattle.replay_folder.specs.declared.replayed.ToldUploads.{ToldUploads}
 use Rattle.review_state.specs.Paging.{marked, shown_of}

@@ -113,6 +113,7 @@ fn found_names<'s>(
 }
 
 // The first of them, and how many more there are; nothing where none is.
+#[tactic(auto, unfolding(crate::specs::SearchView::client_finds))]
 fn add_client_finds(alloc: Global, out: &mut Vec<u8>, names: &[&str]) -> Result<(), NoMemory>
     ensures { OnOk result (out.new.items ≡ out.old.items ++ client_finds (map (λ name. name.now) names.now)) }
 {

@@ -1,4 +1,4 @@
-use Rattle.std.proofs.Common.{ℕ, List, [], nat_lt, Option, sym, subst, ap, ◌∙◌, rules}
+use Rattle.std.proofs.Common.{ℕ, List, [], nat_lt, Option, subst, ap, ◌∙◌, rules}
 use Rattle.std.specs.Option.{IsSome, option_map_or}
 use Rattle.std.proofs.lemmas.Bool.{false≢true}
 use Rattle.std.proofs.lemmas.List.Sorted.{IsPartitionPoint-from_clause, IsPartitionedBy-ltb}

@@ -1,4 +1,4 @@
-use Rattle.std.proofs.Common.{ℕ, ◌+◌, ◌-◌, List, ◌++◌, flat_map, append_assoc, sym, ap, ◌∙◌, arith}
+use Rattle.std.proofs.Common.{◌+◌, ◌-◌, ◌++◌, flat_map, append_assoc, sym, ap, ◌∙◌, arith}
 use Rattle.std.specs.List.{range_with_len}
 use Rattle.review_lists.specs.PageLinks.{page_entry}
 use Rattle.review_lists.proofs.Pages.{range_first}
