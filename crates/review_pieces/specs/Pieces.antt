@@ -95,6 +95,10 @@ event_html what target then now pressed = concat (
     ∷ codes "<dt>On the user's page</dt><dd>" ∷ escaped then ∷ codes "</dd>\n<dt>On the page now</dt><dd>" ∷ escaped now
     ∷ codes "</dd>\n</dl>\n" ∷ [])
 
+unfoldable pub event_here_html : List ℕ
+event_here_html = concat (
+    codes " class=\"here\" aria-current=\"step\"" ∷ [])
+
 unfoldable pub event_line_html : List ℕ → List ℕ → List ℕ → List ℕ → List ℕ
 event_line_html what target here value = concat (
     codes "<li" ∷ here ∷ codes ">" ∷ escaped what ∷ codes " <code>" ∷ escaped target ∷ codes "</code>" ∷ value
@@ -309,9 +313,10 @@ visit_html client visit state address opener told conflict decide = concat (
     ∷ escaped state ∷ codes "</span></h1>\n<p><code>" ∷ escaped address ∷ codes "</code></p>\n" ∷ told ∷ codes "\n"
     ∷ conflict ∷ codes "\n" ∷ decide ∷ codes "\n" ∷ [])
 
-unfoldable pub visit_events_html : List ℕ → List ℕ → List ℕ
-visit_events_html events around = concat (
-    codes "<h2>Events</h2>\n<ol class=\"events\">\n" ∷ events ∷ codes "</ol>\n" ∷ around ∷ codes "\n" ∷ [])
+unfoldable pub visit_events_html : List ℕ → List ℕ → List ℕ → List ℕ
+visit_events_html start events around = concat (
+    codes "<h2>Events</h2>\n<ol class=\"events\" start=\"" ∷ escaped start ∷ codes "\">\n" ∷ events ∷ codes "</ol>\n"
+    ∷ around ∷ codes "\n" ∷ [])
 
 unfoldable pub visit_pages_html : List ℕ → List ℕ → List ℕ
 visit_pages_html recorded repaired = concat (

@@ -1,6 +1,6 @@
 //! The pieces of `review/pieces/`, each with its slots filled. `tools/pieces` writes this file.
 ghost use Rattle.std.specs.Prelude.{◌≡◌, ◌++◌, OnOk};
-ghost use Rattle.review_pieces.specs.Pieces.{along_html, along_more_html, along_none_html, along_one_html, around_html, branch_html, client_html, client_counts_html, client_upload_html, closed_html, conflict_html, decide_html, drawn_html, event_html, event_line_html, figure_html, foot_html, found_html, found_client_html, found_clients_html, front_html, fronts_html, head_html, level_html, more_html, next_html, no_fronts_html, no_page_html, not_front_html, note_html, opener_html, overview_html, page_here_html, page_link_html, pages_html, pairs_html, part_gone_html, part_new_html, part_same_html, pressed_html, refused_html, request_html, requests_html, requests_none_html, row_html, search_html, text_html, text_empty_html, texts_html, typed_html, upload_html, uploads_html, value_html, visit_html, visit_events_html, visit_pages_html, visit_requests_html};
+ghost use Rattle.review_pieces.specs.Pieces.{along_html, along_more_html, along_none_html, along_one_html, around_html, branch_html, client_html, client_counts_html, client_upload_html, closed_html, conflict_html, decide_html, drawn_html, event_html, event_here_html, event_line_html, figure_html, foot_html, found_html, found_client_html, found_clients_html, front_html, fronts_html, head_html, level_html, more_html, next_html, no_fronts_html, no_page_html, not_front_html, note_html, opener_html, overview_html, page_here_html, page_link_html, pages_html, pairs_html, part_gone_html, part_new_html, part_same_html, pressed_html, refused_html, request_html, requests_html, requests_none_html, row_html, search_html, text_html, text_empty_html, texts_html, typed_html, upload_html, uploads_html, value_html, visit_html, visit_events_html, visit_pages_html, visit_requests_html};
 
 use markup::{Part, fill};
 use std::alloc::AllocError;
@@ -392,6 +392,16 @@ const EVENT: [Part; 11] = [
     Part::Words(3),
     Part::Fixed("</dd>\n</dl>\n"),
 ];
+
+/// Adds `event_here.html`.
+#[tactic(auto, unfolding(crate::specs::Pieces::event_here_html))]
+pub fn add_event_here(out: &mut Vec<u8>) -> Result<(), AllocError>
+    ensures { OnOk result (out.new.items ≡ out.old.items ++ event_here_html) }
+{
+    fill(out, &EVENT_HERE, &[], &[])
+}
+
+const EVENT_HERE: [Part; 1] = [Part::Fixed(" class=\"here\" aria-current=\"step\"")];
 
 /// Adds `event_line.html`.
 #[tactic(auto, unfolding(crate::specs::Pieces::event_line_html))]
@@ -1243,16 +1253,19 @@ const VISIT: [Part; 21] = [
 #[tactic(auto, unfolding(crate::specs::Pieces::visit_events_html))]
 pub fn add_visit_events<'t>(
     out: &mut Vec<u8>,
+    start: &'t str,
     events: &'t [u8],
     around: &'t [u8],
 ) -> Result<(), AllocError>
-    ensures { OnOk result (out.new.items ≡ out.old.items ++ visit_events_html events.now around.now) }
+    ensures { OnOk result (out.new.items ≡ out.old.items ++ visit_events_html start.now events.now around.now) }
 {
-    fill(out, &VISIT_EVENTS, &[], &[events, around])
+    fill(out, &VISIT_EVENTS, &[start], &[events, around])
 }
 
-const VISIT_EVENTS: [Part; 5] = [
-    Part::Fixed("<h2>Events</h2>\n<ol class=\"events\">\n"),
+const VISIT_EVENTS: [Part; 7] = [
+    Part::Fixed("<h2>Events</h2>\n<ol class=\"events\" start=\""),
+    Part::Words(0),
+    Part::Fixed("\">\n"),
     Part::Made(0),
     Part::Fixed("</ol>\n"),
     Part::Made(1),

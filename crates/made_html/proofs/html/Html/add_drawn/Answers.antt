@@ -1,0 +1,5 @@
+use Rattle.made_html.proofs.Made.{made_drawn}
+use Rattle.made_html.proofs.html.Html.add_drawn.Goals as goal
+
+pub invariant_of-self : goal.invariant_of-self
+invariant_of-self c = made_drawn _ _ _ _ c.self.invariant c.as_slice.ensures.made c.in-Ok.ensures

@@ -1,0 +1,5 @@
+use Rattle.made_html.proofs.Made.{made_head}
+use Rattle.made_html.proofs.html.Html.add_head.Goals as goal
+
+pub invariant_of-self : goal.invariant_of-self
+invariant_of-self c = made_head _ _ _ _ _ _ _ c.self.invariant c.as_slice.ensures.made c.in-Ok.ensures
