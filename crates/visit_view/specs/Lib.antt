@@ -1,0 +1,4 @@
+pub mod Words
+pub mod Visits
+pub mod Deciding
+pub mod Top
