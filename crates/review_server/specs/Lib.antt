@@ -1,0 +1,3 @@
+pub mod Call
+pub mod Fault
+pub mod Rounds

@@ -1,0 +1,4 @@
+pub mod Fields
+pub mod Statuses
+pub mod Answering
+pub mod Showing
