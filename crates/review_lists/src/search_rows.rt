@@ -16,7 +16,7 @@ use itoa::Buffer;
 use lanes_in_turn::Gathered;
 use page_tree::NoMemory;
 use review_pieces::pieces;
-use review_state::conflict_code;
+use visit_replay::conflict_code;
 use std::alloc::Global;
 use visit_replay::Outcome;
 use warp_run::ClientSummary;

@@ -7,7 +7,7 @@ ghost use Rattle.review_lists.specs.Words.{conflict_in, conflict_text, outcome_t
 use conflict_desk::Standing;
 use page_tree::NoMemory;
 use replay_folder::UploadEnd;
-use review_state::conflict_code;
+use visit_replay::conflict_code;
 use std::alloc::Global;
 use upload_reader::{Ending, HelloFault, LaneEnd};
 use visit_replay::{ConflictKind, Outcome};

@@ -14,11 +14,11 @@ use Rattle.review_service.specs.declared.review.Review.{Review}
 use Rattle.review_server.specs.declared.server.ReviewServer.{ReviewServer}
 
 -- its page
-abbrev pub review_of : {F R : Type 0} → ReviewServer F R → Review F R
+abbrev pub review_of : {S : Type 0} → ReviewServer S → S
 review_of server = service_of server.server
 
 -- its connections, place by place
-abbrev pub browsers_of : {F R : Type 0} → ReviewServer F R → List (Option Peer)
+abbrev pub browsers_of : {S : Type 0} → ReviewServer S → List (Option Peer)
 browsers_of server = places_of server.server
 
 -- At its start the page shows what replaying came to on the site that the file says, and that is what the file says.

@@ -3,14 +3,14 @@ ghost use Rattle.std.specs.Prelude.{◌≡◌, None, IfOk, OnOk, OnErr, replicat
 ghost use Rattle.site_file.specs.SiteFile.{FileSite};
 ghost use Rattle.warp_run.specs.declared.repaired.Repaired.{Repaired};
 ghost use Rattle.http_rounds.specs.Rounds.{IsServingRound};
-ghost use Rattle.review_service.specs.Answering.{Answers, SettlesAtOnce, StandsShown, port_of};
+ghost use Rattle.review_service.specs.Answering.{AnswersReview, SettlesAtOnce, StandsShown, port_of};
 ghost use Rattle.review_server.specs.Rounds.{browsers_of, review_of};
 
 use crate::call::Reviewing;
 use crate::fault::ReviewFault;
 use crate::machine::{TellsProgress, UploadsHere, open_locked};
 use crate::opening::{review_by, secret_keys};
-use byte_streams::{Fed, Source};
+use byte_streams::Fed;
 use disk_file::DiskFile;
 use http_rounds::RoundServer;
 use review_service::Review;
@@ -29,11 +29,11 @@ const MAX_BODY: usize = 1 << 16;
 
 /// The page over sockets.
 #[derive(Drop)]
-pub struct ReviewServer<F, R: Source> {
-    server: RoundServer<Review<F, R>>,
+pub struct ReviewServer<S> {
+    server: RoundServer<S>,
 }
 
-impl ReviewServer<DiskFile, Fed<File>> {
+impl ReviewServer<Review<DiskFile, Fed<File>>> {
     /// Over the site's file and the uploads, at that port of this machine. How far the replay is is said where it is to be shown.
     pub fn open<
         T: AllocGlobal
@@ -49,7 +49,7 @@ impl ReviewServer<DiskFile, Fed<File>> {
         rt: &T,
         reviewing: Reviewing,
         shown: bool,
-    ) -> Result<ReviewServer<DiskFile, Fed<File>>, ReviewFault>
+    ) -> Result<ReviewServer<Review<DiskFile, Fed<File>>>, ReviewFault>
         ensures port { IfOk result (λ server. port_of (review_of server) ≡ reviewing.port) }
         ensures browsers { IfOk result (λ server. browsers_of server ≡ replicate 256 None) }
     {
@@ -73,10 +73,10 @@ impl ReviewServer<DiskFile, Fed<File>> {
     }
 }
 
-impl<F: GrowingFile, R: Source> ReviewServer<F, R> {
+impl<F: GrowingFile> ReviewServer<Review<F, Fed<File>>> {
     /// A round: what comes is answered, and the answers are sent. An error comes before anything is read.
     pub fn round<T: Clock>(&mut self, rt: &T) -> Result<(), ReviewFault>
-        ensures round { OnOk result (IsServingRound (Answers F.seen F.durable F.lost) SettlesAtOnce
+        ensures round { OnOk result (IsServingRound (AnswersReview F.seen F.durable F.lost) SettlesAtOnce
             (review_of self.old) (browsers_of self.old) (review_of self.new) (browsers_of self.new)) }
 
         // As long as the site's file is open, what is shown is what it says.

@@ -21,10 +21,14 @@ module _ {F : Type 0} (seen : F → List ℕ) (durable : F → ℕ) (lost : F �
       → ((bytes : List ℕ) → seen opened.file ≡ bytes → opened.whole ≡ length bytes → durable opened.file ≡ length bytes → lost opened.file ≡ false → HasKept seen durable lost keeper bytes)
       → shown ≡ after_decisions (site_decisions (file_site opened.site)) undecided
       → (first : FileSite) × AnswersAsFile opened.site first × IsShown seen durable lost first undecided keeper shown
-  first_shown opened keeper shown undecided is keeps decided = (is.first, is.answers, record {
-    bytes = is.bytes;
-    kept = keeps is.bytes is.has is.whole is.stays is.sound;
-    made = [];
-    says = subst (IsSiteFile is.bytes (Some Truncated)) (sym (no_more is.first)) is.says;
-    decided = decided ∙ ap (λ ds. after_decisions ds undecided) (is.answers.site.decisions ∙ sym (append-nil is.first.site.decisions));
-  })
+  first_shown opened keeper shown undecided is keeps decided = (
+    is.first,
+    is.answers,
+    record {
+      bytes = is.bytes;
+      kept = keeps is.bytes is.has is.whole is.stays is.sound;
+      made = [];
+      says = subst (IsSiteFile is.bytes (Some Truncated)) (sym (no_more is.first)) is.says;
+      decided = decided ∙ ap (λ ds. after_decisions ds undecided) (is.answers.site.decisions ∙ sym (append-nil is.first.site.decisions));
+    },
+  )

@@ -16,7 +16,7 @@ use Rattle.decision_file.specs.declared.undecided.Undecided.{Undecided}
 use Rattle.review_requests.specs.Verdict.{asked_of}
 use Rattle.review_requests.specs.declared.verdict.Judged.{Judged}
 use Rattle.review_requests.specs.declared.verdict.Judged.TheVariants.{Refused, Shows, Decides}
-use Rattle.review_service.specs.Fields.{IsBare, IsPage, sent_on_fields}
+use Rattle.review_service.specs.Fields.{IsBare, IsHtmlPage, sent_on_fields}
 use Rattle.review_service.specs.Statuses.{IsRefusal, undecided_status}
 use Rattle.review_service.specs.Showing.{ShowsView}
 use Rattle.review_service.specs.declared.review.Review.{Review}
@@ -39,8 +39,8 @@ SendsOn decision desk response = (place : List ℕ) × IsResponse 303 (sent_on_f
 
 -- ---- what is shown
 
-abbrev pub shown_of : {F R : Type 0} → Review F R → Repaired
-shown_of review = review.replayed.repaired
+abbrev pub repaired_shown : {F R : Type 0} → Review F R → Repaired
+repaired_shown review = review.replayed.repaired
 
 -- more decisions may be kept
 abbrev pub is_open : {F R : Type 0} → Review F R → Bool
@@ -60,14 +60,14 @@ token_of review = review.token
 -- 303 just where the decision was made; 409 where the desk has something against it
 abbrev pub TellsDecision : Decision → Books → Result (Unit {0}) Undecided → Response → Type 0
 TellsDecision decision desk (Ok done) response = SendsOn decision desk response
-TellsDecision decision desk (Err why) response = IsPage (undecided_status why) response ⊎ IsBare response
+TellsDecision decision desk (Err why) response = IsHtmlPage (undecided_status why) response ⊎ IsBare response
 
 -- `seen` is what a file gives to read, `durable` how many of these bytes stay whatever happens, and `lost` tells that
 -- nothing is known of it.
 module _ {F R : Type 0} (seen : F → List ℕ) (durable : F → ℕ) (lost : F → Bool) where
   -- What is shown is what the file says, and that stays.
   abbrev pub ShowsFile : FileSite → Repaired → Review F R → Type 0
-  ShowsFile first undecided review = IsShown seen durable lost first undecided review.decisions (shown_of review)
+  ShowsFile first undecided review = IsShown seen durable lost first undecided review.decisions (repaired_shown review)
 
   -- It is so as long as the file is open.
   abbrev pub StandsShown : FileSite → Repaired → Review F R → Type 0
@@ -77,9 +77,9 @@ module _ {F R : Type 0} (seen : F → List ℕ) (durable : F → ℕ) (lost : F 
   -- changes.
   pub record IsDecided (old : Review F R) (decision : Decision) (result : Result (Unit {0}) Undecided)
       (new : Review F R) : Type 0 where
-    pub answer : AnswersDecision (shown_of old) decision result
-    pub decided : OnOk result (shown_of new ≡ after_decisions (decision ∷ []) (shown_of old))
-    pub same : OnErr result (shown_of new ≡ shown_of old)
+    pub answer : AnswersDecision (repaired_shown old) decision result
+    pub decided : OnOk result (repaired_shown new ≡ after_decisions (decision ∷ []) (repaired_shown old))
+    pub same : OnErr result (repaired_shown new ≡ repaired_shown old)
     pub shown : (first : FileSite) (undecided : Repaired)
         → StandsShown first undecided old → StandsShown first undecided new
     pub stays_open : OnOk result (is_open new ≡ true)
@@ -87,18 +87,21 @@ module _ {F R : Type 0} (seen : F → List ℕ) (durable : F → ℕ) (lost : F 
         → HasKept seen durable lost new.decisions (bytes ++ decide_text decision))
     pub begins : (bytes : List ℕ) → HasKept seen durable lost old.decisions bytes
         → BeginsWithKept seen durable lost new.decisions bytes
-    pub rest : new ≡ record old { decisions = new.decisions; replayed = record old.replayed { repaired = shown_of new } }
+    pub rest : new ≡ record old {
+      decisions = new.decisions;
+      replayed = record old.replayed { repaired = repaired_shown new };
+    }
 
   -- A request is answered by its verdict. But for a decision nothing changes.
   abbrev pub AnswersAsked : Review F R → Response → Review F R → Judged → Type 0
   AnswersAsked old response new (Refused refusal) = (new ≡ old) × IsRefusal refusal response
   AnswersAsked old response new (Shows view) = (new ≡ old) × ShowsView old.replayed view response
   AnswersAsked old response new (Decides decision) = (result : Result (Unit {0}) Undecided)
-      × IsDecided old decision result new × TellsDecision decision (shown_of new).desk result response
+      × IsDecided old decision result new × TellsDecision decision (repaired_shown new).desk result response
 
   -- Without memory nothing is done.
-  abbrev pub Answers : Review F R → Request (List ℕ) → Response → Review F R → Type 0
-  Answers old request response new = AnswersAsked old response new (asked_of request (port_of old) (token_of old))
+  abbrev pub AnswersReview : Review F R → Request (List ℕ) → Response → Review F R → Type 0
+  AnswersReview old request response new = AnswersAsked old response new (asked_of request (port_of old) (token_of old))
       ⊎ ((new ≡ old) × IsBare response)
 
 -- What was answered stands at once: a decision is synced in its own call.

@@ -33,8 +33,8 @@ html_fields policy = own_fields
     ++ (codes "content-type", codes "text/html; charset=utf-8") ∷ (codes "content-security-policy", policy) ∷ []
 
 -- a text, the script, and the page's style
-abbrev pub text_fields : List ℕ → List Header
-text_fields kind = own_fields ++ (codes "content-type", kind) ∷ []
+abbrev pub typed_fields : List ℕ → List Header
+typed_fields kind = own_fields ++ (codes "content-type", kind) ∷ []
 
 -- the style of drawn pages, whose origin in their frame is none
 abbrev pub drawing_style_fields : List Header
@@ -50,8 +50,8 @@ sent_on_fields place = own_fields ++ (codes "location", place) ∷ []
 abbrev pub IsBare : Response → Type 0
 IsBare response = IsResponse 503 [] [] response
 
-abbrev pub IsPage : ℕ → Response → Type 0
-IsPage status response = (text : List ℕ) × IsResponse status (html_fields page_policy) text response
+abbrev pub IsHtmlPage : ℕ → Response → Type 0
+IsHtmlPage status response = (text : List ℕ) × IsResponse status (html_fields page_policy) text response
 
 abbrev pub IsDrawing : Response → Type 0
 IsDrawing response = (text : List ℕ) × IsResponse 200 (html_fields drawing_policy) text response

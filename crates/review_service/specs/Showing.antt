@@ -12,15 +12,15 @@ use Rattle.review_pieces.specs.declared.files.TheConstants.{REVIEW_CSS, PAGE_CSS
 use Rattle.review_lists.specs.ClientView.{client_there}
 use Rattle.review_lists.specs.Standings.{was_made}
 use Rattle.review_visits.specs.Visit.{is_there}
-use Rattle.review_service.specs.Fields.{IsPage, IsDrawing, text_fields, drawing_style_fields}
+use Rattle.review_service.specs.Fields.{IsHtmlPage, IsDrawing, typed_fields, drawing_style_fields}
 
 -- a page where it is there, and else one that says 404
 abbrev pub IsPageWhere : Bool → Response → Type 0
-IsPageWhere found response = IsPage (if found then 200 else 404) response
+IsPageWhere found response = IsHtmlPage (if found then 200 else 404) response
 
 abbrev pub IsDrawingWhere : Bool → Response → Type 0
 IsDrawingWhere true response = IsDrawing response
-IsDrawingWhere false response = IsPage 404 response
+IsDrawingWhere false response = IsHtmlPage 404 response
 
 -- the text that `replay` writes
 abbrev pub report_of : {R : Type 0} → Replayed R → List ℕ
@@ -29,23 +29,25 @@ report_of replayed = report_with (upload_lines replayed.told.named replayed.told
 -- A report that is too long is told by a page.
 abbrev pub ShowsReport : {R : Type 0} → Replayed R → Response → Type 0
 ShowsReport replayed response =
-    IsResponse 200 (text_fields (codes "text/plain; charset=utf-8")) (report_of replayed) response ⊎ IsPage 503 response
+    IsResponse 200 (typed_fields (codes "text/plain; charset=utf-8")) (report_of replayed) response
+    ⊎ IsHtmlPage 503 response
 
 -- how many decisions were made, and a line feed
 abbrev pub state_text : Repaired → List ℕ
 state_text repaired = decimal (count_by was_made repaired.decided) ++ 10 ∷ []
 
 abbrev pub ShowsView : {R : Type 0} → Replayed R → View → Response → Type 0
-ShowsView replayed (Overview from clients) response = IsPage 200 response
-ShowsView replayed (Visits client from) response = IsPageWhere (is_some (client_there replayed.repaired client)) response
+ShowsView replayed (Overview from clients) response = IsHtmlPage 200 response
+ShowsView replayed (Visits client from) response =
+    IsPageWhere (is_some (client_there replayed.repaired client)) response
 ShowsView replayed (Visit client visit told) response = IsPageWhere (is_there replayed client visit) response
 ShowsView replayed (Drawing client visit side) response = IsDrawingWhere (is_there replayed client visit) response
-ShowsView replayed (Search text from) response = IsPage 200 response
+ShowsView replayed (Search text from) response = IsHtmlPage 200 response
 ShowsView replayed Report response = ShowsReport replayed response
 ShowsView replayed State response =
-    IsResponse 200 (text_fields (codes "text/plain; charset=utf-8")) (state_text replayed.repaired) response
+    IsResponse 200 (typed_fields (codes "text/plain; charset=utf-8")) (state_text replayed.repaired) response
 ShowsView replayed PageStyle response =
-    IsResponse 200 (text_fields (codes "text/css; charset=utf-8")) REVIEW_CSS.now response
+    IsResponse 200 (typed_fields (codes "text/css; charset=utf-8")) REVIEW_CSS.now response
 ShowsView replayed DrawingStyle response = IsResponse 200 drawing_style_fields PAGE_CSS.now response
 ShowsView replayed Script response =
-    IsResponse 200 (text_fields (codes "text/javascript; charset=utf-8")) REVIEW_JS.now response
+    IsResponse 200 (typed_fields (codes "text/javascript; charset=utf-8")) REVIEW_JS.now response

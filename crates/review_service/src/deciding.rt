@@ -2,7 +2,7 @@
 ghost use Rattle.std.specs.Prelude.{◌≡◌, ◌⊎◌, ◌<◌, [], codes, vec_len, vec_capacity, IfOk, OnOk};
 ghost use Rattle.http_server.specs.Response.{IsBlank, IsResponse};
 ghost use Rattle.review_service.specs.Answering.{front_of_client, next_place};
-ghost use Rattle.review_service.specs.Fields.{IsBare, IsPage, own_fields};
+ghost use Rattle.review_service.specs.Fields.{IsBare, IsHtmlPage, own_fields};
 ghost use Rattle.review_service.specs.Statuses.{undecided_status};
 
 use crate::fields::add_own;
@@ -79,7 +79,7 @@ pub(crate) fn tell_undecided(
     why: Undecided,
     response: &mut Response,
 )
-    ensures { IsPage (undecided_status why) response.new ⊎ IsBare response.new }
+    ensures { IsHtmlPage (undecided_status why) response.new ⊎ IsBare response.new }
 {
     response.clear();
     match say_undecided(alloc, repaired, client, why, response) {
@@ -104,7 +104,7 @@ fn say_undecided(
     response: &mut Response,
 ) -> Result<(), NoMemory>
     requires { IsBlank response.old }
-    ensures { OnOk result (IsPage (undecided_status why) response.new) }
+    ensures { OnOk result (IsHtmlPage (undecided_status why) response.new) }
 {
     let answer = answer_of(alloc, why)?;
     let name = client.text();
@@ -125,10 +125,10 @@ fn say_undecided(
         href: href.as_str(),
         link: link.as_str(),
     };
-    say_why(alloc, repaired, status_of(why), said, response)
+    say_why(alloc, repaired, undecided_status(why), said, response)
 }
 
-fn status_of(why: Undecided) -> StatusCode
+fn undecided_status(why: Undecided) -> StatusCode
     ensures { result ≡ undecided_status why }
 {
     match why {

@@ -2,7 +2,7 @@
 ghost use Rattle.std.specs.Prelude.{[], codes, OnOk, IsTrue};
 ghost use Rattle.http_header.specs.FieldValue.{is_visible_text};
 ghost use Rattle.http_server.specs.Response.{IsBlank, IsResponse};
-ghost use Rattle.review_service.specs.Fields.{common_fields, drawing_policy, drawing_style_fields, html_fields, own_fields, page_policy, text_fields};
+ghost use Rattle.review_service.specs.Fields.{common_fields, drawing_policy, drawing_style_fields, html_fields, own_fields, page_policy, typed_fields};
 
 use http::{HeaderName, HeaderValue};
 use http_header::{
@@ -41,7 +41,7 @@ pub(crate) fn add_own(response: &mut Response) -> Result<(), NoMemory>
 pub(crate) fn add_text(response: &mut Response, kind: &'static str) -> Result<(), NoMemory>
     requires blank { IsBlank response.old }
     requires visible { IsTrue (is_visible_text kind.now) }
-    ensures { OnOk result (IsResponse 200 (text_fields kind.now) [] response.new) }
+    ensures { OnOk result (IsResponse 200 (typed_fields kind.now) [] response.new) }
 {
     add_own(response)?;
     response.add_header(CONTENT_TYPE, HeaderValue::from_static(kind))
@@ -89,7 +89,7 @@ pub(crate) fn add_drawing(response: &mut Response) -> Result<(), NoMemory>
 
 fn add_html(response: &mut Response) -> Result<(), NoMemory>
     requires { IsBlank response.old }
-    ensures { OnOk result (IsResponse 200 (text_fields (codes "text/html; charset=utf-8")) [] response.new) }
+    ensures { OnOk result (IsResponse 200 (typed_fields (codes "text/html; charset=utf-8")) [] response.new) }
 {
     add_text(response, "text/html; charset=utf-8")
 }

@@ -1,7 +1,7 @@
 //! Pages, each with its head and foot, and those that say why something isn't shown or done.
 ghost use Rattle.std.specs.Prelude.{OnOk};
 ghost use Rattle.http_server.specs.Response.{IsBlank};
-ghost use Rattle.review_service.specs.Fields.{IsDrawing, IsPage};
+ghost use Rattle.review_service.specs.Fields.{IsDrawing, IsHtmlPage};
 
 use crate::fields::{add_drawing, add_page};
 use crate::texts::shared;
@@ -62,7 +62,7 @@ pub(crate) fn end_page(
     response: &mut Response,
 ) -> Result<(), NoMemory>
     requires { IsBlank response.old }
-    ensures { OnOk result (IsPage status response.new) }
+    ensures { OnOk result (IsHtmlPage status response.new) }
 {
     add_foot(&mut page)?;
     say_html(page, status, response)
@@ -75,7 +75,7 @@ pub(crate) fn say_html(
     response: &mut Response,
 ) -> Result<(), NoMemory>
     requires { IsBlank response.old }
-    ensures { OnOk result (IsPage status response.new) }
+    ensures { OnOk result (IsHtmlPage status response.new) }
 {
     add_page(response)?;
     response.status = status;
@@ -100,7 +100,7 @@ pub(crate) fn say_why(
     response: &mut Response,
 ) -> Result<(), NoMemory>
     requires { IsBlank response.old }
-    ensures { OnOk result (IsPage status response.new) }
+    ensures { OnOk result (IsHtmlPage status response.new) }
 {
     let head = Head {
         title: why.head,

@@ -1,7 +1,7 @@
 //! Requests that aren't answered.
 ghost use Rattle.std.specs.Prelude.{◌≡◌, OnOk};
 ghost use Rattle.http_server.specs.Response.{IsBlank};
-ghost use Rattle.review_service.specs.Fields.{IsPage};
+ghost use Rattle.review_service.specs.Fields.{IsHtmlPage};
 ghost use Rattle.review_requests.specs.Status.{refusal_status};
 ghost use Rattle.review_service.specs.Statuses.{IsRefusal};
 
@@ -42,7 +42,7 @@ pub(crate) fn refuse(
 // Who asked for another host is told nothing of what is here.
 fn refuse_host(alloc: Global, port: u16, response: &mut Response) -> Result<(), NoMemory>
     requires { IsBlank response.old }
-    ensures { OnOk result (IsPage 421 response.new) }
+    ensures { OnOk result (IsHtmlPage 421 response.new) }
 {
     let here = format!(in alloc; "http://127.0.0.1:{port}/")?;
     let mut page = Vec::new(alloc);
@@ -66,7 +66,7 @@ fn say_refusal(
     response: &mut Response,
 ) -> Result<(), NoMemory>
     requires { IsBlank response.old }
-    ensures { OnOk result (IsPage (refusal_status refusal) response.new) }
+    ensures { OnOk result (IsHtmlPage (refusal_status refusal) response.new) }
 {
     let (answer, text) = words_of(refusal);
     let why = Why {
@@ -76,10 +76,10 @@ fn say_refusal(
         href: "/",
         link: "To the overview",
     };
-    say_why(alloc, repaired, status_of(refusal), why, response)
+    say_why(alloc, repaired, refusal_status(refusal), why, response)
 }
 
-fn status_of(refusal: Refusal) -> StatusCode
+fn refusal_status(refusal: Refusal) -> StatusCode
     ensures { result ≡ refusal_status refusal }
 {
     match refusal {

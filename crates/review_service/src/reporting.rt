@@ -4,7 +4,7 @@ ghost use Rattle.std.specs.Io.{WritesAtMost};
 ghost use Rattle.std.specs.Io.KnownBytes.{WriteAppends, Keeps};
 ghost use Rattle.byte_streams.specs.Answers.{answer_of, last_moved_nothing};
 ghost use Rattle.http_server.specs.Response.{IsBlank};
-ghost use Rattle.review_service.specs.Fields.{IsPage};
+ghost use Rattle.review_service.specs.Fields.{IsHtmlPage};
 ghost use Rattle.review_service.specs.Showing.{ShowsReport};
 
 use crate::pages::{Why, say_why};
@@ -135,7 +135,7 @@ fn say_too_long<R: Source>(
     response: &mut Response,
 ) -> Result<(), NoMemory>
     requires { IsBlank response.old }
-    ensures { OnOk result (IsPage 503 response.new) }
+    ensures { OnOk result (IsHtmlPage 503 response.new) }
 {
     let why = Why {
         head: "Report",

@@ -8,7 +8,7 @@ ghost use Rattle.site_line.specs.Reading.{site_decisions};
 ghost use Rattle.site_opening.specs.Opening.{IsSiteInFile};
 ghost use Rattle.warp_run.specs.Settle.{after_decisions};
 ghost use Rattle.warp_run.specs.declared.repaired.Repaired.{Repaired as Standing};
-ghost use Rattle.review_service.specs.Answering.{Answers, AnswersAsked, IsDecided, SettlesAtOnce, ShowsFile, TellsDecision, port_of, replayed_of, shown_of, token_of};
+ghost use Rattle.review_service.specs.Answering.{AnswersReview, AnswersAsked, IsDecided, SettlesAtOnce, ShowsFile, TellsDecision, port_of, replayed_of, repaired_shown, token_of};
 ghost use Rattle.review_service.specs.Fields.{own_fields};
 ghost use Rattle.review_service.specs.Showing.{ShowsView};
 ghost use Rattle.review_requests.specs.Verdict.{asked_of};
@@ -132,8 +132,8 @@ impl<F: GrowingFile, R: Source> Review<F, R> {
     fn keep(&mut self, decision: Decision) -> Result<(), Undecided>
         ensures { IsDecided F.seen F.durable F.lost self.old decision result self.new }
     {
-        self.decisions
-            .decide(self.alloc, &mut self.replayed.repaired, decision)
+        let repaired = &mut self.replayed.repaired;
+        self.decisions.decide(self.alloc, repaired, decision)
     }
 
     // Whoever decided is sent on, or told why nothing was decided.
@@ -147,7 +147,7 @@ impl<F: GrowingFile, R: Source> Review<F, R> {
         requires response { IsResponse 303 own_fields [] response.old }
         requires room { vec_len response.old.headers < vec_capacity response.old.headers }
         ensures { (decision : Decided) → decision.client ≡ client.now → decision.visit ≡ visit
-            → TellsDecision decision (shown_of self.now).desk decided response.new }
+            → TellsDecision decision (repaired_shown self.now).desk decided response.new }
     {
         let repaired = &self.replayed.repaired;
         match decided {
@@ -169,7 +169,7 @@ fn told_in(query: Option<&str>) -> Option<u64> {
 }
 
 impl<F: GrowingFile> Service for Review<F, Fed<File>> {
-    ghost answers = { λ old request response new. Answers F.seen F.durable F.lost old request response new };
+    ghost answers = { λ old request response new. AnswersReview F.seen F.durable F.lost old request response new };
 
     /// It never gives up: without memory for an answer the status alone says so.
     fn call(

@@ -1,7 +1,7 @@
 //! What is only looked at.
 ghost use Rattle.std.specs.Prelude.{codes, is_some, OnOk};
 ghost use Rattle.http_server.specs.Response.{IsBlank, IsResponse};
-ghost use Rattle.review_service.specs.Fields.{IsPage, text_fields};
+ghost use Rattle.review_service.specs.Fields.{IsHtmlPage, typed_fields};
 ghost use Rattle.review_lists.specs.ClientView.{client_there};
 ghost use Rattle.review_visits.specs.Visit.{is_there};
 ghost use Rattle.review_service.specs.Showing.{IsDrawingWhere, IsPageWhere, ShowsView, state_text};
@@ -78,7 +78,7 @@ impl<R: Source> Shown<'_, R> {
         response: &mut Response,
     ) -> Result<(), NoMemory>
         requires { IsBlank response.old }
-        ensures { OnOk result (IsPage 200 response.new) }
+        ensures { OnOk result (IsHtmlPage 200 response.new) }
     {
         let repaired = &self.replayed.repaired;
         let head = Head {
@@ -179,7 +179,7 @@ impl<R: Source> Shown<'_, R> {
 
     fn show_search(&self, text: &str, from: u64, response: &mut Response) -> Result<(), NoMemory>
         requires { IsBlank response.old }
-        ensures { OnOk result (IsPage 200 response.new) }
+        ensures { OnOk result (IsHtmlPage 200 response.new) }
     {
         let repaired = &self.replayed.repaired;
         let head = Head {
@@ -188,14 +188,21 @@ impl<R: Source> Shown<'_, R> {
             is_overview: false,
         };
         let mut page = begin_page(self.alloc, repaired, head)?;
-        add_search(self.alloc, &mut page, &self.replayed.gathered, repaired, text, from)?;
+        add_search(
+            self.alloc,
+            &mut page,
+            &self.replayed.gathered,
+            repaired,
+            text,
+            from,
+        )?;
         end_page(page, StatusCode::OK, response)
     }
 
     // How many decisions there are.
     fn show_state(&self, response: &mut Response) -> Result<(), NoMemory>
         requires { IsBlank response.old }
-        ensures { OnOk result (IsResponse 200 (text_fields (codes "text/plain; charset=utf-8"))
+        ensures { OnOk result (IsResponse 200 (typed_fields (codes "text/plain; charset=utf-8"))
             (state_text self.now.replayed.now.repaired) response.new) }
     {
         let decided = totals_of(&self.replayed.repaired).decided;
@@ -205,7 +212,7 @@ impl<R: Source> Shown<'_, R> {
 
     fn say_nothing(&self, text: &str, response: &mut Response) -> Result<(), NoMemory>
         requires { IsBlank response.old }
-        ensures { OnOk result (IsPage 404 response.new) }
+        ensures { OnOk result (IsHtmlPage 404 response.new) }
     {
         let why = Why {
             head: "Not there",

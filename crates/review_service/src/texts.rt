@@ -2,7 +2,7 @@
 ghost use Rattle.std.specs.Prelude.{◌≡◌, [], codes, IfOk, OnOk, IsTrue};
 ghost use Rattle.http_header.specs.FieldValue.{is_visible_text};
 ghost use Rattle.http_server.specs.Response.{IsBlank, IsResponse};
-ghost use Rattle.review_service.specs.Fields.{drawing_style_fields, text_fields};
+ghost use Rattle.review_service.specs.Fields.{drawing_style_fields, typed_fields};
 
 use crate::fields::{add_drawing_style, add_text};
 use bytes::Bytes;
@@ -18,7 +18,7 @@ pub(crate) fn give_file(
 ) -> Result<(), NoMemory>
     requires blank { IsBlank response.old }
     requires visible { IsTrue (is_visible_text kind.now) }
-    ensures { OnOk result (IsResponse 200 (text_fields kind.now) file.now response.new) }
+    ensures { OnOk result (IsResponse 200 (typed_fields kind.now) file.now response.new) }
 {
     add_text(response, kind)?;
     response.body.push(Bytes::from_static(file))
@@ -40,7 +40,7 @@ pub(crate) fn give_drawing_style(
 pub(crate) fn say_text(text: Vec<u8>, response: &mut Response) -> Result<(), NoMemory>
     requires { IsBlank response.old }
     ensures { OnOk result
-        (IsResponse 200 (text_fields (codes "text/plain; charset=utf-8")) text.items response.new) }
+        (IsResponse 200 (typed_fields (codes "text/plain; charset=utf-8")) text.items response.new) }
 {
     add_text(response, "text/plain; charset=utf-8")?;
     response.body.push(shared(text)?)
