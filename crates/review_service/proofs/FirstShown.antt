@@ -1,5 +1,5 @@
 -- What is shown at the start is what the file says.
-use Rattle.std.proofs.Common.{◌≡◌, ℕ, List, [], ◌++◌, length, Bool, false, Some, sym, ap, ◌∙◌, subst, append-nil}
+use Rattle.std.proofs.Common.{◌≡◌, ℕ, List, [], length, Bool, false, Some, sym, ap, ◌∙◌, subst, append-nil}
 use Rattle.byte_streams.specs.declared.fault.LineFault.TheVariants.{Truncated}
 use Rattle.conflict_desk.specs.declared.decision.Decision.{Decision}
 use Rattle.site_line.specs.Reading.{site_decisions}

@@ -4,7 +4,6 @@ use Rattle.http.specs.declared.request.Request.{Request}
 use Rattle.http_server.specs.declared.response.Response.{Response}
 use Rattle.site_file.specs.SiteFile.{FileSite}
 use Rattle.warp_run.specs.declared.repaired.Repaired.{Repaired}
-use Rattle.review_requests.specs.Verdict.{asked_of}
 use Rattle.review_requests.specs.declared.verdict.Judged.{Judged}
 use Rattle.review_requests.specs.declared.verdict.Judged.TheVariants.{Refused, Shows, Decides}
 use Rattle.review_service.specs.Answering.{AnswersReview, AnswersAsked, StandsShown}
