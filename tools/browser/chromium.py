@@ -23,7 +23,7 @@ FLAGS = [
 ]
 # for tests: nothing but this machine can be reached
 HERE_ALONE = "--host-resolver-rules=MAP * ~NOTFOUND, EXCLUDE 127.0.0.1"
-KEYS = {"Enter": (13, "\r"), "ArrowDown": (40, "")}
+KEYS = {"Enter": (13, "\r"), "Tab": (9, ""), "ArrowDown": (40, "")}
 ALT, CTRL, SHIFT = 1, 2, 8
 
 
@@ -95,6 +95,8 @@ class Browser:
         os.close(asks)
         os.close(answers)
         self.lock, self.number, self.waiting, self.tabs, self.front = threading.Lock(), 0, {}, [], None
+        # frames with a process of their own, in tabs that are watched; and what is told of those that are gone
+        self.frames, self.gone = [], []
         self.trace, self.is_traced = [], threading.Event()
         threading.Thread(target=self.read, daemon=True).start()
         self.call("Target.setAutoAttach", autoAttach=True, waitForDebuggerOnStart=False, flatten=True)
@@ -119,10 +121,18 @@ class Browser:
             self.tabs.append(Tab(self, said["params"]))
             # a window that a script opens waits for this, and the script with it
             self.call("Runtime.runIfWaitingForDebugger", said["params"]["sessionId"], is_awaited=False)
+        elif said["method"] == "Target.attachedToTarget" and said["params"]["targetInfo"]["type"] == "iframe":
+            frame = Tab(self, said["params"])
+            self.frames.append(frame)
+            frame.watch(is_awaited=False)
+            self.call("Runtime.runIfWaitingForDebugger", frame.session, is_awaited=False)
         elif said["method"] == "Target.detachedFromTarget":
-            self.tabs = [tab for tab in self.tabs if tab.session != said["params"]["sessionId"]]
+            session = said["params"]["sessionId"]
+            self.gone += [told for frame in self.frames if frame.session == session for told in frame.events]
+            self.tabs = [tab for tab in self.tabs if tab.session != session]
+            self.frames = [frame for frame in self.frames if frame.session != session]
         elif "sessionId" in said:
-            for tab in self.tabs:
+            for tab in self.tabs + self.frames:
                 if tab.session == said["sessionId"]:
                     tab.events.append(said)
 
@@ -203,6 +213,13 @@ class Tab:
 
     def call(self, method, **params):
         return self.browser.call(method, self.session, **params)
+
+    def watch(self, is_awaited=True):
+        """Has all that scripts, loads and dialogs do told, here and in each frame, from its beginning on."""
+        for domain in ("Runtime", "Page", "Network"):
+            self.browser.call(f"{domain}.enable", self.session, is_awaited)
+        how = {"autoAttach": True, "waitForDebuggerOnStart": True, "flatten": True}
+        self.browser.call("Target.setAutoAttach", self.session, is_awaited, **how)
 
     def run(self, script):
         """What a script answers in the page, as JSON has it; it may be a promise."""

@@ -58,15 +58,19 @@ pub const PAGE_CSS: &[u8] = b"\
     .field, .press, .tick {\n\
     display: inline-block; border: 1px solid var(--soft); border-radius: 0.1875rem; padding: 0.0625rem 0.375rem;\n\
     min-width: 8rem; min-height: 1.45em; background: var(--panel); margin: 0.125rem 0.25rem 0.125rem 0; max-width: 100%;\n\
+    vertical-align: middle;\n\
     }\n\
     .press, .tick { min-width: 0; }\n\
     .press { border-radius: 0.75rem; }\n\
     .off { opacity: 0.6; }\n\
     .a, .undrawn { color: var(--soft); font: 0.75rem/1.3 ui-monospace, monospace; text-decoration: none; font-weight: 400;\n\
     font-style: normal; }\n\
+    .a { margin: 0 0.25rem; }\n\
     .undrawn { border: 1px dotted var(--line); padding: 0 0.25rem; margin: 0 0.25rem; }\n\
     /* where the event acts, or would */\n\
-    .target { display: var(--shape); outline: 0.1875rem solid var(--mark); outline-offset: 0.125rem; background: var(--mark-back); scroll-margin: 4rem; }\n\
+    .target { display: var(--shape); outline: 0.1875rem solid var(--mark); outline-offset: 0.125rem; background: var(--mark-back);\n\
+    margin: 0.375rem; scroll-margin: 4rem; }\n\
+    [data-n=\"li\"].target { margin-left: 1.5rem; }\n\
     .target::before, .gap::before {\n\
     content: attr(data-mark); display: inline-block; background: var(--mark); color: var(--paper); font: 700 0.75rem/1.3 system-ui;\n\
     padding: 0.0625rem 0.375rem; margin-right: 0.25rem;\n\
@@ -193,6 +197,7 @@ pub const REVIEW_CSS: &[u8] = b"\
     .stack td[data-head]::before { content: attr(data-head) \": \"; color: var(--soft); }\n\
     td.number { text-align: left; }\n\
     }\n\
+    .split + h3 { margin-top: 1rem; }\n\
     figure { margin: 0; min-width: 0; }\n\
     figure h3 { margin-bottom: 0.25rem; }\n\
     iframe { width: 100%; height: 24rem; border: 1px solid var(--line); background: var(--paper); resize: vertical; }\n\
@@ -217,7 +222,6 @@ pub const REVIEW_CSS: &[u8] = b"\
     del { background: var(--del-back); text-decoration: line-through; text-decoration-thickness: 2px; }\n\
     .requests { padding-left: 1.25rem; }\n\
     .events li.here { background: var(--waiting-back); font-weight: 600; }\n\
-    @media (prefers-reduced-motion: no-preference) { html { scroll-behavior: smooth; } }\n\
     @media print { .top, .decide form { display: none; } }\n\
 ";
 
