@@ -485,8 +485,8 @@ def picture(room, tab, name, about):
     look(tab, **about)
 
 
-def told_of(tab, review):
-    """What ran or was loaded in a watched tab and its frames, beyond the page's own."""
+def told_of(tab, review, asked=""):
+    """What ran or was loaded in a watched tab and its frames, beyond the page's own and an address that was asked."""
     found = []
     for it in [*tab.events, *tab.browser.gone, *(told for frame in tab.browser.frames for told in frame.events)]:
         method, about = it["method"], it["params"]
@@ -495,7 +495,8 @@ def told_of(tab, review):
             found.append((method, json.dumps(about)[:200]))
         elif method == "Network.requestWillBeSent":
             address = urllib.parse.urlsplit(about["request"]["url"])
-            if f"{address.scheme}://{address.netloc}" != review.origin or address.path not in OWN_PATHS:
+            is_own = f"{address.scheme}://{address.netloc}" == review.origin and address.path in OWN_PATHS
+            if not is_own and about["request"]["url"] != review.origin + asked:
                 found.append((method, about["request"]["url"][:200]))
     return found
 
@@ -589,7 +590,7 @@ def try_attacks(room):
                     shown += [frame.text for frame in frames] + [tab.run("document.body.textContent")]
                 if tab.run("'hit' in window || document.querySelectorAll('main script, main style, main img').length > 0"):
                     wrong.append(f"{path}: an attack's mark or element")
-                wrong += [f"{path}: {it}" for it in told_of(tab, review)]
+                wrong += [f"{path}: {it}" for it in told_of(tab, review, path)]
                 tab.events.clear()
                 room.browser.gone.clear()
             shown = drawable(" ".join(shown))
@@ -647,8 +648,8 @@ def frame_faults(frame):
 
 
 def drawable(text):
-    """A text as a browser has it in a page: no NUL, and one kind of line end."""
-    return re.sub(r"\s+", " ", text.replace("\0", "\ufffd")).strip()
+    """A text as a browser has it in a page: without NUL, and blanks are one."""
+    return re.sub(r"\s+", " ", text.replace("\0", "")).strip()
 
 
 # ---- many visits
@@ -662,7 +663,6 @@ def try_times(room):
         begun = time.monotonic() - begun
         overviews, decisions, shown = [], [], []
         for _ in range(5):
-            tab.go("about:blank")
             tab.go(f"{review.origin}/")
             overviews.append(tab.run("performance.getEntriesByType('navigation')[0].duration"))
         want("conflicts", "1,000 waiting" in tab.run("document.body.innerText").replace("1000 ", "1,000 "), True)
