@@ -1,7 +1,6 @@
 """The administrator's page in Chromium: each part is a function of the test `review` of tools/browser_tests."""
 
 import contextlib
-import itertools
 import json
 import pathlib
 import re
@@ -11,11 +10,13 @@ import time
 import urllib.parse
 
 import review_sites
-from chromium import SHIFT, Late, start, until
+from chromium import Late, start, until
 import tried
 from tried import Wrong, free_port
 
 SECONDS, STARTS = 300, 120
+# the answer's status, in a page
+STATUS = "performance.getEntriesByType('navigation')[0].responseStatus"
 # what the page itself asks for
 OWN_PATHS = {"/", "/client", "/visit", "/page", "/search", "/report", "/state", "/decide", "/review.css", "/page.css",
              "/review.js", "/favicon.ico"}
@@ -180,7 +181,8 @@ class Deciding:
         tab, choice = self.tab, "keep" if self.count % 2 else "cancel"
         want("the forms", form_of(tab), [[client, visit, "keep"], [client, visit, "cancel"]])
         led = below(self.uploads[client], visit)
-        want(f"what goes with {client}'s visit {visit}", [it.split(" ")[1] for it in texts(tab, ".along li a")], [str(it) for it in led])
+        named = [it.split(" ")[1] for it in texts(tab, ".along li a")]
+        want(f"what goes with {client}'s visit {visit}", named, [str(it) for it in led])
         is_told = f"and {len(led)} visit" in " ".join(texts(tab, "button[name=cancel]"))
         want("that they go with it is said on the button", is_told, led != [])
         before = self.review.site.read_bytes()
@@ -189,11 +191,11 @@ class Deciding:
         want("the site's file", self.review.site.read_bytes(), before + line_of(client, visit, choice))
         self.report = self.review.replayed()
         want("the report", report_of(tab), self.report)
-        done = "kept" if choice == "keep" else "cancelled"
+        done, states = "kept" if choice == "keep" else "cancelled", standing(self.report)[client]
         want("what is told of it", f"Visit {visit} is {done}" in note_of(tab), True)
-        want("its state", standing(self.report)[client][visit].split(" ")[0], done)
+        want("its state", states[visit].split(" ")[0], done)
         if choice == "cancel":
-            want("theirs", [standing(self.report)[client][it] for it in led if "cancelled" not in standing(self.report)[client][it]], [])
+            want("theirs", {states[it].split(" ")[0] for it in led} - {"cancelled"}, set())
 
 
 SITES = {"paths": review_sites.each_conflict, "elements": review_sites.by_elements}
@@ -237,7 +239,8 @@ def try_keys(room):
         want("the first stop", tab.run("document.activeElement.className"), "skip")
         tab.key("Enter")
         tab.key("Tab")
-        want("the stop behind the way past the head", tab.run("document.activeElement.matches('main a, main summary')"), True)
+        is_behind = tab.run("document.activeElement.matches('main a, main summary')")
+        want("the stop behind the way past the head", is_behind, True)
         tab.go(f"{review.origin}/")
         by_keys_to_search(tab)
         want("found", texts(tab, ".tree a"), ["ann, visit 5"])
@@ -266,8 +269,9 @@ def try_tabs(room):
         want("the note", "Another browser has decided" in texts(other, "#meanwhile:not([hidden])")[0], True)
         other.leads(lambda: other.click("button[name=cancel]"))
         want("the answer", texts(other, "strong"), ["C2 front 5"])
-        want("the answer's status", other.run("performance.getEntriesByType('navigation')[0].responseStatus"), 409)
+        want("the answer's status", other.run(STATUS), 409)
         want("it is an alert", len(texts(other, "[role=alert]")), 1)
+        picture(room, other, "review_refused_light", {})
         want("the file", review.site.read_bytes(), before)
         want("the report", report_of(other), review.replayed())
         other.leads(lambda: other.click("main > p:not(.note) a"))
@@ -296,7 +300,8 @@ def try_starts(room):
 
     def views(tab):
         found = []
-        for path in ("/", "/client?c=ann", "/client?c=bob", "/visit?c=ann&v=5", "/visit?c=ann&v=2", "/search?q=K", "/state"):
+        for path in ("/", "/client?c=ann", "/client?c=bob", "/visit?c=ann&v=5", "/visit?c=ann&v=2", "/search?q=K2",
+                     "/state"):
             tab.go(review.origin + path)
             found.append(tab.run("document.body.innerText"))
         return found + [report_of(tab)]
@@ -311,7 +316,7 @@ def try_starts(room):
             review.start()
             want("what is shown", views(tab), before)
             old.leads(lambda: old.click("button[name=keep]"))
-            want("a decision by a page of before", old.run("performance.getEntriesByType('navigation')[0].responseStatus"), 403)
+            want("a decision by a page of before", old.run(STATUS), 403)
             want("what it is told", "Load it anew" in old.run("document.body.innerText"), True)
             want("the file", review.site.read_bytes(), kept)
     return "2 starts"
@@ -333,7 +338,7 @@ def try_along(room):
         led = below(upload, first)
         want("all that it led to", len(led), 150)
         want("those that are named", texts(tab, ".along li a"), [f"Visit {it}" for it in led[:100]] + ["and 50 more"])
-        want("the button", texts(tab, "button[name=cancel]"), [f"Cancel visit 1, and 150 visits with it"])
+        want("the button", texts(tab, "button[name=cancel]"), ["Cancel visit 1, and 150 visits with it"])
         states = standing(review.replayed())["ann"]
         want("before", {state for number, state in states.items() if number in led}, {"untouched"})
         tab.leads(lambda: tab.click("button[name=cancel]"))
@@ -399,7 +404,8 @@ class Frame:
 def frames_of(tab, count=2):
     """The drawn pages of a visit, once they are there."""
     def found():
-        nodes = [it for it in walk(tab.call("DOM.getDocument", depth=-1, pierce=True)["root"]) if it["nodeName"] == "IFRAME"]
+        root = tab.call("DOM.getDocument", depth=-1, pierce=True)["root"]
+        nodes = [it for it in walk(root) if it["nodeName"] == "IFRAME"]
         try:
             frames = [Frame(tab, node) for node in nodes]
         except KeyError:
@@ -409,9 +415,10 @@ def frames_of(tab, count=2):
 
 
 VIEWS = {
-    "overview": "/", "client": "/client?c=ann", "front": "/visit?c=ann&v=1", "texts": "/visit?c=ann&v=5", "gap": "/visit?c=ann&v=6",
-    "several": "/visit?c=bob&v=1", "button": "/visit?c=bob&v=4", "no_page": "/visit?c=cy&v=1", "watched": "/visit?c=cy&v=2",
-    "opener": "/visit?c=cy&v=4", "done": "/visit?c=ann&v=4", "search": "/search?q=/guestbook", "report": "/report",
+    "overview": "/", "client": "/client?c=ann", "front": "/visit?c=ann&v=1", "texts": "/visit?c=ann&v=5",
+    "gap": "/visit?c=ann&v=6", "several": "/visit?c=bob&v=1", "button": "/visit?c=bob&v=4",
+    "no_page": "/visit?c=cy&v=1", "watched": "/visit?c=cy&v=2", "opener": "/visit?c=cy&v=4", "done": "/visit?c=ann&v=4",
+    "search": "/search?q=/guestbook", "report": "/report",
     "drawn": "/page?c=ann&v=1&of=repaired", "missing": "/visit?c=zoe&v=1",
 }
 LOOKS = {
@@ -433,7 +440,8 @@ FAINT = """(() => {
     const walker = document.createTreeWalker(document.body, NodeFilter.SHOW_TEXT), found = [];
     while (walker.nextNode()) {
         const el = walker.currentNode.parentElement, style = getComputedStyle(el);
-        if (!walker.currentNode.nodeValue.trim() || !el.checkVisibility() || el.matches(".hidden, .skip, :disabled")) continue;
+        const is_seen = walker.currentNode.nodeValue.trim() && el.checkVisibility();
+        if (!is_seen || el.matches(".hidden, .skip, :disabled")) continue;
         const [one, other] = [light(colour(style.color)), light(behind(el))].sort((a, b) => b - a);
         const size = parseFloat(style.fontSize), is_large = size >= 24 || size >= 18.66 && style.fontWeight >= 700;
         const ratio = (one + 0.05) / (other + 0.05);
@@ -468,7 +476,21 @@ def try_views(room):
             look(tab, **about)
             tab.go(f"{review.origin}/client?c=ann")
             picture(room, tab, f"review_decided_{how}", about)
-        want("views", "\n        ".join(wrong), "")
+        with review.site.open("a") as other:
+            other.write("\n")
+        tab.go(review.visit("bob", 1))
+        tab.leads(lambda: tab.click("button[name=keep]"))
+        want("a decision behind another's line", (tab.run(STATUS), len(texts(tab, "[role=alert]"))), (503, 1))
+        picture(room, tab, "review_unwritten_light", {})
+    with reviewed(room, "wanting", *review_sites.wanting()) as review, watched(room) as tab:
+        for how, about in LOOKS.items():
+            look(tab, **about)
+            tab.go(f"{review.origin}/")
+            wrong += [f"what is wanting, {how}: {it}" for it in tab.run(FAINT)]
+            tab.run("document.querySelector('details').open = true")
+            picture(room, tab, f"review_wanting_{how}", about)
+            count += 1
+    want("views", "\n        ".join(wrong), "")
     return f"{count} views"
 
 
@@ -490,8 +512,8 @@ def told_of(tab, review, asked=""):
     found = []
     for it in [*tab.events, *tab.browser.gone, *(told for frame in tab.browser.frames for told in frame.events)]:
         method, about = it["method"], it["params"]
-        if method in ("Runtime.consoleAPICalled", "Runtime.exceptionThrown", "Page.javascriptDialogOpening", "Page.windowOpen",
-                      "Page.downloadWillBegin"):
+        if method in ("Runtime.consoleAPICalled", "Runtime.exceptionThrown", "Page.javascriptDialogOpening",
+                      "Page.windowOpen", "Page.downloadWillBegin"):
             found.append((method, json.dumps(about)[:200]))
         elif method == "Network.requestWillBeSent":
             address = urllib.parse.urlsplit(about["request"]["url"])
@@ -588,7 +610,7 @@ def try_attacks(room):
                     frames = frames_of(tab)
                     wrong += [f"{path}: {it}" for frame in frames for it in frame_faults(frame)]
                     shown += [frame.text for frame in frames] + [tab.run("document.body.textContent")]
-                if tab.run("'hit' in window || document.querySelectorAll('main script, main style, main img').length > 0"):
+                if tab.run("'hit' in window || document.querySelector('main script, main style, main img') !== null"):
                     wrong.append(f"{path}: an attack's mark or element")
                 wrong += [f"{path}: {it}" for it in told_of(tab, review, path)]
                 tab.events.clear()
@@ -603,7 +625,7 @@ def try_attacks(room):
             wrong += [f"asked of the attacker: {it}" for it in evil.asked]
             want("tabs", len(room.browser.tabs), tabs)
             want("attacks", "\n        ".join(wrong), "")
-    return f"{len(review_sites.strings(''))} attacks in {count} pages (on a plain page {seen} things ran or were loaded)"
+    return f"{len(attacks)} attacks in {count} pages (on a page without a guard {seen} of them do something)"
 
 
 def watch_plain(room, evil, at_once=12):
@@ -619,9 +641,10 @@ def watch_plain(room, evil, at_once=12):
             tab.browser.call("Page.navigate", tab.session, False, url=f"{evil.origin}/plain/{number}")
         time.sleep(1)
         for tab, number in some:
-            seen += any(it["method"] in ("Page.javascriptDialogOpening", "Runtime.consoleAPICalled") or
-                        it["method"] == "Network.requestWillBeSent" and not AT_HOME.search(it["params"]["request"]["url"])
-                        for it in list(tab.events))
+            told = [(it["method"], it["params"]) for it in list(tab.events)]
+            seen += any(method in ("Page.javascriptDialogOpening", "Runtime.consoleAPICalled") or
+                        method == "Network.requestWillBeSent" and not AT_HOME.search(about["request"]["url"])
+                        for method, about in told)
             tab.browser.call("Page.handleJavaScriptDialog", tab.session, False, accept=False)
     for tab in room.browser.tabs[1:]:
         tab.close()
@@ -670,10 +693,8 @@ def try_times(room):
         for _ in range(9):
             tab.events.clear()
             tab.leads(lambda: tab.click("button[name=keep]"))
-            about = tab.run("(() => { const it = performance.getEntriesByType('navigation')[0];"
-                            "return [it.redirectEnd - it.redirectStart, it.duration] })()")
             decisions.append(posted(tab))
-            shown.append(about[1])
+            shown.append(tab.run("performance.getEntriesByType('navigation')[0].duration"))
         want("the report", report_of(tab), review.replayed())
     found = {"the overview": (overviews, 1000), "a decision": (decisions, 50)}
     said = ", ".join(f"{what} {min(times):.0f} to {max(times):.0f} ms" for what, (times, _) in found.items())

@@ -33,7 +33,7 @@ class Upload:
         self.lines.append({"t": t, "visit": self.count, "at": self.time, **more})
 
     def visit(self, path, shown, *events, parent=0, made=0, is_open=False):
-        """A visit, whose events are inputs (target, value), clicks (target, request) and submits (target, request, by)."""
+        """A visit. Its events: inputs (target, value), clicks (target, request) and submits (target, request, by)."""
         self.count += 1
         opener = {"parent": parent, "from": made} if parent else {}
         self.say("load", path=path, page=shown, **opener)
@@ -68,7 +68,7 @@ def write(folder, site, uploads, names=None):
 
 # ---- a site with each conflict
 
-FORM, AREA, FROM = "/html/body/form", "/html/body/form/textarea", "/html/body/form/input[1]"
+FORM, AREA = "/html/body/form", "/html/body/form/textarea"
 LONG = ("The walk begins at the station at nine in the morning. ", "Bring water, a hat and good shoes. ",
         "We are back before it is dark, rain or not.")
 
@@ -76,8 +76,10 @@ LONG = ("The walk begins at the station at nine in the morning. ", "Bring water,
 def guestbook(*more, text="", entry="1", box=(), button="Sign"):
     return page(
         el("h1", "Guestbook of the club"), el("p", "Write what you like."),
-        el("form", el("label", "From ", el("input", name="from")), el("textarea", *([text] if text else []), name="text"),
-           el("input", type="hidden", name="entry", value=entry), *box, el("button", button), action="/sign", method="post"),
+        el("form", el("label", "From ", el("input", name="from")),
+           el("textarea", *([text] if text else []), name="text"),
+           el("input", type="hidden", name="entry", value=entry), *box, el("button", button),
+           action="/sign", method="post"),
         *more)
 
 
@@ -87,13 +89,12 @@ def list_of(*items):
 
 GIFT = el("a", "Get your free gift", href="/guestbook?draft=gift")
 NEWS = el("p", el("a", "News", href="/news"))
-CHECK = el("label", el("input", type="checkbox", name="copy"), "Send me a copy")
 RADIO = el("label", el("input", type="radio", name="size", value="small"), "small")
-OFF = el("label", el("input", type="checkbox", name="copy", disabled=""), "Send me a copy")
 PRICE = el("p", "You pay ", el("b", "10 pounds"), ".", id="price")
-LESS = el("p", "You pay ", el("b", "12 pounds"), ".", id="price")
+MORE = el("p", "You pay ", el("b", "12 pounds"), ".", id="price")
+PAY = el("form", el("button", "Pay"), action="/pay", method="post")
 OLD_TEXT, NEW_TEXT = "".join(LONG), LONG[0] + "Bring water and your own lunch. " + LONG[2]
-AREA_IN, FROM_IN = f"{FORM}/textarea[1]", f"{FORM}/label/input"
+FROM_IN = f"{FORM}/label/input"
 LARGE = "x" * 30000
 
 
@@ -109,16 +110,19 @@ def each_conflict():
             "/asks": page(el("form", el("input", name="q"), action="/search")), "/find?q=walk": page(el("h1", "Found")),
             "/walk": guestbook(NEWS, text=NEW_TEXT),
             "/twice": page(el("h1", "Two"), el("a", "One", href="/read?n=1"), el("a", "Two", href="/read?n=2")),
-            "/pay": page(el("h1", "Pay"), el("p", "Your order."), LESS, el("form", el("button", "Pay"), action="/pay", method="post")),
+            "/pay": page(el("h1", "Pay"), el("p", "Your order."), MORE, PAY),
             "/size": guestbook(NEWS, box=[RADIO]),
-            "/moved": page(el("h1", "Moved"), el("form", el("input", name="q"), action="/find"), el("form", el("button", "Go"))),
+            "/moved": page(
+                el("h1", "Moved"), el("form", el("input", name="q"), action="/find"), el("form", el("button", "Go"))),
             "/cut": guestbook(NEWS),
             "/frame": page(el("div", el("section", el("p", "Nothing is left.")))),
         },
     }]
     ann = Upload("ann")
-    first = ann.visit("/guestbook", old, ("input", FROM_IN, "Ann"), ("input", AREA, "Lovely!"), ("click", "/html/body/a", 1))
-    gift = ann.visit("/guestbook?draft=gift", guestbook(text="Free gifts at evil.example!"), ("submit", FORM, 1), parent=first, made=1)
+    first = ann.visit("/guestbook", old, ("input", FROM_IN, "Ann"), ("input", AREA, "Lovely!"),
+                      ("click", "/html/body/a", 1))
+    gift = ann.visit("/guestbook?draft=gift", guestbook(text="Free gifts at evil.example!"), ("submit", FORM, 1),
+                     parent=first, made=1)
     ann.visit("/news", page(el("h1", "News")), ("click", "/html/body/h1", 0), parent=gift, made=1)
     ann.visit("/guestbook", old, ("input", AREA, "Thanks"), ("submit", FORM, 1, f"{FORM}/button"))
     ann.visit("/walk", guestbook(NEWS, text=OLD_TEXT), ("input", AREA, OLD_TEXT + " I come!"), ("submit", FORM, 1))
@@ -129,19 +133,19 @@ def each_conflict():
     bob.visit("/size", guestbook(NEWS, box=[RADIO]), ("click", f"{FORM}/label[2]/input", 0), ("submit", FORM, 1))
     bob.visit("/guestbook", old, ("click", "/html/body/h1", 1))
     bob.visit("/moved", page(el("h1", "Moved"), el("form", el("input", name="q"), el("button", "Go"), action="/find")),
-              ("input", "/html/body/form/input", "walks"), ("submit", "/html/body/form[1]", 1, "/html/body/form/button"))
+              ("input", "/html/body/form/input", "walks"),
+              ("submit", "/html/body/form[1]", 1, "/html/body/form/button"))
     cy = Upload("cy")
     cy.visit("/gone", old, ("click", "/html/body/a", 1))
-    cy.visit("/pay", page(el("h1", "Pay"), el("p", "Your order."), PRICE, el("form", el("button", "Pay"), action="/pay", method="post")),
-             ("submit", "/html/body/form", 1))
+    cy.visit("/pay", page(el("h1", "Pay"), el("p", "Your order."), PRICE, PAY), ("submit", "/html/body/form", 1))
     asked = cy.visit("/asks", page(el("form", el("input", name="q"), action="/find")),
                      ("input", "/html/body/form/input", "walk"), ("submit", "/html/body/form", 1))
     cy.visit("/find?q=walk", page(el("h1", "Found")), parent=asked, made=1)
     dan = Upload("dan")
     dan.visit("/cut", old, ("input", AREA, LARGE), ("input", AREA, LARGE[:25000]), is_open=True)
     wanted = [
-        ("ann", 1, "K2"), ("ann", 5, "K5"), ("ann", 6, "K2"), ("bob", 1, "K3"), ("bob", 2, "K4"), ("bob", 3, "K6"), ("bob", 4, "K7"),
-        ("cy", 1, "K1"), ("cy", 2, "K9"), ("cy", 4, "K10"), ("dan", 1, "K8"),
+        ("ann", 1, "K2"), ("ann", 5, "K5"), ("ann", 6, "K2"), ("bob", 1, "K3"), ("bob", 2, "K4"), ("bob", 3, "K6"),
+        ("bob", 4, "K7"), ("cy", 1, "K1"), ("cy", 2, "K9"), ("cy", 4, "K10"), ("dan", 1, "K8"),
     ]
     return site, [ann, bob, cy, dan], wanted
 
@@ -154,14 +158,39 @@ def by_elements():
             el("form", el("p", "Take ", el("b", "the hat")), el("input", type="hidden", name="price", value=price),
                el("input", type="hidden", name="csrf", value=token), el("input", name="how", placeholder="how many"),
                el("button", "Buy the hat"), action="/buy", method="post"))
-    site = [{"patched": ["/shop"], "same": ["csrf"], "pages": {"/shop": shop("12", [(2, "A coat"), (3, "A hat")], "new")}}]
+    new = shop("12", [(2, "A coat"), (3, "A hat")], "new")
+    site = [{"patched": ["/shop"], "same": ["csrf"], "pages": {"/shop": new}}]
     old = shop("10", [(1, "A free gift"), (2, "A coat"), (3, "A hat")], "old")
     eve = Upload("eve")
     eve.visit("/shop", old, ("click", "/html/body/ul/li[2]/a", 1))
-    eve.visit("/shop", old, ("input", "/html/body/form/input[3]", "2"), ("submit", "/html/body/form", 1, "/html/body/form/button"))
+    eve.visit("/shop", old, ("input", "/html/body/form/input[3]", "2"),
+              ("submit", "/html/body/form", 1, "/html/body/form/button"))
     eve.visit("/shop", old, ("click", "/html/body/ul/li[1]/a", 1))
     eve.visit("/shop", old, ("click", "/html/body/ul/li[3]/a", 1))
     return site, [eve], [("eve", 2, "K11"), ("eve", 3, "K3")]
+
+
+class Text:
+    """An upload that no recorder would write."""
+
+    def __init__(self, client, lines):
+        self.client, self.lines = client, lines
+
+    def text(self):
+        return self.lines
+
+
+def wanting():
+    """A site and uploads with much that is to be looked at before a decision."""
+    site = [{"patched": ["/guestbook"], "quota": 2000, "pages": {"/guestbook": guestbook(NEWS)}}]
+    ann = Upload("ann")
+    for _ in range(5):
+        ann.visit("/guestbook", guestbook(GIFT, NEWS), ("click", "/html/body/a", 1))
+    bob = Upload("bob")
+    bob.visit("/news", page(el("h1", "News")))
+    cut = Text("bob", bob.text()[:-20])
+    mail = Text("mail", '{"t":"hello","client":"a@b"}\n')
+    return site, [ann, cut, Text("no_hello", "{}\n"), mail, Text("none", "")]
 
 
 # ---- attacks
@@ -200,12 +229,14 @@ def in_all_places(attack, number):
     """Elements that have an attack wherever a page may have a text of the attacker's."""
     name = NAMES[number % len(NAMES)]
     return el(
-        "div", attack, el("p", attack, title=attack, **{"class": attack}), el("a", attack, href=attack),
+        "div", attack, el("p", attack, of={"title": attack, "class": attack}), el("a", attack, href=attack),
         el("img", alt=attack, src=attack), el("input", name=attack, value=attack, placeholder=attack, type=attack),
-        el("input", type="hidden", name=attack, value=attack), el("select", el("option", attack, value=attack), value=attack),
+        el("input", type="hidden", name=attack, value=attack),
+        el("select", el("option", attack, value=attack), value=attack),
         el("form", el("button", attack, name=attack, value=attack), action=attack, method=attack),
         el("textarea", attack, name=attack), el("b", of={name: attack, attack: attack}),
-        el("script", attack), el("style", attack), el(ELEMENTS[number % len(ELEMENTS)], attack, of={name: attack, "src": attack}))
+        el("script", attack), el("style", attack),
+        el(ELEMENTS[number % len(ELEMENTS)], attack, of={name: attack, "src": attack}))
 
 
 def attacked(origin):
@@ -220,12 +251,11 @@ def attacked(origin):
         upload = Upload(clients[place // size] if place // size < len(clients) else f"c-{place}-onload_alert")
         uploads.append(upload)
         body = [in_all_places(attack, place + at) for at, attack in enumerate(some)]
-        old = page(*body, el("form", el("textarea", some[0], name=some[0]), el("button", "Send"), action=some[-1], method="post"),
-                   el("p", some[0]))
-        new = page(*body, el("form", el("textarea", some[-1], name=some[0]), el("button", "Send"), action=some[-1], method="post"),
-                   el("p", some[-1]))
+        old, new = (
+            page(*body, el("form", el("textarea", text, name=some[0]), el("button", "Send"),
+                           action=some[-1], method="post"), el("p", text)) for text in (some[0], some[-1]))
         form = "/html/body/form"
-        # a field that starts otherwise (K5), a click that asks for something on what is no link (K6), what is watched (K9)
+        # a field that starts otherwise (K5), a click with a request on what is no link (K6), what is watched (K9)
         kinds = [lambda it: [("input", f"{form}/textarea", it), ("submit", form, 1)],
                  lambda it: [("click", "/html/body/p", 1), ("click", "/html/body/div[1]/a", 2)],
                  lambda it: [("click", "/html/body/div[1]/a", 1)]]
@@ -238,7 +268,8 @@ def attacked(origin):
 
 def file_names(count):
     """Attacks as far as a file's name may have them."""
-    found = ["a", '<img src=x onerror=alert(1)>', '"><svg onload=alert(1)>', "'onfocus='alert(1)'autofocus='", "&lt;b&gt;", "-->"]
+    found = ["a", '<img src=x onerror=alert(1)>', '"><svg onload=alert(1)>', "'onfocus='alert(1)'autofocus='", "-->",
+             "&lt;b&gt;"]
     return (found + [f"u{number}" for number in range(count)])[:count]
 
 

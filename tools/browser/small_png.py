@@ -32,7 +32,8 @@ def lines_of(data):
     width, height, _, kind = struct.unpack(">IIBB", parts[0][1][:10])
     size = {2: 3, 6: 4}[kind]
     length = width * size
-    raw, above, lines = zlib.decompress(b"".join(part for name, part in parts if name == b"IDAT")), bytearray(length), []
+    raw = zlib.decompress(b"".join(part for name, part in parts if name == b"IDAT"))
+    above, lines = bytearray(length), []
     for begin in range(0, len(raw), length + 1):
         how, line = raw[begin], bytearray(raw[begin + 1:begin + 1 + length])
         for at in range(length) if how else ():
@@ -49,8 +50,11 @@ def smaller(data):
     lines = [[line[at:at + 3] for at in range(0, len(line), size)] for line in lines]
     counts = collections.Counter(colour for line in lines for colour in line)
     kept = [colour for colour, _ in counts.most_common(MOST_COLOURS)]
-    place = {colour: min(range(len(kept)), key=lambda at: sum((one - other) ** 2 for one, other in zip(kept[at], colour)))
-             for colour in counts}
+
+    def far(at, colour):
+        return sum((one - other) ** 2 for one, other in zip(kept[at], colour))
+
+    place = {colour: min(range(len(kept)), key=lambda at: far(at, colour)) for colour in counts}
 
     def chunk(name, text):
         return struct.pack(">I", len(text)) + name + text + struct.pack(">I", zlib.crc32(name + text))
