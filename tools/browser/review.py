@@ -532,9 +532,9 @@ MARKS = {
     ("bob", 1): ([("a", HERE)], [("a", "its path leads here")] * 2),
     ("bob", 2): ([("input", HERE)], [("input", HERE)]),
     ("bob", 3): ([("h1", HERE)], [("h1", HERE)]),
-    ("bob", 4): ([("button", HERE)], [("gap in", "form")]),
+    ("bob", 4): ([("button", HERE)], [("form", HERE)]),
     ("cy", 1): (NONE, None),
-    ("cy", 2): ([("b", "watched")], [("b", "watched")]),
+    ("cy", 2): (NONE, NONE),
     ("cy", 4): (NONE, NONE),
     ("dan", 1): (NONE, NONE),
 }
