@@ -591,10 +591,10 @@ def try_texts(room):
 
 def try_attacks(room):
     """Stored attacks as texts, values, names, addresses and typed words: nothing runs and nothing is loaded."""
+    with contextlib.closing(review_sites.Evil()) as other:
+        seen = watch_plain(room, other)
     with contextlib.closing(review_sites.Evil()) as evil:
         site, uploads, names = review_sites.attacked(evil.origin)
-        seen = watch_plain(room, evil)
-        evil.asked.clear()
         with reviewed(room, "attacks", site, uploads, names) as review, watched(room) as tab:
             room.browser.gone.clear()
             tabs, wrong, count, shown = len(room.browser.tabs), [], 0, []
