@@ -581,7 +581,8 @@ def try_texts(room):
         gone, come = texts(tab, "del"), texts(tab, "ins")
         want("their difference", (gone, come), (["water, a hat and good shoes."], ["water and your own lunch."]))
         tab.go(review.visit("cy", 2))
-        want("what is watched", [it[-13:] for it in texts(tab, ".text")], ["10 pounds.Pay", "12 pounds.Pay"])
+        shown = [[word for word in it.split() if word in ("10", "12", "pounds")] for it in texts(tab, ".text")]
+        want("what is watched", shown, [["10", "pounds"], ["12", "pounds"]])
         want("its difference", (texts(tab, "del"), texts(tab, "ins")), (["10"], ["12"]))
     return "differences of 2 pairs of texts"
 
