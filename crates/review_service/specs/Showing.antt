@@ -1,7 +1,8 @@
 -- What is shown, by what stands in memory: this project's own rule.
-use Rattle.std.specs.Prelude.{ℕ, List, [], ◌∷◌, ◌++◌, codes, decimal, count_by, Bool, true, false, is_some, if◌then◌else◌, ◌⊎◌}
+use Rattle.std.specs.Prelude.{ℕ, List, [], ◌∷◌, ◌++◌, codes, decimal, count_by, Bool, true, false, is_some, option_and_then, if◌then◌else◌, ◌⊎◌}
 use Rattle.http_server.specs.Response.{IsResponse}
 use Rattle.http_server.specs.declared.response.Response.{Response}
+use Rattle.conflict_desk.specs.Desk.{book_of}
 use Rattle.warp_run.specs.Report.{report_with}
 use Rattle.warp_run.specs.declared.repaired.Repaired.{Repaired}
 use Rattle.replay_folder.specs.FolderReport.{upload_lines}
@@ -9,10 +10,15 @@ use Rattle.replay_folder.specs.declared.replayed.Replayed.{Replayed}
 use Rattle.review_requests.specs.declared.target.View.{View}
 use Rattle.review_requests.specs.declared.target.View.TheVariants.{Overview, Visits, Visit, Drawing, Search, Report, State, PageStyle, DrawingStyle, Script}
 use Rattle.review_pieces.specs.declared.files.TheConstants.{REVIEW_CSS, PAGE_CSS, REVIEW_JS}
-use Rattle.review_lists.specs.ClientView.{client_there}
+use Rattle.review_lists.specs.ClientView.{summary_named}
 use Rattle.review_lists.specs.Standings.{was_made}
-use Rattle.review_visits.specs.Visit.{is_there}
+use Rattle.review_visits.specs.Visit.{is_on_desk}
 use Rattle.review_service.specs.Fields.{IsHtmlPage, IsDrawing, typed_fields, drawing_style_fields}
+
+-- the client uploaded something, and the desk has it
+abbrev pub has_client : Repaired → List ℕ → Bool
+has_client repaired client =
+    is_some (option_and_then (λ summary. book_of client repaired.desk) (summary_named client repaired.clients))
 
 -- a page where it is there, and else one that says 404
 abbrev pub IsPageWhere : Bool → Response → Type 0
@@ -38,10 +44,9 @@ state_text repaired = decimal (count_by was_made repaired.decided) ++ 10 ∷ []
 
 abbrev pub ShowsView : {R : Type 0} → Replayed R → View → Response → Type 0
 ShowsView replayed (Overview from clients) response = IsHtmlPage 200 response
-ShowsView replayed (Visits client from) response =
-    IsPageWhere (is_some (client_there replayed.repaired client)) response
-ShowsView replayed (Visit client visit told) response = IsPageWhere (is_there replayed client visit) response
-ShowsView replayed (Drawing client visit side) response = IsDrawingWhere (is_there replayed client visit) response
+ShowsView replayed (Visits client from) response = IsPageWhere (has_client replayed.repaired client) response
+ShowsView replayed (Visit client visit told) response = IsPageWhere (is_on_desk replayed client visit) response
+ShowsView replayed (Drawing client visit side) response = IsDrawingWhere (is_on_desk replayed client visit) response
 ShowsView replayed (Search text from) response = IsHtmlPage 200 response
 ShowsView replayed Report response = ShowsReport replayed response
 ShowsView replayed State response =

@@ -1,10 +1,9 @@
 //! What is only looked at.
-ghost use Rattle.std.specs.Prelude.{codes, is_some, OnOk};
+ghost use Rattle.std.specs.Prelude.{codes, OnOk};
 ghost use Rattle.http_server.specs.Response.{IsBlank, IsResponse};
 ghost use Rattle.review_service.specs.Fields.{IsHtmlPage, typed_fields};
-ghost use Rattle.review_lists.specs.ClientView.{client_there};
-ghost use Rattle.review_visits.specs.Visit.{is_there};
-ghost use Rattle.review_service.specs.Showing.{IsDrawingWhere, IsPageWhere, ShowsView, state_text};
+ghost use Rattle.review_visits.specs.Visit.{is_on_desk};
+ghost use Rattle.review_service.specs.Showing.{has_client, IsDrawingWhere, IsPageWhere, ShowsView, state_text};
 
 use crate::pages::{Head, Why, begin_page, end_page, say_drawing, say_why};
 use crate::reporting::show_report;
@@ -107,7 +106,7 @@ impl<R: Source> Shown<'_, R> {
         response: &mut Response,
     ) -> Result<(), NoMemory>
         requires { IsBlank response.old }
-        ensures { OnOk result (IsPageWhere (is_some (client_there self.now.replayed.now.repaired client.now)) response.new) }
+        ensures { OnOk result (IsPageWhere (has_client self.now.replayed.now.repaired client.now) response.new) }
     {
         let repaired = &self.replayed.repaired;
         let mut page = self.begin(client.text())?;
@@ -128,7 +127,7 @@ impl<R: Source> Shown<'_, R> {
         response: &mut Response,
     ) -> Result<(), NoMemory>
         requires { IsBlank response.old }
-        ensures { OnOk result (IsPageWhere (is_there self.now.replayed.now client.now visit) response.new) }
+        ensures { OnOk result (IsPageWhere (is_on_desk self.now.replayed.now client.now visit) response.new) }
     {
         let name = client.text();
         let title = format!(in self.alloc; "Visit {visit} of {name}")?;
@@ -158,7 +157,7 @@ impl<R: Source> Shown<'_, R> {
         response: &mut Response,
     ) -> Result<(), NoMemory>
         requires { IsBlank response.old }
-        ensures { OnOk result (IsDrawingWhere (is_there self.now.replayed.now client.now visit) response.new) }
+        ensures { OnOk result (IsDrawingWhere (is_on_desk self.now.replayed.now client.now visit) response.new) }
     {
         let mut drawing = Vec::new(self.alloc);
         let is_there = add_drawing(
