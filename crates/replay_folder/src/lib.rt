@@ -26,6 +26,7 @@ mod summaries;
 
 pub use ends::UploadEnd;
 pub use halves::{replay_uploads, report_replayed};
+pub use machine::{Folders, ProgressLine};
 pub use names::{Named, name_uploads};
 pub use opens::{OpensUploads, Watches};
 pub use replayed::{Replayed, ToldUploads};

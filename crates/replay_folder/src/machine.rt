@@ -1,5 +1,5 @@
 //! The files and folders of this machine.
-ghost use Rattle.std.specs.Prelude.{⊤};
+ghost use Rattle.std.specs.Prelude.{◌≡◌, None, ⊤};
 
 use crate::opens::{OpensUploads, Watches};
 use byte_streams::Fed;
@@ -16,8 +16,16 @@ const NO_TEXT: &str = "\u{FFFD}.jsonl";
 
 /// The files and folders of this machine. Of these std says nothing, so neither do the relations.
 #[derive(Drop)]
-pub(crate) struct Folders<'a, T> {
-    pub rt: &'a T,
+pub struct Folders<'a, T> {
+    rt: &'a T,
+}
+
+impl<'a, T> Folders<'a, T> {
+    pub fn new(rt: &'a T) -> Folders<'a, T>
+        ensures { result.rt ≡ rt }
+    {
+        Folders { rt }
+    }
 }
 
 impl<T: Files<File = File> + AllocGlobal> OpensUploads for Folders<'_, T> {
@@ -71,10 +79,25 @@ fn names_in<T: Files + AllocGlobal>(rt: &T, folder: &str) -> io::Result<Listed<T
 
 /// Says on standard error how far it is, at most once a second, where it is to.
 #[derive(Drop)]
-pub(crate) struct ProgressLine<'a, T> {
-    pub rt: &'a T,
-    pub shown: bool,
-    pub last: Option<Instant>,
+pub struct ProgressLine<'a, T> {
+    rt: &'a T,
+    shown: bool,
+    last: Option<Instant>,
+}
+
+impl<'a, T> ProgressLine<'a, T> {
+    /// Says it where it is to be shown.
+    pub fn new(rt: &'a T, shown: bool) -> ProgressLine<'a, T>
+        ensures rt { result.rt ≡ rt }
+        ensures shown { result.shown ≡ shown }
+        ensures last { result.last ≡ None }
+    {
+        ProgressLine {
+            rt,
+            shown,
+            last: None,
+        }
+    }
 }
 
 impl<T: Clock + Eprint> Watches for ProgressLine<'_, T> {

@@ -43,12 +43,8 @@ pub fn replay<
     ensures { Replays {F = Fed File} (λ _ _. ⊤) (λ _ _. ⊤) (WasRead {R = Fed File} fed_answers (λ _. None)) asked
         (writes_of W.puts W.contents writer.old writer.new) result.status result.wrong }
 {
-    let mut progress = ProgressLine {
-        rt,
-        shown,
-        last: None,
-    };
-    replay_by(rt, &Folders { rt }, asked, &mut progress, writer)
+    let mut progress = ProgressLine::new(rt, shown);
+    replay_by(rt, &Folders::new(rt), asked, &mut progress, writer)
 }
 
 /// Reads the site from its file; takes the uploads that the words name, each to its end behind what its client uploaded before; replays on the site what the logs

@@ -1,10 +1,11 @@
 //! What the views add, of two clients: of `c1` two visits wait, the second opened by the first, and one is done; of `c2` nothing was kept.
 use byte_streams::Fed;
 use conflict_desk::{Case, Cases, Desk, Docket, are_dockets};
+use conflict_words::meaning_of;
 use lanes_in_turn::{Gathered, Stop};
 use memchr::memmem;
 use replay_folder::ToldUploads;
-use review_lists::{Totals, add_client, add_overview, add_search, conflict_sentence, totals_of};
+use review_lists::{Totals, add_client, add_overview, add_search, totals_of};
 use std::alloc::Global;
 use std::fs::File;
 use std::process::Abort;
@@ -172,7 +173,7 @@ fn finds_codes_and_names(rt: HostRuntime) -> Result<(), Fail> {
 
 #[test]
 fn says_what_a_code_means(rt: HostRuntime) -> Result<(), Fail> {
-    let sentence = conflict_sentence(ConflictKind::LogCut);
+    let sentence = meaning_of(ConflictKind::LogCut);
     assert!(rt; sentence == "The log kept only a part of the visit, for want of room.");
     Ok(())
 }

@@ -1,4 +1,3 @@
-pub mod Sentences
 pub mod Addresses
 pub mod Capped
 pub mod Words

@@ -16,7 +16,7 @@ use Rattle.review_pieces.specs.Pieces.{overview_html, fronts_html, front_html, n
 use Rattle.review_lists.specs.Addresses.{logged_visits, visit_address}
 use Rattle.review_lists.specs.Attention.{attention_html}
 use Rattle.review_lists.specs.PageLinks.{listed_from, page_links}
-use Rattle.review_lists.specs.Sentences.{conflict_sentence}
+use Rattle.conflict_words.specs.Meanings.{meaning_of}
 use Rattle.review_lists.specs.Standings.{how_many_of}
 use Rattle.review_lists.specs.UploadList.{upload_list}
 use Rattle.review_lists.specs.Words.{conflict_in, counted_words}
@@ -38,7 +38,7 @@ conflict_at_visit desk client visit = option_and_then conflict_in (by_case (λ _
 -- a client's visit with its address, its conflict, and how many wait behind it
 unfoldable pub waiting_front : List ℕ → ℕ → List ℕ → ℕ → ℕ × ConflictKind → List ℕ
 waiting_front client visit address waiting conflict = front_html client (decimal visit) (conflict_code conflict.1)
-    (decimal conflict.0) address (conflict_sentence conflict.1) (behind_words waiting)
+    (decimal conflict.0) address (meaning_of conflict.1) (behind_words waiting)
 
 -- the address of another page of them keeps which clients are shown
 abbrev pub front_pages : ℕ → ℕ → ℕ → List ℕ

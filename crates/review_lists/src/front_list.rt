@@ -4,20 +4,19 @@ ghost use Rattle.review_lists.specs.Overview.{behind_words, client_names, confli
 
 use crate::addresses::{logged_visits, visit_address};
 use crate::page_links::{add_page_links, listed_from};
-use crate::sentences::conflict_sentence;
 use crate::standings::counts_for;
 use crate::words::{conflict_in, counted_words};
 use byte_streams::Source;
 use conflict_desk::Desk;
+use conflict_words::meaning_of;
 use itoa::Buffer;
 use lanes_in_turn::Gathered;
 use page_tree::NoMemory;
 use review_pieces::pieces;
 use review_state::{Front, fronts_of};
-use visit_replay::conflict_code;
 use std::alloc::Global;
 use upload_reader::Client;
-use visit_replay::ConflictKind;
+use visit_replay::{ConflictKind, conflict_code};
 use warp_run::ClientSummary;
 
 const FRONTS_A_PAGE: usize = 50;
@@ -179,7 +178,7 @@ fn add_waiting_front<'t>(
         conflict_code(kind),
         event.format(at),
         address,
-        conflict_sentence(kind),
+        meaning_of(kind),
         behind.as_str(),
     )
 }

@@ -16,9 +16,8 @@ use itoa::Buffer;
 use lanes_in_turn::Gathered;
 use page_tree::NoMemory;
 use review_pieces::pieces;
-use visit_replay::conflict_code;
 use std::alloc::Global;
-use visit_replay::Outcome;
+use visit_replay::{Outcome, conflict_code};
 use warp_run::ClientSummary;
 
 /// Those of all these clients.

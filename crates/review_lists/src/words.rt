@@ -7,10 +7,9 @@ ghost use Rattle.review_lists.specs.Words.{conflict_in, conflict_text, outcome_t
 use conflict_desk::Standing;
 use page_tree::NoMemory;
 use replay_folder::UploadEnd;
-use visit_replay::conflict_code;
 use std::alloc::Global;
 use upload_reader::{Ending, HelloFault, LaneEnd};
-use visit_replay::{ConflictKind, Outcome};
+use visit_replay::{ConflictKind, Outcome, conflict_code};
 
 /// At which event a visit stopped, and why.
 pub(crate) fn conflict_in(outcome: &Outcome) -> Option<(u64, ConflictKind)>

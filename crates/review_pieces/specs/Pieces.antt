@@ -299,8 +299,8 @@ upload_html name end = concat (
 
 unfoldable pub uploads_html : List ℕ → List ℕ → List ℕ → List ℕ
 uploads_html count refused items = concat (
-    codes "<h2>Uploads</h2>\n<details><summary>" ∷ escaped count ∷ codes " uploads, " ∷ escaped refused
-    ∷ codes " of which don't begin</summary>\n<ul>\n" ∷ items ∷ codes "</ul>\n</details>\n" ∷ [])
+    codes "<h2>Uploads</h2>\n<details><summary>" ∷ escaped count ∷ codes " in all, " ∷ escaped refused
+    ∷ codes " of which couldn't be taken</summary>\n<ul>\n" ∷ items ∷ codes "</ul>\n</details>\n" ∷ [])
 
 unfoldable pub value_html : List ℕ → List ℕ
 value_html value = concat (

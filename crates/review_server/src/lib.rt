@@ -3,9 +3,9 @@
 
 mod call;
 mod fault;
-mod machine;
 mod opening;
 mod server;
+mod site_lock;
 
 pub use call::{ReviewCallFault, Reviewing, accept_call};
 pub use fault::ReviewFault;

@@ -8,11 +8,12 @@ ghost use Rattle.review_server.specs.Rounds.{browsers_of, review_of};
 
 use crate::call::Reviewing;
 use crate::fault::ReviewFault;
-use crate::machine::{TellsProgress, UploadsHere, open_locked};
 use crate::opening::{review_by, secret_keys};
+use crate::site_lock::open_locked;
 use byte_streams::Fed;
 use disk_file::DiskFile;
 use http_rounds::RoundServer;
+use replay_folder::{Folders, ProgressLine};
 use review_service::Review;
 use std::fs::File;
 use std::io::Eprint;
@@ -60,12 +61,8 @@ impl ReviewServer<Review<DiskFile, Fed<File>>> {
             uploads,
         } = reviewing;
         let file = open_locked(rt, site_file.as_str())?;
-        let mut watcher = TellsProgress {
-            rt,
-            shown,
-            last: None,
-        };
-        let review = review_by(rt, file, &UploadsHere { rt }, uploads, &mut watcher, port)?;
+        let mut watcher = ProgressLine::new(rt, shown);
+        let review = review_by(rt, file, &Folders::new(rt), uploads, &mut watcher, port)?;
         let keys = secret_keys(rt)?;
         Ok(ReviewServer {
             server: RoundServer::open(rt, address, keys, MAX_BODY, review)?,

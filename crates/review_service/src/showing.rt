@@ -167,7 +167,7 @@ impl<R: Source> Shown<'_, R> {
             self.replayed,
             client,
             visit,
-            drawn_side(side),
+            side,
         )?;
         if is_there {
             say_drawing(drawing, response)
@@ -240,12 +240,5 @@ impl<R: Source> Shown<'_, R> {
             Some(visit) => add_told(self.alloc, page, self.replayed, client, visit),
             None => Ok(()),
         }
-    }
-}
-
-fn drawn_side(side: Side) -> review_visits::Side {
-    match side {
-        Side::Recorded => review_visits::Side::Recorded,
-        Side::Repaired => review_visits::Side::Repaired,
     }
 }

@@ -8,19 +8,11 @@ use byte_streams::Source;
 use page_tree::NoMemory;
 use replay_folder::Replayed;
 use review_pieces::pieces::add_drawn;
+use review_requests::Side;
 use site_file::SiteFile;
 use std::alloc::Global;
 use upload_reader::Client;
 use visit_view::{FoundVisit, draw_recorded, draw_repaired};
-
-/// Which page of a visit.
-#[derive(Clone, Copy, Debug, PartialEq, Eq)]
-pub enum Side {
-    /// The one that the user saw.
-    Recorded,
-    /// The one that stands there now.
-    Repaired,
-}
 
 /// Adds the whole page that draws a page of a client's visit, with what its conflict's event acts on marked; nothing is drawn where the site has no page there.
 /// False, and nothing is added, where there is no such client or visit. After an error a part may be there.

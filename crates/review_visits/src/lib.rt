@@ -10,6 +10,6 @@ mod finding;
 mod telling;
 mod visit;
 
-pub use drawn::{Side, add_drawing};
+pub use drawn::add_drawing;
 pub use telling::add_told;
 pub use visit::add_visit;

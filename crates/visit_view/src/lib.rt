@@ -16,7 +16,6 @@ mod spots;
 // words
 mod cutting;
 mod events;
-mod meanings;
 mod words;
 
 // the parts of the page
@@ -35,7 +34,6 @@ mod top;
 
 pub use drawing::{draw_recorded, draw_repaired};
 pub use found_visit::FoundVisit;
-pub use meanings::{meaning_of, todo_of};
 pub use numbered::{place_of, visit_of};
 pub use rest::rest_of;
 pub use top::add_top;

@@ -8,7 +8,7 @@ use crate::figures::add_pages_part;
 use crate::found_visit::FoundVisit;
 use crate::requests::{requests_now, requests_then};
 use crate::seen::{Seen, at_of, conflict_of, seen_of, spot_here, spot_there};
-use crate::spots::{EventSpot, known_of};
+use crate::spots::{EventSpot, known_of, told_of};
 use crate::texts::{add_field_texts, add_page_texts};
 use crate::words::number;
 use client_log::Visit;
@@ -48,10 +48,20 @@ fn add_seen(
 ) -> Result<(), NoMemory> {
     let then = spot_there(alloc, seen)?;
     let now = spot_here(alloc, finding, seen)?;
+    let was = told_of(alloc, Some(seen.old), &then)?;
+    let is = told_of(alloc, seen.new, &now)?;
     match seen.event {
         Some(event) => {
             let at = at_of(&found.case.outcome);
-            add_event_part(alloc, rest, event, at, seen.count, &then, &now)?;
+            add_event_part(
+                alloc,
+                rest,
+                event,
+                at,
+                seen.count,
+                was.as_str(),
+                is.as_str(),
+            )?;
             add_typed(alloc, rest, seen, event, &then, &now)?;
         }
         None => add_watched(alloc, rest, seen, &found.case.outcome)?,
@@ -63,8 +73,8 @@ fn add_seen(
         found.client.text(),
         number.as_str(),
         seen.new.is_some(),
-        &then,
-        &now,
+        was.as_str(),
+        is.as_str(),
     )
 }
 

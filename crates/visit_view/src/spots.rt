@@ -72,11 +72,15 @@ pub(crate) fn known_of(spot: &EventSpot) -> Option<u32> {
     }
 }
 
-/// The same in a sentence.
-pub(crate) fn told_of(alloc: Global, spot: &EventSpot) -> Result<String, NoMemory> {
+/// The same in a sentence, of that page.
+pub(crate) fn told_of(
+    alloc: Global,
+    page: Option<&Page>,
+    spot: &EventSpot,
+) -> Result<String, NoMemory> {
     match spot {
         EventSpot::Unsought => String::from_str(alloc, ""),
-        EventSpot::Here(_number) => String::from_str(alloc, "It is marked."),
+        EventSpot::Here(number) => here(alloc, page, *number),
         EventSpot::Perhaps(numbers) => perhaps(alloc, numbers.len()),
         EventSpot::Gap(_number) => String::from_str(
             alloc,
@@ -86,12 +90,20 @@ pub(crate) fn told_of(alloc: Global, spot: &EventSpot) -> Result<String, NoMemor
     }
 }
 
+fn here(alloc: Global, page: Option<&Page>, number: u32) -> Result<String, NoMemory> {
+    match name_on(page, number) {
+        Some(name) => format!(in alloc; "The element {name} is marked."),
+        None => String::from_str(alloc, "It is marked."),
+    }
+}
+
+fn name_on(page: Option<&Page>, number: u32) -> Option<&str> {
+    page?.name_of(number)
+}
+
 fn perhaps(alloc: Global, count: usize) -> Result<String, NoMemory> {
     if count == 1 {
-        return String::from_str(
-            alloc,
-            "Which element it was isn't known; the one to which its path leads is marked.",
-        );
+        return String::from_str(alloc, "The element to which its path leads is marked.");
     }
     if count <= MOST_MARKS {
         return format!(in alloc; "Its path selects {count} elements; all are marked.");

@@ -1,6 +1,6 @@
 //! What the code of a conflict means, in the words of `docs/CODES.md`.
 ghost use Rattle.std.specs.Prelude.{◌≡◌};
-ghost use Rattle.review_lists.specs.Sentences.{conflict_sentence};
+ghost use Rattle.conflict_words.specs.Meanings.{meaning_of};
 
 use visit_replay::ConflictKind;
 
@@ -28,12 +28,12 @@ const K10: &str =
     "The link or form that led to this visit leads elsewhere now, so the user would not have come here.";
 
 const K11: &str =
-    "Only with same: it is known which element it was, and it, its form, or what looked so around it sends something else now: another address, another hidden value; or a field that was touched stands under the submitted form on one of the two pages alone.";
+    "It is known which element it was, and it, its form, or what looked so around it sends something else now: another address, another hidden value; or a field that was touched stands under the submitted form on one of the two pages alone.";
 
-/// What that conflict is.
-#[tactic(auto, unfolding(crate::specs::Sentences::conflict_sentence))]
-pub fn conflict_sentence(kind: ConflictKind) -> &'static str
-    ensures { result.now ≡ conflict_sentence kind }
+/// What that conflict means.
+#[tactic(auto, unfolding(crate::specs::Meanings::meaning_of))]
+pub fn meaning_of(kind: ConflictKind) -> &'static str
+    ensures { result.now ≡ meaning_of kind }
 {
     match kind {
         ConflictKind::NoPage => K1,
