@@ -129,7 +129,7 @@ pub const REVIEW_CSS: &[u8] = b"\
     h3 { font-size: 1rem; margin: 0 0 0.375rem; }\n\
     p, ul, ol, table, pre { margin: 0 0 0.75rem; }\n\
     code, pre, .text { font-family: ui-monospace, \"DejaVu Sans Mono\", monospace; font-size: 0.9375em; }\n\
-    code, .text, td, dd, li { overflow-wrap: anywhere; }\n\
+    h1, p, code, .text, tbody th, td, dd, li, summary { overflow-wrap: anywhere; }\n\
     .skip { position: absolute; left: -99rem; }\n\
     .skip:focus { left: 0.5rem; top: 0.5rem; background: var(--paper); padding: 0.25rem 0.5rem; z-index: 1; }\n\
     .hidden { position: absolute; width: 1px; height: 1px; overflow: hidden; clip-path: inset(50%); white-space: nowrap; }\n\
@@ -196,6 +196,8 @@ pub const REVIEW_CSS: &[u8] = b"\
     .stack tr { border-bottom: 1px solid var(--line); padding: 0.375rem 0; }\n\
     .stack td[data-head]::before { content: attr(data-head) \": \"; color: var(--soft); }\n\
     td.number { text-align: left; }\n\
+    .tree li { gap: 0.25rem; }\n\
+    .tree .level { width: 0.25rem; margin-left: 0.125rem; }\n\
     }\n\
     .split + h3 { margin-top: 1rem; }\n\
     figure { margin: 0; min-width: 0; }\n\
