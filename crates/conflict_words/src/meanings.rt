@@ -6,9 +6,11 @@ use visit_replay::ConflictKind;
 
 const K1: &str = "The address was repaired, and the site has no page at the visit's whole address.";
 
-const K2: &str = "The event's path selects nothing on the repaired page.";
+const K2: &str =
+    "The event has no target on the repaired page: its path selects nothing there, or by elements nothing looks so.";
 
-const K3: &str = "The path selects several elements: a new one made it ambiguous.";
+const K3: &str =
+    "The event has several targets: its path selects several elements on the repaired page, or by elements several look so, there or on the page that the user saw.";
 
 const K4: &str =
     "The element takes no input, or no click: it is no text field any more, or is disabled, or is a radio button, which always is K4.";

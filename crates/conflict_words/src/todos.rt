@@ -10,7 +10,8 @@ const DO_K1: &str =
 const DO_K2: &str =
     "If the attack had put the element there, undo what was done by it. If the repair moved it, make it fit.";
 
-const DO_K3: &str = "Find out which one it was, and make it fit.";
+const DO_K3: &str =
+    "Find out which one it was, and make it fit. Where it is gone with the attack's own entry, cancel.";
 
 const DO_K4: &str = "Decide by hand what the user wanted.";
 
@@ -19,7 +20,8 @@ const DO_K5: &str =
 
 const DO_K6: &str = "Where the link was the attack's, undo the request. Else make it by hand.";
 
-const DO_K7: &str = "As for K2: undo, or send by hand what was typed.";
+const DO_K7: &str =
+    "If the attack had put the form there, undo what was sent by it. Else send by hand what was typed.";
 
 const DO_K8: &str = "Raise quota and run again.";
 

@@ -5,7 +5,7 @@ use Rattle.markup.specs.Escaping.{escaped}
 
 unfoldable pub along_html : List ℕ → List ℕ → List ℕ
 along_html count items = concat (
-    codes "<p>With it go " ∷ escaped count ∷ codes " that it led to:</p>\n<ul class=\"along\">\n" ∷ items
+    codes "<p>It takes along " ∷ escaped count ∷ codes " that it led to:</p>\n<ul class=\"along\">\n" ∷ items
     ∷ codes "</ul>\n" ∷ [])
 
 unfoldable pub along_more_html : List ℕ → List ℕ → List ℕ
@@ -37,7 +37,7 @@ branch_html client visit state address conflict opened here levels = concat (
 unfoldable pub client_html : List ℕ → List ℕ → List ℕ → List ℕ → List ℕ → List ℕ → List ℕ
 client_html client upload counts next items pages = concat (
     codes "<h1>" ∷ escaped client ∷ codes "</h1>\n<dl>\n" ∷ upload ∷ counts ∷ codes "</dl>\n" ∷ next
-    ∷ codes "\n<h2 id=\"visits\">Visits, each behind the one that opened it</h2>\n<ol class=\"tree\">\n" ∷ items
+    ∷ codes "\n<h2 id=\"visits\">Visits, each below the one that opened it</h2>\n<ol class=\"tree\">\n" ∷ items
     ∷ codes "</ol>\n" ∷ pages ∷ codes "\n" ∷ [])
 
 unfoldable pub client_counts_html : List ℕ → List ℕ → List ℕ → List ℕ → List ℕ → List ℕ
@@ -49,8 +49,8 @@ client_counts_html waiting kept cancelled done untouched = concat (
 unfoldable pub client_upload_html : List ℕ → List ℕ → List ℕ → List ℕ → List ℕ
 client_upload_html end taken cost lost = concat (
     codes "<dt>Last upload's end</dt><dd>" ∷ escaped end ∷ codes ", " ∷ escaped taken
-    ∷ codes " messages taken</dd>\n<dt>Kept</dt><dd>" ∷ escaped cost ∷ codes " bytes, " ∷ escaped lost
-    ∷ codes " visits lost</dd>\n" ∷ [])
+    ∷ codes " messages taken</dd>\n<dt>Log</dt><dd>" ∷ escaped cost ∷ codes " bytes, " ∷ escaped lost
+    ∷ codes " visits lost for want of room</dd>\n" ∷ [])
 
 unfoldable pub closed_html : List ℕ
 closed_html = concat (
@@ -61,16 +61,16 @@ closed_html = concat (
 unfoldable pub conflict_html : List ℕ → List ℕ → List ℕ → List ℕ → List ℕ
 conflict_html code at sentence todo = concat (
     codes "<p><strong>" ∷ escaped code ∷ codes " at event " ∷ escaped at ∷ codes ".</strong> " ∷ escaped sentence
-    ∷ codes " <span class=\"soft\">" ∷ escaped todo ∷ codes "</span></p>\n" ∷ [])
+    ∷ codes "</p>\n<p>What to do: " ∷ escaped todo ∷ codes "</p>\n" ∷ [])
 
 unfoldable pub decide_html : List ℕ → List ℕ → List ℕ → List ℕ → List ℕ → List ℕ → List ℕ → List ℕ
 decide_html keeps client visit token voids with along = concat (
     codes "<section class=\"decide\" aria-label=\"Decide\">\n<div class=\"split\">\n<div>\n<h3>Keep</h3>\n<p>"
     ∷ codes "The visit stands as it is reported: " ∷ escaped keeps
-    ∷ codes " before its conflict. What came behind that isn't made up for. Other visits don't change.</p>\n"
-    ∷ codes "<form method=\"post\" action=\"/decide\" data-client=\"" ∷ escaped client ∷ codes "\" data-visit=\""
-    ∷ escaped visit ∷ codes "\">\n<input type=\"hidden\" name=\"token\" value=\"" ∷ escaped token
-    ∷ codes "\"><input type=\"hidden\" name=\"client\" value=\"" ∷ escaped client
+    ∷ codes " before its conflict. What came behind that isn't made up for: do it by hand where it is wanted. "
+    ∷ codes "Other visits don't change.</p>\n<form method=\"post\" action=\"/decide\" data-client=\"" ∷ escaped client
+    ∷ codes "\" data-visit=\"" ∷ escaped visit ∷ codes "\">\n<input type=\"hidden\" name=\"token\" value=\""
+    ∷ escaped token ∷ codes "\"><input type=\"hidden\" name=\"client\" value=\"" ∷ escaped client
     ∷ codes "\"><input type=\"hidden\" name=\"visit\" value=\"" ∷ escaped visit
     ∷ codes "\">\n<button name=\"keep\" value=\"1\">Keep visit " ∷ escaped visit
     ∷ codes "</button>\n</form>\n</div>\n<div>\n<h3>Cancel</h3>\n<p>The visit is void: it has no requests "
@@ -141,9 +141,9 @@ front_html client visit code at address sentence behind = concat (
 
 unfoldable pub fronts_html : List ℕ → List ℕ → List ℕ
 fronts_html items pages = concat (
-    codes "<p>Each client's visits are decided in their order: the first that waits is here. Before you "
-    ∷ codes "decide, look whether the page in the site's file can be made to fit.</p>\n<ol class=\"fronts\">\n" ∷ items
-    ∷ codes "</ol>\n" ∷ pages ∷ codes "\n" ∷ [])
+    codes "<p>Each client's visits are decided in their order: here is the first of each that waits. Before "
+    ∷ codes "you decide, look whether the page in the site's file can be made to fit.</p>\n<ol "
+    ∷ codes "class=\"fronts\">\n" ∷ items ∷ codes "</ol>\n" ∷ pages ∷ codes "\n" ∷ [])
 
 unfoldable pub head_html : List ℕ → List ℕ → List ℕ → List ℕ → List ℕ → List ℕ
 head_html title waiting decided query at_overview = concat (
@@ -176,7 +176,7 @@ next_html client visit = concat (
 
 unfoldable pub no_fronts_html : List ℕ
 no_fronts_html = concat (
-    codes "<p>Nothing waits. The <a href=\"/report\">report</a> is as it stands.</p>\n" ∷ [])
+    codes "<p>Nothing waits. The <a href=\"/report\">report</a> has no open conflict.</p>\n" ∷ [])
 
 unfoldable pub no_page_html : List ℕ → List ℕ → List ℕ
 no_page_html head caption = concat (

@@ -158,7 +158,7 @@ fn answer_of(alloc: Global, why: Undecided) -> Result<Text, NoMemory> {
 fn sentence_of(why: Undecided) -> &'static str {
     match why {
         Undecided::Refused(DeskFault::NotFront(Some(_))) =>
-            "Another visit of this client is to be decided first.",
+            "This visit isn't the first of its client that waits: another is, or this one was decided already.",
         Undecided::Refused(DeskFault::NotFront(None)) => "No visit of this client waits.",
         Undecided::Refused(DeskFault::NoClient) => "No client of that name uploaded anything.",
         Undecided::Refused(DeskFault::NoMemory) => "Memory was refused.",

@@ -25,6 +25,6 @@ pub fn add_told<R: Source>(
         Some(Standing::Cancelled) => "cancelled",
         _ => return Ok(()),
     };
-    let text = format!(in alloc; "Visit {visit} is {word}, and that is kept in the site's file.")?;
+    let text = format!(in alloc; "Visit {visit} is {word}: its line stands in the site's file.")?;
     add_note(out, "status", text.as_str())
 }

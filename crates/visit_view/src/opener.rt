@@ -18,7 +18,7 @@ pub(crate) fn opener_of(alloc: Global, found: &FoundVisit<'_>) -> Result<Html, N
         let from = number(alloc, from)?;
         opener.add_opener(found.client.text(), parent.as_str(), from.as_str())?;
     } else if parent != 0 {
-        let lost = format!(in alloc; ", opened by visit {parent}, which isn't kept")?;
+        let lost = format!(in alloc; ", opened by visit {parent}, which was lost")?;
         opener.add_part_same(lost.as_str())?;
     }
     Ok(opener)

@@ -84,7 +84,7 @@ const CLIENT: [Part; 12] = [
     Part::Fixed("</dl>\n"),
     Part::Made(2),
     Part::Fixed(
-        "\n<h2 id=\"visits\">Visits, each behind the one that opened it</h2>\n<ol class=\"tree\">\n",
+        "\n<h2 id=\"visits\">Visits, each below the one that opened it</h2>\n<ol class=\"tree\">\n",
     ),
     Part::Made(3),
     Part::Fixed("</ol>\n"),
@@ -146,11 +146,11 @@ const CLIENT_UPLOAD: [Part; 9] = [
     Part::Words(0),
     Part::Fixed(", "),
     Part::Words(1),
-    Part::Fixed(" messages taken</dd>\n<dt>Kept</dt><dd>"),
+    Part::Fixed(" messages taken</dd>\n<dt>Log</dt><dd>"),
     Part::Words(2),
     Part::Fixed(" bytes, "),
     Part::Words(3),
-    Part::Fixed(" visits lost</dd>\n"),
+    Part::Fixed(" visits lost for want of room</dd>\n"),
 ];
 
 /// Adds `level.html`.

@@ -60,7 +60,7 @@ pub fn add_fronts<'t>(out: &mut Vec<u8>, items: &'t [u8], pages: &'t [u8]) -> Re
 
 const FRONTS: [Part; 5] = [
     Part::Fixed(
-        "<p>Each client's visits are decided in their order: the first that waits is here. Before you decide, look whether the page in the site's file can be made to fit.</p>\n<ol class=\"fronts\">\n",
+        "<p>Each client's visits are decided in their order: here is the first of each that waits. Before you decide, look whether the page in the site's file can be made to fit.</p>\n<ol class=\"fronts\">\n",
     ),
     Part::Made(0),
     Part::Fixed("</ol>\n"),
@@ -77,7 +77,7 @@ pub fn add_no_fronts(out: &mut Vec<u8>) -> Result<(), AllocError>
 }
 
 const NO_FRONTS: [Part; 1] = [Part::Fixed(
-    "<p>Nothing waits. The <a href=\"/report\">report</a> is as it stands.</p>\n",
+    "<p>Nothing waits. The <a href=\"/report\">report</a> has no open conflict.</p>\n",
 )];
 
 /// Adds `overview.html`.

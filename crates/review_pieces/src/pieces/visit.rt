@@ -14,7 +14,7 @@ pub fn add_along(out: &mut Vec<u8>, count: &str, items: &[u8]) -> Result<(), All
 }
 
 const ALONG: [Part; 5] = [
-    Part::Fixed("<p>With it go "),
+    Part::Fixed("<p>It takes along "),
     Part::Words(0),
     Part::Fixed(" that it led to:</p>\n<ul class=\"along\">\n"),
     Part::Made(0),
@@ -116,9 +116,9 @@ const CONFLICT: [Part; 9] = [
     Part::Words(1),
     Part::Fixed(".</strong> "),
     Part::Words(2),
-    Part::Fixed(" <span class=\"soft\">"),
+    Part::Fixed("</p>\n<p>What to do: "),
     Part::Words(3),
-    Part::Fixed("</span></p>\n"),
+    Part::Fixed("</p>\n"),
 ];
 
 /// Adds `decide.html`.
@@ -150,7 +150,7 @@ const DECIDE: [Part; 32] = [
     ),
     Part::Words(0),
     Part::Fixed(
-        " before its conflict. What came behind that isn't made up for. Other visits don't change.</p>\n<form method=\"post\" action=\"/decide\" data-client=\"",
+        " before its conflict. What came behind that isn't made up for: do it by hand where it is wanted. Other visits don't change.</p>\n<form method=\"post\" action=\"/decide\" data-client=\"",
     ),
     Part::Words(1),
     Part::Fixed("\" data-visit=\""),
