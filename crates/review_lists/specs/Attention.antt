@@ -12,8 +12,9 @@ use Rattle.replay_folder.specs.declared.ends.UploadEnd.{UploadEnd}
 use Rattle.replay_folder.specs.declared.ends.UploadEnd.TheVariants.{Taken}
 use Rattle.replay_folder.specs.declared.replayed.ToldUploads.{ToldUploads}
 use Rattle.review_pieces.specs.Pieces.{closed_html, note_html}
+use Rattle.review_lists.specs.Standings.{was_made}
 use Rattle.review_lists.specs.Words.{counted_words}
-use Rattle.review_lists.specs.declared.attention.TheConstants.{STOPPED, ONE_UNTAKEN, MORE_UNTAKEN, ONE_LOSES, MORE_LOSE, ONE_FAILS, MORE_FAIL}
+use Rattle.review_lists.specs.declared.attention.TheConstants.{STOPPED, ONE_UNTAKEN, MORE_UNTAKEN, ONE_LOSES, MORE_LOSE, ONE_FAILS, MORE_FAIL, ONE_UNMADE, MORE_UNMADE}
 
 -- it was taken, however it ended
 abbrev pub was_taken : UploadEnd → Bool
@@ -45,11 +46,12 @@ stop_note stop.Memory = note_html (codes "alert") STOPPED.now
 stop_note other = []
 
 -- The site's file is closed; memory was refused; uploads that weren't taken; clients with lost visits; clients whose
--- last upload ended otherwise than by its bye or by being cut off.
+-- last upload ended otherwise than by its bye or by being cut off; decisions that the desk refused.
 abbrev pub attention_html : ToldUploads → Repaired → Bool → List ℕ
 attention_html told repaired is_closed =
     closed_note is_closed
     ++ (stop_note repaired.stop
     ++ (counted_note (count_by (λ end. not (was_taken end)) told.ends) ONE_UNTAKEN.now MORE_UNTAKEN.now
     ++ (counted_note (count_by loses_visits repaired.clients) ONE_LOSES.now MORE_LOSE.now
-    ++ counted_note (count_by ends_oddly repaired.clients) ONE_FAILS.now MORE_FAIL.now)))
+    ++ (counted_note (count_by ends_oddly repaired.clients) ONE_FAILS.now MORE_FAIL.now
+    ++ counted_note (count_by (λ put. not (was_made put)) repaired.decided) ONE_UNMADE.now MORE_UNMADE.now))))

@@ -2,8 +2,10 @@
 ghost use Rattle.std.specs.Prelude.{ℕ, ◌≡◌, ◌++◌, count_by, not, OnOk};
 ghost use Rattle.upload_reader.specs.declared.ending.Ending.TheVariants.{Over};
 ghost use Rattle.upload_reader.specs.declared.lane_fault.LaneEnd.TheVariants.{Fault};
+ghost use Rattle.review_lists.specs.Standings.{was_made};
 ghost use Rattle.review_lists.specs.Attention.{was_taken, ends_well, loses_visits, ends_oddly, counted_note, closed_note, stop_note, attention_html};
 
+use crate::standings::was_made;
 use crate::words::counted_words;
 use lanes_in_turn::Stop;
 use page_tree::NoMemory;
@@ -11,7 +13,7 @@ use replay_folder::{ToldUploads, UploadEnd};
 use review_pieces::pieces;
 use std::alloc::Global;
 use upload_reader::{Ending, LaneEnd, LaneFault};
-use warp_run::{ClientSummary, Repaired};
+use warp_run::{ClientSummary, PutDecision, Repaired};
 
 const STOPPED: &str =
     "Memory was refused while uploads were taken: what is shown is of the first messages.";
@@ -32,6 +34,12 @@ const ONE_FAILS: &str =
 const MORE_FAIL: &str =
     " clients have a last upload that ended otherwise than by its bye or by being cut off (E3): see Clients below.";
 
+const ONE_UNMADE: &str =
+    "1 decision of the site file wasn't made: the report's last lines say why.";
+
+const MORE_UNMADE: &str =
+    " decisions of the site file weren't made: the report's last lines say why.";
+
 /// Adds what there is of it, the closed file first.
 pub(crate) fn add_attention(
     alloc: Global,
@@ -48,7 +56,9 @@ pub(crate) fn add_attention(
     let untaken = untaken_of(told.ends.as_slice());
     add_counted_note(alloc, out, untaken, ONE_UNTAKEN, MORE_UNTAKEN)?;
     add_counted_note(alloc, out, losing(clients), ONE_LOSES, MORE_LOSE)?;
-    add_counted_note(alloc, out, failing(clients), ONE_FAILS, MORE_FAIL)
+    add_counted_note(alloc, out, failing(clients), ONE_FAILS, MORE_FAIL)?;
+    let unmade = unmade_of(repaired.decided.as_slice());
+    add_counted_note(alloc, out, unmade, ONE_UNMADE, MORE_UNMADE)
 }
 
 fn add_closed_note(out: &mut Vec<u8>, is_closed: bool) -> Result<(), NoMemory>
@@ -123,6 +133,13 @@ fn failing(clients: &[ClientSummary]) -> usize
         .iter()
         .filter(|client| !ends_well(client.end))
         .count()
+}
+
+// Those that the desk refused.
+fn unmade_of(decided: &[PutDecision]) -> usize
+    ensures { result ≡ count_by (λ put. not (was_made put)) decided.now }
+{
+    decided.iter().filter(|put| !was_made(put)).count()
 }
 
 fn ends_well(end: Option<Ending>) -> bool

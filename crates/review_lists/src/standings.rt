@@ -47,7 +47,7 @@ fn all_made(decided: &[PutDecision]) -> usize
     decided.iter().filter(|put| was_made(put)).count()
 }
 
-fn was_made(put: &PutDecision) -> bool
+pub(crate) fn was_made(put: &PutDecision) -> bool
     ensures { result ≡ was_made put.now }
 {
     put.answer.is_ok()

@@ -43,7 +43,7 @@ pub(crate) fn requests_now(
         }
     }
     if let Some(Contrast::Changed { now: Some(now), .. }) = difference.contrast() {
-        add_single(alloc, &mut items, now, ", now")?;
+        add_single(alloc, &mut items, now, ", as it would be now")?;
     }
     listed(alloc, &items, "None.", more)
 }
