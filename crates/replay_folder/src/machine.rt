@@ -22,7 +22,7 @@ pub struct Folders<'a, T> {
 
 impl<'a, T> Folders<'a, T> {
     pub fn new(rt: &'a T) -> Folders<'a, T>
-        ensures { result.rt ≡ rt }
+        ensures { result.rt ≡ rt.entry }
     {
         Folders { rt }
     }
@@ -88,7 +88,7 @@ pub struct ProgressLine<'a, T> {
 impl<'a, T> ProgressLine<'a, T> {
     /// Says it where it is to be shown.
     pub fn new(rt: &'a T, shown: bool) -> ProgressLine<'a, T>
-        ensures rt { result.rt ≡ rt }
+        ensures rt { result.rt ≡ rt.entry }
         ensures shown { result.shown ≡ shown }
         ensures last { result.last ≡ None }
     {
