@@ -41,7 +41,7 @@ ended_both stops.Asked stops.Memory = refl
 ended_both stops.Asked stops.None = refl
 ended_both stops.Asked stops.Asked = refl
 
-unasked_both : (a b : Stop) → (a ≡ stops.Asked → ⊥) → (b ≡ stops.Asked → ⊥) → both_stops a b ≡ stops.Asked → ⊥
+pub unasked_both : (a b : Stop) → (a ≡ stops.Asked → ⊥) → (b ≡ stops.Asked → ⊥) → both_stops a b ≡ stops.Asked → ⊥
 unasked_both stops.Memory b one other is = cc
 unasked_both stops.None b one other is = other is
 unasked_both stops.Asked b one other is = one refl
@@ -65,12 +65,6 @@ get_front [] more k x at = cc
 get_front (y ∷ front) more zero x at = at
 get_front (y ∷ front) more (suc k) x at = get_front front more k x at
 
-index_map : {A B : Type 0} (f : A → B) (all : List A) (k : ℕ) (one : A) → slice_index_or (map f all) k (f one) ≡ f (slice_index_or all k one)
-index_map f [] zero one = refl
-index_map f [] (suc k) one = refl
-index_map f (x ∷ all) zero one = refl
-index_map f (x ∷ all) (suc k) one = index_map f all k one
-
 get_behind : {A : Type 0} (front more : List A) (k n : ℕ) (x : A) → n ≡ length front + k → slice_get more k ≡ Some x → slice_get (front ++ more) n ≡ Some x
 get_behind [] more k n x is at = let same : k ≡ n = omega (arith, is) in subst (λ j. slice_get more j ≡ Some x) same at
 get_behind (y ∷ front) more k zero x is at = absurd (omega (arith, is))
@@ -91,14 +85,6 @@ zip_join P [] [] all us vs more = more
 zip_join P [] (y ∷ ys) all us vs more = absurd all
 zip_join P (x ∷ xs) [] all us vs more = absurd all
 zip_join P (x ∷ xs) (y ∷ ys) all us vs more = (all.0, zip_join P xs ys all.1 us vs more)
-
-pub all_front : {A : Type 0} (P : A → Type 0) (front rest : List A) → AllByRecursion P (front ++ rest) → AllByRecursion P front
-all_front P [] rest all = tt
-all_front P (x ∷ front) rest all = (all.0, all_front P front rest all.1)
-
-pub all_rest : {A : Type 0} (P : A → Type 0) (front rest : List A) → AllByRecursion P (front ++ rest) → AllByRecursion P rest
-all_rest P [] rest all = all
-all_rest P (x ∷ front) rest all = all_rest P front rest all.1
 
 -- ---- one lane behind another
 
@@ -272,30 +258,6 @@ module _ {R : Type 0} where
 
   abbrev pub IsTakenHand : Hand R → TakenHand R → Type 0
   IsTakenHand hand taken = TakesByOne never 0 hand.items taken.lanes.items taken.stop
-
-  -- each call took a hand of its own
-  pub hands_at_once : (hands : List (Hand R)) (taken : List (TakenHand R)) → length taken ≡ length hands
-      → ((k : ℕ) (one : TakenHand R) → k < length hands → (hand : Hand R) × ((d : Hand R) → slice_index_or hands k d ≡ hand) × IsTakenHand hand (slice_index_or taken k one))
-      → AllZip IsTakenHand hands taken
-  hands_at_once hands taken size each = zip_at IsTakenHand hands taken (sym size) by_place
-    where
-      by_place : (k : ℕ) (hand : Hand R) (one : TakenHand R) → slice_get hands k ≡ Some hand → slice_get taken k ≡ Some one → IsTakenHand hand one
-      by_place k hand one hand_at one_at =
-          let call = each k one (slice_get_within hands k hand hand_at) in
-          let is_hand : call.0 ≡ hand = sym (call.1 hand) ∙ get_or_from_slice_get hands k hand hand hand_at in
-          let is_one : slice_index_or taken k one ≡ one = get_or_from_slice_get taken k one one one_at in
-          subst (λ o. IsTakenHand hand o) is_one (subst (λ h. IsTakenHand h (slice_index_or taken k one)) is_hand call.2)
-
-  -- the same where calls may be refused, and none was
-  pub hands_tried : {E : Type 0} (hands : List (Hand R)) (results : List (Result (TakenHand R) E)) (taken : List (TakenHand R)) → map Ok taken ≡ results → length results ≡ length hands
-      → ((k : ℕ) (one : Result (TakenHand R) E) → k < length hands → (hand : Hand R) × ((d : Hand R) → slice_index_or hands k d ≡ hand) × IfOk (slice_index_or results k one) (IsTakenHand hand))
-      → AllZip IsTakenHand hands taken
-  hands_tried hands results taken are size each = hands_at_once hands taken (sym (length-map taken Ok) ∙ ap length are ∙ size) by_call
-    where
-      by_call : (k : ℕ) (one : TakenHand R) → k < length hands → (hand : Hand R) × ((d : Hand R) → slice_index_or hands k d ≡ hand) × IsTakenHand hand (slice_index_or taken k one)
-      by_call k one within =
-          let call = each k (Ok one) within in
-          (call.0, call.1, subst (λ r. IfOk r (IsTakenHand call.0)) (ap (λ l. slice_index_or l k (Ok one)) (sym are) ∙ index_map Ok taken k one) call.2)
 
   -- with whatever is taken of the rest, all of them have been taken
   abbrev pub TakesRest : List (Hand R) → List (TakenHand R) → List (Hand R) → Type 0

@@ -10,4 +10,5 @@ pub mod ReplayLaws
 pub mod LinesLaws
 pub mod RepairedLaws
 pub mod HandLaws
-pub mod HandsCross
+pub mod AtOnceCross
+pub mod AtOnceLaws

@@ -38,6 +38,7 @@ use Rattle.replay_folder.specs.declared.open_round.RoundName.TheVariants.{Told, 
 use Rattle.replay_folder.specs.declared.open_round.OpenRound.{OpenRound}
 use Rattle.replay_folder.specs.declared.open_round.TakenFiles.{TakenFiles}
 use Rattle.replay_folder.specs.declared.names.Named.TheVariants.{File}
+pub mod AtOnce
 
 -- what the lane of the client tells of its upload
 abbrev pub told_by_lane : {R : Type 0} → Gathered R → List ℕ → UploadEnd

@@ -1,8 +1,7 @@
-//! The lanes of a round are dealt to a few hands. A thread takes a half of one, lane behind lane, and records what it reads: what is read of a file is at hand, so
-//! nothing is gained by another thread that records it; and on one processor nothing by a thread beside the one that calls.
-ghost use Rattle.std.specs.Prelude.{◌≡◌, ◌≤◌, ◌++◌, [], false, length, map, Ok, IfOk};
+//! The lanes of a round are taken to their ends: on several processors by threads at once, else by the thread that calls. Whoever reads a file records what it
+//! reads, which is at hand, so nothing is gained by another thread that records it.
+ghost use Rattle.std.specs.Prelude.{◌≡◌, ◌≤◌, [], false, length, map, IfOk};
 ghost use Rattle.std.specs.List.{All, AllByRecursion, AllZip};
-ghost use Rattle.std.specs.Thread.{IsSync};
 ghost use Rattle.std.specs.Vec.{vec_capacity};
 ghost use Rattle.lanes_in_turn.specs.Round.{AreRoundLanes};
 ghost use Rattle.lanes_in_turn.specs.Taking.{IsFreshLane, never};
@@ -10,6 +9,7 @@ ghost use Rattle.upload_lanes.specs.Threads.{AreTaken, both_stops, read_ahead, r
 ghost use Rattle.upload_lanes.specs.inside.Party.{IsFreshHand, TakeEach, TakesByOne};
 ghost use Rattle.warp_server.specs.Rounds.{server_room};
 
+use crate::at_once::take_at_once;
 use byte_streams::Source;
 use lanes_in_turn::{Asks, LaneResult, Stop, take_alone};
 use page_tree::NoMemory;
@@ -27,7 +27,7 @@ const MAX_HANDS: usize = 4;
 /// What is kept of so many items fills about a block of a thread's heap.
 const HEAP_ITEMS: u64 = 160;
 
-/// What a thread took of its lanes, and why it stopped.
+/// What was taken of a hand's lanes, and why that stopped.
 #[derive(Drop)]
 struct TakenHand<F: Source> {
     lanes: Vec<(Client, LaneResult<F>)>,
@@ -53,10 +53,26 @@ pub(crate) fn take_to_ends<F: Source + Drop + Send, T: AllocGlobal + Threads + W
     ensures { IfOk result (λ taken.
         AreTaken never (read_ahead server_room (length lanes.items)) lanes.items taken.0.items taken.1) }
 {
+    if at_once {
+        take_at_once(rt, lanes)
+    } else {
+        take_by_hands(rt, lanes)
+    }
+}
+
+// By the thread that calls: dealt to a few hands, which it takes one behind another.
+fn take_by_hands<F: Source + Drop, T: AllocGlobal + Wait>(
+    rt: &T,
+    lanes: Vec<(Client, LaneResult<F>)>,
+) -> Result<(Vec<(Client, LaneResult<F>)>, Stop), NoMemory>
+    requires fresh { AllByRecursion IsFreshLane lanes.items }
+    requires lanes { AreRoundLanes (length lanes.items) }
+    ensures { IfOk result (λ taken. AreTaken never 0 lanes.items taken.0.items taken.1) }
+{
     let count = lanes.len();
     let back = Vec::with_capacity(rt.alloc(), count)?;
     let hands = deal(rt.alloc(), lanes, hands_of(count))?;
-    let (taken, stop) = take_hands(rt, at_once, hands)?;
+    let (taken, stop) = take_hands(rt, hands)?;
     Ok((collect(taken, back, count), stop))
 }
 
@@ -67,111 +83,19 @@ fn hands_of(lanes: usize) -> usize
 }
 
 // What was taken of all hands, and why that stopped.
-fn take_hands<F: Source + Drop + Send, T: AllocGlobal + Threads + Wait + Sync>(
+fn take_hands<F: Source + Drop, T: AllocGlobal + Wait>(
     rt: &T,
-    at_once: bool,
     hands: Vec<Vec<(Client, LaneResult<F>)>>,
 ) -> Result<(Vec<Vec<(Client, LaneResult<F>)>>, Stop), NoMemory>
     requires fresh { All IsFreshHand hands.items }
     ensures { IfOk result (λ all. TakeEach (λ hand. TakesByOne never 0 hand.items) hands.items all.0.items all.1) }
 {
     let back = Vec::with_capacity(rt.alloc(), hands.len())?;
-    let taken = take_each(rt, at_once, hands)?;
+    let taken = take_in_turn(rt, hands)?;
     Ok(all_taken(taken, back))
 }
 
-// What was taken of each hand: by a thread of its own, or by the thread that calls.
-fn take_each<F: Source + Drop + Send, T: AllocGlobal + Threads + Wait + Sync>(
-    rt: &T,
-    at_once: bool,
-    hands: Vec<Vec<(Client, LaneResult<F>)>>,
-) -> Result<Vec<TakenHand<F>>, NoMemory>
-    requires fresh { All IsFreshHand hands.items }
-    ensures { IfOk result (λ taken.
-        AllZip (λ hand one. TakesByOne never 0 hand.items one.lanes.items one.stop) hands.items taken.items) }
-{
-    if at_once {
-        take_at_once(rt, hands)
-    } else {
-        take_in_turn(rt, hands)
-    }
-}
-
-// Each hand by two threads, a half each. So there are more of them than processors: where one has to wait for its processor, the others do more.
-fn take_at_once<F: Source + Drop + Send, T: AllocGlobal + Threads + Wait + Sync>(
-    rt: &T,
-    hands: Vec<Vec<(Client, LaneResult<F>)>>,
-) -> Result<Vec<TakenHand<F>>, NoMemory>
-    requires fresh { All IsFreshHand hands.items }
-    ensures { IfOk result (λ taken.
-        AllZip (λ hand one. TakesByOne never 0 hand.items one.lanes.items one.stop) hands.items taken.items) }
-{
-    let taken = thread::map_vec(
-        rt,
-        hands,
-        &|hand| -> Result<TakenHand<F>, NoMemory>
-            requires { IsFreshHand hand }
-            ensures { IfOk result (λ one. TakesByOne never 0 hand.items one.lanes.items one.stop) }
-        { take_halves(rt, hand) },
-    )?;
-    each_of(rt.alloc(), taken)
-}
-
-// All of them, if none was refused.
-fn each_of<F: Source + Drop>(
-    alloc: Global,
-    taken: Vec<Result<TakenHand<F>, NoMemory>>,
-) -> Result<Vec<TakenHand<F>>, NoMemory>
-    ensures { IfOk result (λ each. map Ok each.items ≡ taken.items) }
-{
-    let mut each = Vec::with_capacity(alloc, taken.len())?;
-    for one in taken {
-        each.push_reserved(one?);
-    }
-    Ok(each)
-}
-
-// A hand by two threads. The thread that calls takes its second half.
-fn take_halves<F: Source + Drop + Send, T: AllocGlobal + Threads + Wait + Sync>(
-    rt: &T,
-    hand: Vec<(Client, LaneResult<F>)>,
-) -> Result<TakenHand<F>, NoMemory>
-    requires { IsFreshHand hand }
-    ensures { IfOk result (λ one. TakesByOne never 0 hand.items one.lanes.items one.stop) }
-{
-    if hand.len() < 2 {
-        return Ok(take_hand(rt.alloc(), rt, hand));
-    }
-    let mut first = hand;
-    let second = first.split_off(first.len() / 2)?;
-    let (a, b) = thread::join(
-        rt,
-        move || -> TakenHand<F>
-            requires { IsSync T.row × AllByRecursion IsFreshLane first.items }
-            ensures { TakesByOne never 0 first.items result.lanes.items result.stop }
-        { take_hand(rt.alloc(), rt, first) },
-        move || -> TakenHand<F>
-            requires { IsSync T.row × AllByRecursion IsFreshLane second.items }
-            ensures { TakesByOne never 0 second.items result.lanes.items result.stop }
-        { take_hand(rt.alloc(), rt, second) },
-    );
-    joined(a, b)
-}
-
-fn joined<F: Source + Drop>(a: TakenHand<F>, b: TakenHand<F>) -> Result<TakenHand<F>, NoMemory>
-    ensures { IfOk result (λ both. (both.lanes.items ≡ a.lanes.items ++ b.lanes.items)
-        × (both.stop ≡ both_stops a.stop b.stop)) }
-{
-    let mut lanes = a.lanes;
-    let mut more = b.lanes;
-    lanes.append(&mut more)?;
-    Ok(TakenHand {
-        lanes,
-        stop: both_stops(a.stop, b.stop),
-    })
-}
-
-// One hand behind another, by the thread that calls.
+// One hand behind another.
 fn take_in_turn<F: Source + Drop, T: AllocGlobal + Wait>(
     rt: &T,
     hands: Vec<Vec<(Client, LaneResult<F>)>>,
@@ -207,8 +131,8 @@ fn take_hand<F: Source + Drop, W: Wait>(
     TakenHand { lanes, stop }
 }
 
-// Behind so many items of a lane: it is never stopped, but there is room for more now and then.
-fn goes_on(alloc: Global, items: u64) -> bool
+/// Behind so many items of a lane: it is never stopped, but there is room for more now and then.
+pub(crate) fn goes_on(alloc: Global, items: u64) -> bool
     ensures { result ≡ false }
 {
     if items.is_multiple_of(HEAP_ITEMS) {
@@ -236,8 +160,8 @@ fn all_taken<F: Source + Drop>(
     (hands, all)
 }
 
-// Why the taking stopped by these two.
-fn both_stops(a: Stop, b: Stop) -> Stop
+/// Why the taking stopped by these two.
+pub(crate) fn both_stops(a: Stop, b: Stop) -> Stop
     ensures { result ≡ both_stops a b }
 {
     match a {

@@ -5,6 +5,7 @@
 #![tactic(auto)]
 
 // The uploads that are named, and what becomes of each.
+mod at_once;
 mod ends;
 mod greeting;
 mod hands;
