@@ -1,16 +1,12 @@
 -- The lanes of a round, each of which one of some threads took.
-use Rattle.std.proofs.Common.{◌≡◌, ℕ, zero, suc, ◌+◌, ◌-◌, ◌≤◌, ◌<◌, List, [], ◌∷◌, ◌++◌, length, map, replicate, slice_get, slice_set, true≢false, ◌⊎◌, inl, inr, Option, Some, None, refl, sym, ap, subst, ◌∙◌, arith, append_assoc, append-nil}
-use Rattle.std.specs.Prelude.{Vec, Result, Ok, IfOk, fold, slice_index_or}
-use Rattle.std.specs.Global.{Global}
+use Rattle.std.proofs.Common.{◌≡◌, ℕ, zero, suc, ◌+◌, ◌-◌, ◌≤◌, ◌<◌, List, [], ◌∷◌, ◌++◌, length, map, slice_get, true≢false, Some, refl, sym, ap, subst, ◌∙◌, arith, append_assoc, append-nil}
+use Rattle.std.specs.Prelude.{fold}
 use Rattle.std.specs.List.{AllByRecursion, AllZip, range_with_len}
-use Rattle.std.proofs.lemmas.List.{length-set, length-map, map-append}
 use Rattle.std.proofs.lemmas.List.FromFn.{length-map-range_with_len, get_or-map-range_with_len}
-use Rattle.std.proofs.lemmas.List.Sums.{fold-append}
 use Rattle.std.proofs.lemmas.Option.{get_or_from_slice_get, slice_get_within}
 use Rattle.round_robin.specs.Dealt.{every}
 use Rattle.round_robin.proofs.Dealing.{every_zip}
-use Rattle.lanes_in_turn.specs.Taking.{IsFreshLane, Stops, TakesLane, never, refused_by}
-use Rattle.lanes_in_turn.specs.declared.gathered.LaneResult.{LaneResult}
+use Rattle.lanes_in_turn.specs.Taking.{Stops, never}
 use Rattle.lanes_in_turn.specs.declared.gathered.Stop.{Stop}
 use Rattle.lanes_in_turn.specs.declared.gathered.Stop.TheVariants as stops
 use Rattle.lanes_in_turn.proofs.RoundLaws.{all_at}
@@ -18,7 +14,6 @@ use Rattle.upload_lanes.specs.Threads.{AreTaken, both_stops, recorders_of, stop_
 use Rattle.upload_lanes.specs.inside.Party.{TakesByOne}
 use Rattle.upload_lanes.proofs.CollectedLaws.{recorders_range}
 use Rattle.upload_lanes.proofs.JoinLaws.{some_at}
-use Rattle.upload_lanes.proofs.Zips.{all_each, mapped_at, zip_at}
 use Rattle.replay_folder.specs.declared.at_once.TakenLane.{TakenLane}
 use Rattle.replay_folder.specs.inside.AtOnce.{IsTakenOf}
 use Rattle.replay_folder.proofs.HandLaws.{Lanes, both_taken, unasked_both}

@@ -1,8 +1,7 @@
 -- Lanes that one thread takes one behind another, and the hands of all threads.
-use Rattle.std.proofs.Common.{◌≡◌, ℕ, zero, suc, ◌+◌, ◌≤◌, ◌<◌, List, [], ◌∷◌, ◌++◌, length, map, slice_get, slice_set, slice_index_or, Bool, true, false, ◌&&◌, is_some, Some, Result, Ok, IfOk, refl, sym, ap, ap₂, subst, ◌∙◌, arith, append_assoc, append-nil, true≢false}
+use Rattle.std.proofs.Common.{◌≡◌, ℕ, zero, suc, ◌+◌, ◌≤◌, ◌<◌, List, [], ◌∷◌, ◌++◌, length, map, slice_get, slice_set, slice_index_or, Bool, true, false, ◌&&◌, is_some, Some, refl, sym, ap, ap₂, subst, ◌∙◌, arith, append_assoc, append-nil, true≢false}
 use Rattle.std.specs.List.{AllByRecursion, AllZip}
-use Rattle.std.proofs.lemmas.List.{length-append, length-map}
-use Rattle.std.proofs.lemmas.Option.{get_or_from_slice_get, slice_get_within}
+use Rattle.std.proofs.lemmas.List.{length-append}
 use Rattle.lanes_in_turn.specs.Round.{have_ended}
 use Rattle.lanes_in_turn.specs.Taking.{GaveMore, IsFreshLane, Stops, TakesLane, is_ended, never, refused_by}
 use Rattle.lanes_in_turn.specs.declared.gathered.LaneResult.{LaneResult}
@@ -10,7 +9,7 @@ use Rattle.lanes_in_turn.specs.declared.gathered.Stop.{Stop}
 use Rattle.lanes_in_turn.specs.declared.gathered.Stop.TheVariants as stops
 use Rattle.upload_lanes.specs.Threads.{both_stops, stop_of, AreTaken}
 use Rattle.upload_lanes.specs.inside.Party.{Hand, TakeEach, TakesByOne}
-use Rattle.upload_lanes.proofs.Zips.{zip_at, zip_push}
+use Rattle.upload_lanes.proofs.Zips.{zip_push}
 use Rattle.replay_folder.specs.declared.hands.TakenHand.{TakenHand}
 
 abbrev pub Lanes : Type 0 → Type 0
