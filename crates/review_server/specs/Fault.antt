@@ -1,7 +1,5 @@
 -- What the program says where the page isn't served, or no longer: this project's own rule.
 use Rattle.std.specs.Prelude.{ℕ, List, Option, Some, None, codes}
-use Rattle.std.specs.IoError.{error_kind}
-use Rattle.std.specs.declared.io.Error.{Error}
 use Rattle.std.specs.declared.io.ErrorKind.{ErrorKind}
 use Rattle.std.specs.declared.io.ErrorKind.TheVariants as error
 use Rattle.site_file.specs.declared.file.NoSiteFile.TheVariants as unread

@@ -1,5 +1,5 @@
 use Rattle.review_server.proofs.ShownRounds.{round_shown}
-use Rattle.review_server.proofs.server.ReviewServer.round.Goals as goal
+use Rattle.review_server.proofs.server.ReviewServer+Review+F+Fed+File.round.Goals as goal
 
 pub returns-clause-shown : goal.returns-clause-shown
 returns-clause-shown g c = λ first undecided.
