@@ -1,6 +1,8 @@
 """The administrator's page in Chromium: each part is a function of the test `review` of tools/browser_tests."""
 
+import collections
 import contextlib
+import html.parser
 import json
 import pathlib
 import re
@@ -451,6 +453,11 @@ FAINT = """(() => {
 })()"""
 
 
+# what is wider than its room
+WIDE = """[document.documentElement, ...document.querySelectorAll(".wide")]
+    .map((it) => it.scrollWidth - it.clientWidth).filter((it) => it > 0).map((it) => `${it} too wide`)"""
+
+
 def try_views(room):
     """Each view fits its window, light and dark, at 200 % and in a narrow window, and its texts can be told from what
     is behind them; with --shots each is a picture."""
@@ -463,9 +470,8 @@ def try_views(room):
                 tab.go(review.origin + path)
                 if name != "drawn" and name != "report":
                     wrong += [f"{name}, {how}: {it}" for it in tab.run(FAINT)]
-                wide = tab.run("document.documentElement.scrollWidth - innerWidth")
-                if wide > 0 and name != "report":
-                    wrong.append(f"{name}, {how}: {wide} too wide")
+                if name != "report":
+                    wrong += [f"{name}, {how}: {it}" for it in tab.run(WIDE)]
                 count += 1
                 picture(room, tab, f"review_{name}_{how}", about)
         tab.go(review.visit("ann", 1))
@@ -482,6 +488,18 @@ def try_views(room):
         tab.leads(lambda: tab.click("button[name=keep]"))
         want("a decision behind another's line", (tab.run(STATUS), len(texts(tab, "[role=alert]"))), (503, 1))
         picture(room, tab, "review_unwritten_light", {})
+    site, uploads = review_sites.long_names()
+    with reviewed(room, "long", site, uploads) as review, watched(room) as tab:
+        client = uploads[0].client
+        paths = {"overview": "/", "client": f"/client?c={client}", "visit": f"/visit?c={client}&v=2",
+                 "search": "/search?q=x"}
+        for name, path in paths.items():
+            for how, about in LOOKS.items():
+                look(tab, **about)
+                tab.go(review.origin + path)
+                wrong += [f"{name} of long names, {how}: {it}" for it in tab.run(WIDE)]
+                count += 1
+                picture(room, tab, f"review_long_{name}_{how}", about)
     with reviewed(room, "wanting", *review_sites.wanting()) as review, watched(room) as tab:
         for how, about in LOOKS.items():
             look(tab, **about)
@@ -516,10 +534,9 @@ def told_of(tab, review, asked=""):
                       "Page.windowOpen", "Page.downloadWillBegin"):
             found.append((method, json.dumps(about)[:200]))
         elif method == "Network.requestWillBeSent":
-            address = urllib.parse.urlsplit(about["request"]["url"])
-            is_own = f"{address.scheme}://{address.netloc}" == review.origin and address.path in OWN_PATHS
-            if not is_own and about["request"]["url"] != review.origin + asked:
-                found.append((method, about["request"]["url"][:200]))
+            address = about["request"]["url"]
+            if not is_own(review, address) and address != review.origin + asked:
+                found.append((method, address[:200]))
     return found
 
 
@@ -611,8 +628,9 @@ def try_attacks(room):
                     frames = frames_of(tab)
                     wrong += [f"{path}: {it}" for frame in frames for it in frame_faults(frame)]
                     shown += [frame.text for frame in frames] + [tab.run("document.body.textContent")]
-                if tab.run("'hit' in window || document.querySelector('main script, main style, main img') !== null"):
-                    wrong.append(f"{path}: an attack's mark or element")
+                if tab.run("'hit' in window"):
+                    wrong.append(f"{path}: an attack's mark")
+                wrong += [f"{path}: {it}" for it in page_faults(tab, review)]
                 wrong += [f"{path}: {it}" for it in told_of(tab, review, path)]
                 tab.events.clear()
                 room.browser.gone.clear()
@@ -654,21 +672,76 @@ def watch_plain(room, evil, at_once=12):
 
 # what any plain page asks for
 AT_HOME = re.compile("/plain/|/favicon.ico$")
-# all that a drawn page may have
-DRAWN = {"#document", "html", "HTML", "HEAD", "META", "TITLE", "LINK", "BODY", "DIV", "SPAN", "#text"}
+# all that a drawn page may have; of what stands there once, with which attributes
+DRAWN = {"#document", "html", "HEAD", "TITLE", "DIV", "SPAN", "#text"}
+DRAWN_ONCE = {"HTML": {"lang": "en"}, "META": {"charset": "utf-8"}, "BODY": {"tabindex": "0"},
+              "LINK": {"rel": "stylesheet", "href": "/page.css"}}
 DRAWN_NAMES = {"data-n", "data-mark", "class", "id"}
+DRAWN_CLASSES = {"", "link", "field", "press", "tick", "off", "undrawn", "a", "target", "gap"}
 
 
 def frame_faults(frame):
     """What a drawn page has beside elements and attributes of the page's own."""
-    found = []
+    found, seen = [], collections.Counter(node["nodeName"] for node in frame.nodes)
     for node in frame.nodes:
-        names = set(attributes(node))
-        if node["nodeName"] not in DRAWN:
-            found.append(f"an element {node['nodeName']}")
-        elif node["nodeName"] in ("DIV", "SPAN") and not names <= DRAWN_NAMES:
-            found.append(f"attributes {names}")
+        name, about = node["nodeName"], attributes(node)
+        if name in DRAWN_ONCE:
+            if about != DRAWN_ONCE[name] or seen[name] > 1:
+                found.append(f"{seen[name]} of {name}, with {about}")
+        elif name not in DRAWN:
+            found.append(f"an element {name}")
+        elif not set(about) <= DRAWN_NAMES:
+            found.append(f"attributes {set(about)}")
+        elif about.get("id", "target") != "target" or not set(about.get("class", "").split(" ")) <= DRAWN_CLASSES:
+            found.append(f"a name of {about}")
     return found
+
+
+class Pieces(html.parser.HTMLParser):
+    """Of each element that a piece of review/pieces has, its attributes."""
+
+    def __init__(self):
+        super().__init__()
+        self.names = collections.defaultdict(set)
+        for file in (tried.TOP / "review/pieces").glob("*/*.html"):
+            self.feed(re.sub(r"\{\{\{?\w+\}?\}\}", " ", file.read_text()))
+
+    def handle_starttag(self, tag, pairs):
+        # two pieces are attributes alone
+        self.names[tag] |= {"class", "aria-current", *(name for name, _ in pairs)}
+
+
+PIECES = Pieces().names
+ONCE = ("html", "head", "title", "link", "script", "body", "header", "main")
+# of each element its name, its attributes, and where it leads, loads from or sends
+ELEMENTS = """[...document.querySelectorAll("*")].map((it) => [it.localName, it.getAttributeNames(),
+    ["href", "src", "action"].filter((name) => it.hasAttribute(name)).map((name) => {
+        try { return new URL(it.getAttribute(name), document.baseURI).href } catch { return it.getAttribute(name) }
+    })])"""
+
+
+def page_faults(tab, review):
+    """What one of the page's own views has beside the elements and attributes of its pieces, and what leads out."""
+    if tab.run("document.contentType") != "text/html":
+        return []
+    elements, here = tab.run(ELEMENTS), tab.run("location.href.split('#')[0]")
+    seen = collections.Counter(name for name, _, _ in elements)
+    found = [f"{seen[name]} of {name}" for name in ONCE if seen[name] != 1]
+    # the search, and the two forms of a decision
+    found += [f"{seen['form']} forms"] if seen["form"] not in (1, 3) else []
+    for name, names, addresses in elements:
+        if name not in PIECES:
+            found.append(f"an element {name}")
+        elif not set(names) <= PIECES[name]:
+            found.append(f"attributes {set(names) - PIECES[name]} of {name}")
+        found += [f"{name} leads to {it[:200]}" for it in addresses
+                  if not is_own(review, it) and it.split("#")[0] != here]
+    return found
+
+
+def is_own(review, address):
+    about = urllib.parse.urlsplit(address)
+    return f"{about.scheme}://{about.netloc}" == review.origin and about.path in OWN_PATHS
 
 
 def drawable(text):

@@ -180,6 +180,17 @@ class Text:
         return self.lines
 
 
+def long_names():
+    """A client with the longest name, whose visits each opened the next one, at addresses without a blank."""
+    upload, pages = Upload("0123456789abcdef" * 4), {}
+    for number in range(20):
+        address = f"/guestbook?{'x' * 200}{number}"
+        pages[address] = guestbook(NEWS)
+        parent = {"parent": upload.count, "made": 1} if number else {}
+        upload.visit(address, guestbook(GIFT, NEWS), ("click", "/html/body/a", 1), **parent)
+    return [{"patched": ["/guestbook"], "pages": pages}], [upload]
+
+
 def wanting():
     """A site and uploads with much that is to be looked at before a decision."""
     site = [{"patched": ["/guestbook"], "quota": 2000, "pages": {"/guestbook": guestbook(NEWS)}}]
