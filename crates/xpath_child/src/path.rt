@@ -12,7 +12,7 @@ ghost use Rattle.xpath_child.specs.Targets.{target_in, only_place, place_found};
 ghost use Rattle.xpath_child.specs.declared.fault.PathFaultKind.TheVariants.{NoMemory};
 ghost use Rattle.xpath_child.specs.inside.Search.{AreSteps, steps_in, steps_left, step_for, note, Notes, hits};
 
-use crate::cutting::{CutStep, CutSteps};
+use crate::cutting::{CutStep, CutSteps, FEW, MOST};
 use crate::fault::PathFault;
 use crate::shared_text::SharedText;
 use crate::step::{fault_of, is_match, picks_first};
@@ -84,14 +84,12 @@ impl Path {
         let Some(text) = self.text.as_str().strip_prefix('/') else {
             return Found::Missing;
         };
-        let steps = CutSteps::of(text);
-        let mut found = Found::Missing;
-        if let Some((first, others)) = steps.cut.as_slice().split_first() {
-            if is_match(first.test, page.name_of(0)) && picks_first(first.index) {
-                visit_child(page, others, steps.rest, 0, &mut found);
-            }
+        let few: CutSteps<'_, FEW> = CutSteps::of(text);
+        if few.rest.is_none() {
+            return find_cut(page, few.cut.as_slice(), few.rest);
         }
-        found
+        let most: CutSteps<'_, MOST> = CutSteps::of(text);
+        find_cut(page, most.cut.as_slice(), most.rest)
     }
 
     /// What the path selects on a page, by its place.
@@ -183,6 +181,22 @@ impl Found {
     }
 }
 
+// What a path of these steps selects on a page: those that are cut out, and then those that are left in a text.
+fn find_cut(page: &Page, steps: &[CutStep<'_>], left: Option<&str>) -> Found
+    requires some { 0 < length steps.now }
+    requires left { AreSteps (option_map (λ text. text.now) left) }
+    ensures { place_found page.now result
+        ≡ target_in (steps_left steps.now (option_map (λ text. text.now) left.entry)) page.now }
+{
+    let mut found = Found::Missing;
+    if let Some((first, others)) = steps.split_first() {
+        if is_match(first.test, page.name_of(0)) && picks_first(first.index) {
+            visit_child(page, others, left, 0, &mut found);
+        }
+    }
+    found
+}
+
 // Notes the nodes that these steps reach from a node: the node itself where there are none. The first ones are cut out of the path's text, the others are
 // left in it.
 #[cycle(visit)]
@@ -214,7 +228,7 @@ fn visit_left(page: &Page, left: Option<&str>, at: u32, found: &mut Found)
     match left {
         None => found.note(at),
         Some(text) => {
-            let steps = CutSteps::of(text);
+            let steps: CutSteps<'_, FEW> = CutSteps::of(text);
             visit(page, steps.cut.as_slice(), steps.rest, at, found);
         }
     }
