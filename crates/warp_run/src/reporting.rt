@@ -232,12 +232,15 @@ fn standing_word(standing: Standing) -> &'static str
 
 // ---- requests
 
-// Each, and behind it what it was, where it is another now.
+// Each, and behind it what it was, where it is another now; once a write failed, no more.
 fn add_requests<W: Sink>(buffer: &mut ReportBuffer, writer: &mut W, room: &mut ReportRoom<'_>)
     ensures { AddsText W.puts W.contents writer.old buffer.old writer.new buffer.new
         (plain.told_requests room.old.former.1 room.old.requests.1) }
 {
     while room.requests.advance() {
+        if buffer.has_failed() {
+            return;
+        }
         room.former.advance();
         add_both(buffer, writer, room);
     }
