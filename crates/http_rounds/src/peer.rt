@@ -28,6 +28,8 @@ pub(crate) struct Peer {
     writable: bool,
     // The service may have more of its requests to answer.
     stirred: bool,
+    // None of its requests that came whole is left, so that more is read.
+    hungry: bool,
     // So many bytes came that aren't answered, at most, and of these so many since there was no whole request.
     unanswered: usize,
     fresh: usize,
@@ -50,6 +52,7 @@ impl Peer {
             readable: true,
             writable: true,
             stirred: false,
+            hungry: true,
             unanswered: 0,
             fresh: 0,
             waits: false,
@@ -83,7 +86,11 @@ impl Peer {
 
     // Whether there is something to read or to answer.
     fn has_input(&self) -> bool {
-        self.stirred || (self.readable && self.connection.wants_read())
+        self.stirred || self.may_read()
+    }
+
+    fn may_read(&self) -> bool {
+        self.readable && self.hungry && self.connection.wants_read()
     }
 
     /// It has its turn in this round.
@@ -134,14 +141,16 @@ impl Peer {
         self.count_on();
     }
 
-    // Where there is an answer, what is left came since there was no whole request. Else there is none now.
+    // Where there is an answer, what is left came since there was no whole request. Else there is none now, and more is
+    // read.
     fn count_on(&mut self)
         ensures { self.new.connection ≡ self.old.connection }
     {
-        if self.connection.wants_write() {
-            self.unanswered = self.fresh;
-        } else {
+        self.hungry = !self.connection.wants_write();
+        if self.hungry {
             self.fresh = 0;
+        } else {
+            self.unanswered = self.fresh;
         }
     }
 
@@ -152,7 +161,7 @@ impl Peer {
         ensures received { (more : List ℕ)
             × ((history self.new.connection).received ≡ (history self.old.connection).received ++ more) }
     {
-        if self.is_held() || !self.readable || !self.connection.wants_read() {
+        if self.is_held() || !self.may_read() {
             return;
         }
         match self.connection.read_from(&mut &self.stream) {

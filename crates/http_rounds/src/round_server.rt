@@ -45,6 +45,8 @@ pub struct RoundServer<S> {
     peers: Peers,
     // So many rounds in a row lacked descriptors for connections, the last one among them.
     crowded: u64,
+    // More connections may have come than the last round accepted, of which the listener tells nothing further.
+    has_more: bool,
 }
 
 impl<S: Drop> RoundServer<S> {
@@ -74,6 +76,7 @@ impl<S: Drop> RoundServer<S> {
             events: Events::with_capacity(alloc, MAX_EVENTS)?,
             peers: Peers::new(alloc)?,
             crowded: 0,
+            has_more: false,
         })
     }
 }
@@ -97,13 +100,13 @@ impl<S: RoundService> RoundServer<S> {
         Ok(())
     }
 
-    // Waits until a socket is ready, or not at all where there is something to do, or files were just closed for
-    // connections that wait.
+    // Waits until a socket is ready, or not at all where there is something to do, more connections may have come, or
+    // files were just closed for connections that wait.
     fn wait(&mut self) -> io::Result<()>
         ensures places { AreAt PlaceKeeps (places_of self.old) (places_of self.new) }
         ensures service { service_of self.new ≡ service_of self.old }
     {
-        let is_busy = self.peers.is_busy() || self.crowded == 1;
+        let is_busy = self.peers.is_busy() || self.has_more || self.crowded == 1;
         let timeout = Duration::from_secs(if is_busy { 0 } else { TICK });
         self.poll.poll(&mut self.events, Some(timeout))?;
         wake_all(&self.events, &mut self.peers);
@@ -116,11 +119,13 @@ impl<S: RoundService> RoundServer<S> {
         ensures service { service_of self.new ≡ service_of self.old }
     {
         let mut is_crowded = false;
+        self.has_more = true;
         for _ in 0..MAX_ACCEPTS {
             match self.listener.accept() {
                 Ok((stream, _)) => self.take_in(stream, now),
                 Err(fault) => {
                     is_crowded = lacks_descriptors(&fault);
+                    self.has_more = false;
                     break;
                 }
             }
