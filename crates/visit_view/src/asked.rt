@@ -7,33 +7,42 @@ use page_tree::NoMemory;
 use std::alloc::Global;
 use visit_replay::was_asked;
 
-/// How many events are asked, and how many are gone through for that, over all: for each what was done before it is done again.
+/// How many events are asked. For each what was done before it is done again, and each of these may look at the whole page: so many nodes over all.
 const MOST_ASKED: usize = 20;
 
-const MOST_GONE_THROUGH: usize = 20_000;
+const MOST_NODES: usize = 20_000_000;
 
 /// What the events of a visit from that one on asked for on the page that they were made on.
 pub(crate) fn asked_from(alloc: Global, visit: &Visit, from: usize) -> Result<Html, NoMemory> {
     let events = visit.events.as_slice();
+    let nodes = visit.page.node_count() as usize;
     let mut items = Html::new(alloc);
     let mut asked: usize = 0;
-    let mut gone: usize = 0;
+    let mut looked: usize = 0;
     let mut left: usize = 0;
     for k in from..events.len() {
         if events[k].request() == 0 {
             continue;
         }
-        if asked >= MOST_ASKED || gone > MOST_GONE_THROUGH {
+        let more = k.saturating_add(1).saturating_mul(nodes);
+        if asked >= MOST_ASKED || more > MOST_NODES.saturating_sub(looked) {
             left = left.saturating_add(1);
         } else {
             add_asked(alloc, &mut items, visit, k)?;
             asked += 1;
-            gone = gone.saturating_add(k);
+            looked = looked.saturating_add(more);
         }
     }
-    let mut part = listed(alloc, &items, "Nothing.", false)?;
-    if left > 0 {
-        let more = format!(in alloc; "{left} more events behind these asked for something.")?;
+    let none = if left > 0 {
+        format!(in alloc;
+            "{left} events asked for something, which isn't shown: much was done before."
+        )?
+    } else {
+        String::from_str(alloc, "Nothing.")?
+    };
+    let mut part = listed(alloc, &items, none.as_str(), false)?;
+    if left > 0 && asked > 0 {
+        let more = format!(in alloc; "{left} more events asked for something.")?;
         part.add_requests_none(more.as_str())?;
     }
     Ok(part)

@@ -9,8 +9,10 @@ use visit_replay::{
     SentValue, Single, ToldForm, ToldRequest,
 };
 
-/// How many requests are shown, of each how many pairs, and of a pair's name and value how many bytes.
+/// How many requests are shown, of each how many pairs, of its address how many bytes, and of a pair's name and value.
 const MOST_REQUESTS: usize = 50;
+
+const MOST_ADDRESS: usize = 2_000;
 
 const MOST_PAIRS: usize = 30;
 
@@ -136,10 +138,12 @@ fn add_told(
     behind: &str,
 ) -> Result<(), NoMemory> {
     match told {
-        ToldRequest::Load { address } => items.add_request("load", address, &Html::new(alloc)),
+        ToldRequest::Load { address } => {
+            add_request(alloc, items, "load", address, &Html::new(alloc))
+        }
         ToldRequest::Link { number, address } => {
             let method = format!(in alloc; "get {number}{behind}")?;
-            items.add_request(method.as_str(), address, &Html::new(alloc))
+            add_request(alloc, items, method.as_str(), address, &Html::new(alloc))
         }
         ToldRequest::Form(form) => add_form(alloc, items, form, behind),
     }
@@ -155,7 +159,19 @@ fn add_form(
     let number = form.number;
     let method = format!(in alloc; "{kind} {number}{behind}")?;
     let pairs = pairs_of(alloc, &form.pairs)?;
-    items.add_request(method.as_str(), form.start(), &pairs)
+    add_request(alloc, items, method.as_str(), form.start(), &pairs)
+}
+
+fn add_request(
+    alloc: Global,
+    items: &mut Html,
+    method: &str,
+    address: &str,
+    pairs: &Html,
+) -> Result<(), NoMemory> {
+    let mut shown = String::new(alloc);
+    push_front(&mut shown, address, MOST_ADDRESS)?;
+    items.add_request(method, shown.as_str(), pairs)
 }
 
 // What a form sends, as it was typed and not as it is encoded.
@@ -181,7 +197,7 @@ fn pair_text(alloc: Global, pair: &SentPair<'_>) -> Result<String, NoMemory> {
     let mut text = String::from_str(alloc, beginning_of(pair.name, MOST_BYTES))?;
     text.push_str(" = ")?;
     match pair.value {
-        SentValue::Text(value) => push_front(&mut text, value)?,
+        SentValue::Text(value) => push_front(&mut text, value, MOST_BYTES)?,
         SentValue::Children { page, number } => {
             push_texts(&mut text, page.child_texts_of(number))?;
         }
@@ -189,9 +205,9 @@ fn pair_text(alloc: Global, pair: &SentPair<'_>) -> Result<String, NoMemory> {
     Ok(text)
 }
 
-// As much of it as there is room for.
-fn push_front(text: &mut String, more: &str) -> Result<(), NoMemory> {
-    let front = beginning_of(more, MOST_BYTES);
+// As much of it as there is room for, so many bytes.
+fn push_front(text: &mut String, more: &str, most: usize) -> Result<(), NoMemory> {
+    let front = beginning_of(more, most);
     text.push_str(front)?;
     if front.len() < more.len() {
         text.push_str("\u{2026}")?;
@@ -209,7 +225,7 @@ fn push_texts(text: &mut String, texts: ChildTexts<'_>) -> Result<(), NoMemory> 
             text.push_str("\u{2026}")?;
             return Ok(());
         }
-        push_front(text, more)?;
+        push_front(text, more, MOST_BYTES)?;
     }
     Ok(())
 }
