@@ -12,3 +12,8 @@ pub mod RepairedLaws
 pub mod HandLaws
 pub mod AtOnceCross
 pub mod AtOnceLaws
+pub mod StretchCross
+pub mod StretchLaws
+pub mod ClosingLaws
+pub mod TakenRoundLaws
+pub mod TellingLaws

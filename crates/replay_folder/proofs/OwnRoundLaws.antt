@@ -43,7 +43,7 @@ module _ {X Y : Type 0} (f : X → Option Y) (P : Y → Type 0) where
   by_some None ys one rest = rest
   by_some (Some y) ys one rest = (one, rest)
 
-  some_of : (xs : List X) → AllByRecursion (λ x. IfSome (f x) P) xs → AllByRecursion P (filter_map f xs)
+  pub some_of : (xs : List X) → AllByRecursion (λ x. IfSome (f x) P) xs → AllByRecursion P (filter_map f xs)
   some_of [] all = tt
   some_of (x ∷ xs) all = by_some (f x) (filter_map f xs) all.0 (some_of xs all.1)
 

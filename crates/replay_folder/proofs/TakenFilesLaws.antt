@@ -47,13 +47,13 @@ split_at (y ∷ xs) ys (suc k) x at = elim (split_at xs ys k x at) [
   | inr (j, there, same) ↦ inr (j, there, ap (λ all. y ∷ all) same)
 ]
 
-zip_length : {X Y : Type 0} (P : X → Y → Type 0) (xs : List X) (ys : List Y) → AllZip P xs ys → length xs ≡ length ys
+pub zip_length : {X Y : Type 0} (P : X → Y → Type 0) (xs : List X) (ys : List Y) → AllZip P xs ys → length xs ≡ length ys
 zip_length P [] [] all = refl
 zip_length P [] (y ∷ ys) all = absurd all
 zip_length P (x ∷ xs) [] all = absurd all
 zip_length P (x ∷ xs) (y ∷ ys) all = ap suc (zip_length P xs ys all.1)
 
-all_append : {X : Type 0} (P : X → Type 0) (xs more : List X) → AllByRecursion P xs → AllByRecursion P more → AllByRecursion P (xs ++ more)
+pub all_append : {X : Type 0} (P : X → Type 0) (xs more : List X) → AllByRecursion P xs → AllByRecursion P more → AllByRecursion P (xs ++ more)
 all_append P [] more all rest = rest
 all_append P (x ∷ xs) more all rest = (all.0, all_append P xs more all.1 rest)
 
@@ -68,11 +68,11 @@ pub some_listed : {X : Type 0} (xs : List X) → (xs ≡ [] → ⊥) → 1 ≤ l
 some_listed [] some = absurd (some refl)
 some_listed (x ∷ xs) some = omega arith
 
-none_mapped : {X Y : Type 0} (f : X → Y) (xs : List X) → map f xs ≡ [] → xs ≡ []
+pub none_mapped : {X Y : Type 0} (f : X → Y) (xs : List X) → map f xs ≡ [] → xs ≡ []
 none_mapped f [] none = refl
 none_mapped f (x ∷ xs) none = cc
 
-none_zipped : {X Y : Type 0} (P : X → Y → Type 0) (xs : List X) (ys : List Y) → AllZip P xs ys → xs ≡ [] → ys ≡ []
+pub none_zipped : {X Y : Type 0} (P : X → Y → Type 0) (xs : List X) (ys : List Y) → AllZip P xs ys → xs ≡ [] → ys ≡ []
 none_zipped P [] [] all none = refl
 none_zipped P [] (y ∷ ys) all none = absurd all
 none_zipped P (x ∷ xs) ys all none = cc
@@ -93,7 +93,7 @@ both_false true b none = cc
 
 -- ---- clients of a round
 
-any_client : {R : Type 0} (client : List ℕ) (uploads : List (UploadState R)) → list_any (bytes_eq client) (clients_of uploads) ≡ list_any (λ upload. bytes_eq client upload.client) uploads
+pub any_client : {R : Type 0} (client : List ℕ) (uploads : List (UploadState R)) → list_any (bytes_eq client) (clients_of uploads) ≡ list_any (λ upload. bytes_eq client upload.client) uploads
 any_client client [] = refl
 any_client client (upload ∷ uploads) = ap (λ b. bytes_eq client upload.client || b) (any_client client uploads)
 
@@ -295,7 +295,7 @@ module _ {R : Type 0} (was_read : R → R → List Answer → Type 0) (opened : 
     none_held round held uploads = record { said = []; held = held; uploads = uploads }
 
     -- nothing waits
-    none_waiting : (named : List Named) (round : OpenRound R) → Behind named round.taken → round.held.items ≡ [] → round.uploads.items ≡ [] → Taking named round
+    pub none_waiting : (named : List Named) (round : OpenRound R) → Behind named round.taken → round.held.items ≡ [] → round.uploads.items ≡ [] → Taking named round
     unfolding none_held
     none_waiting named round behind held uploads = record {
       done = named;

@@ -1,5 +1,5 @@
 -- What is done with a name, with a round, and what is known behind so many names.
-use Rattle.std.specs.Prelude.{◌≡◌, ℕ, ◌≤◌, List, [], ◌∷◌, ◌++◌, length, map, take, slice_get, flat_map, Bool, true, false, bytes_eq, unwrap_or, Option, Some, None, Result, Ok, Err, ◌⊎◌}
+use Rattle.std.specs.Prelude.{◌≡◌, ℕ, ◌<◌, ◌≤◌, List, [], ◌∷◌, ◌++◌, length, map, take, slice_get, flat_map, Bool, true, false, bytes_eq, unwrap_or, Option, Some, None, Result, Ok, Err, ◌⊎◌}
 use Rattle.std.specs.List.{AllByRecursion, AllZip, list_any}
 use Rattle.std.specs.Map.{keys_of}
 use Rattle.std.specs.Option.{option_map_or}
@@ -38,7 +38,9 @@ use Rattle.replay_folder.specs.declared.open_round.RoundName.TheVariants.{Told, 
 use Rattle.replay_folder.specs.declared.open_round.OpenRound.{OpenRound}
 use Rattle.replay_folder.specs.declared.open_round.TakenFiles.{TakenFiles}
 use Rattle.replay_folder.specs.declared.names.Named.TheVariants.{File}
+use Rattle.replay_folder.specs.declared.taking.TakenUpTo.{TakenUpTo}
 pub mod AtOnce
+pub mod Stretch
 
 -- what the lane of the client tells of its upload
 abbrev pub told_by_lane : {R : Type 0} → Gathered R → List ℕ → UploadEnd
@@ -193,6 +195,12 @@ module _ {R : Type 0} (was_read : R → R → List Answer → Type 0) where
         pub alone : AreTriedAlone are.said
         pub ready : AreReady round.uploads.items
         pub going : (round.taken.status ≡ Done) ⊎ (waiting ≡ [])
+
+      -- What was taken of the names before that one. The round has room for one more.
+      pub record IsUpTo (named : List Named) (taken : TakenUpTo R) : Type 0 where
+        pub within : taken.next ≤ length named
+        pub taking : IsTaking (take taken.next named) taken.round
+        pub few : length taken.round.uploads.items < max_round_lanes
 
 -- what is kept of a client there
 abbrev pub told_in : {S : Type 0} → IndexMap (List ℕ) (ℕ × Option Ending) S → List ℕ → ℕ × Option Ending

@@ -23,9 +23,9 @@ const MAX_THREADS: usize = 8;
 
 /// What was taken of a lane, and why that stopped.
 #[derive(Drop)]
-struct TakenLane<F: Source> {
-    lane: (Client, LaneResult<F>),
-    stop: Stop,
+pub(crate) struct TakenLane<F: Source> {
+    pub(crate) lane: (Client, LaneResult<F>),
+    pub(crate) stop: Stop,
 }
 
 /// Takes each of these lanes, of which nothing was taken, to its end, unless memory is refused.
@@ -51,8 +51,8 @@ pub(crate) fn take_at_once<F: Source + Drop + Send, T: AllocGlobal + Threads + W
     Ok(unpacked(taken, back))
 }
 
-// One lane, to its end.
-fn take_lane<F: Source + Drop, W: Wait>(
+/// One lane, to its end.
+pub(crate) fn take_lane<F: Source + Drop, W: Wait>(
     alloc: Global,
     rt: &W,
     lane: (Client, LaneResult<F>),

@@ -27,8 +27,8 @@ use warp_server::Words;
 /// and puts the site's decisions. Where memory is refused while messages are taken, the rest is left unread.
 pub fn replay_uploads<
     F: Source + Drop + Send,
-    O: OpensUploads<File = F>,
-    P: Watches,
+    O: OpensUploads<File = F> + Sync,
+    P: Watches + Send,
     T: AllocGlobal + Threads + Wait + Sync,
 >(
     rt: &T,

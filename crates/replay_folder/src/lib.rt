@@ -6,13 +6,19 @@
 
 // The uploads that are named, and what becomes of each.
 mod at_once;
+mod closing;
+mod drawing;
+mod drawn_files;
 mod ends;
 mod greeting;
 mod hands;
+mod met_clients;
 mod names;
 mod open_round;
 mod opens;
 mod own_lanes;
+mod stretch;
+mod taken_round;
 mod taking;
 
 // The report, and all of it.

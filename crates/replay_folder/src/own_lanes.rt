@@ -9,6 +9,7 @@ ghost use Rattle.lanes_in_turn.specs.Round.{behind_log, clients_of, has_twice, n
 ghost use Rattle.lanes_in_turn.specs.Taking.{begun_lane, new_lane};
 ghost use Rattle.warp_server.specs.Rounds.{without_reader};
 ghost use Rattle.warp_server.specs.program.Callers.{IsReadSo, uploads_in};
+ghost use Rattle.replay_folder.specs.inside.Stretch.{first_lane};
 ghost use Rattle.replay_folder.specs.inside.{AreReady, IsOwnRound, IsSameBehind, lane_of_log};
 
 use crate::hands::take_to_ends;
@@ -107,6 +108,20 @@ fn move_log<F: Source + Drop>(
     }
 }
 
+/// The lane of a client's first upload, of which nothing was taken.
+pub(crate) fn first_lane<F: Source + Drop>(
+    alloc: Global,
+    upload: Upload<F>,
+    quota: Quota,
+) -> Result<(Client, LaneResult<F>), NoMemory>
+    requires untouched { IsUntouched upload }
+    ensures { IfOk result (λ lane. lane ≡ first_lane quota upload) }
+{
+    let client = upload.client().copy()?;
+    let log = ClientLog::new(alloc, client.copy()?, quota);
+    Ok((client, begin_behind(log, upload)?))
+}
+
 // Behind that log. Of the log itself nothing is copied, but of its session the numbers of the visits.
 fn begin_behind<F: Source + Drop>(
     log: ClientLog,
@@ -142,7 +157,8 @@ fn close_all<F: Source + Drop>(
     Ok(own)
 }
 
-fn without_reader<F: Source + Drop>(lane: LaneResult<F>) -> LaneResult<F>
+/// Its source is let go.
+pub(crate) fn without_reader<F: Source + Drop>(lane: LaneResult<F>) -> LaneResult<F>
     ensures lane { result ≡ without_reader lane }
     ensures read { IfSome lane.upload (IsReadSo (WasRead F.answers F.remaining)) }
 {

@@ -40,6 +40,8 @@ pub fn replay<
     W: Sink,
     T: AllocGlobal + Files<File = File> + RandomSource + Clock + Eprint + Threads + Wait + Sync,
 >(rt: &T, asked: Replaying, shown: bool, writer: &mut W) -> ReplayEnd
+where
+    T::Dir: Send,
     ensures { Replays {F = Fed File} (λ _ _. ⊤) (λ _ _. ⊤) (WasRead {R = Fed File} fed_answers (λ _. None)) asked
         (writes_of W.puts W.contents writer.old writer.new) result.status result.wrong }
 {
@@ -54,8 +56,8 @@ pub fn replay<
 /// 4 then. Where memory is refused while messages are taken, the rest is left unread, and the report is written; elsewhere nothing is written then.
 pub fn replay_by<
     F: Source + Drop + Send,
-    O: OpensUploads<File = F>,
-    P: Watches,
+    O: OpensUploads<File = F> + Sync,
+    P: Watches + Send,
     W: Sink,
     T: AllocGlobal + RandomSource + Threads + Wait + Sync,
 >(rt: &T, opener: &O, asked: Replaying, watcher: &mut P, writer: &mut W) -> ReplayEnd
@@ -82,8 +84,8 @@ pub fn replay_by<
 // The same on the site.
 fn replay_on<
     F: Source + Drop + Send,
-    O: OpensUploads<File = F>,
-    P: Watches,
+    O: OpensUploads<File = F> + Sync,
+    P: Watches + Send,
     W: Sink,
     T: AllocGlobal + Threads + Wait + Sync,
 >(rt: &T, opener: &O, uploads: Words, watcher: &mut P, site: &SiteFile, writer: &mut W) -> Status
@@ -99,8 +101,8 @@ fn replay_on<
 // How it ends once its report is written, and whether that was.
 fn report_uploads<
     F: Source + Drop + Send,
-    O: OpensUploads<File = F>,
-    P: Watches,
+    O: OpensUploads<File = F> + Sync,
+    P: Watches + Send,
     W: Sink,
     T: AllocGlobal + Threads + Wait + Sync,
 >(

@@ -1,22 +1,22 @@
 //! Uploads are taken to their ends, round by round.
-ghost use Rattle.std.specs.Prelude.{◌≡◌, ◌<◌, ℕ, List, [], ◌∷◌, ◌++◌, ◌⊎◌, length, map, bytes_eq, false, IfOk};
+ghost use Rattle.std.specs.Prelude.{◌≡◌, ◌<◌, ◌≤◌, ◌+◌, min, ℕ, List, [], ◌∷◌, ◌++◌, ◌⊎◌, length, bytes_eq, false, IfOk};
 ghost use Rattle.std.specs.List.{list_any};
 ghost use Rattle.byte_streams.specs.Reading.{WasRead};
 ghost use Rattle.lanes_in_turn.specs.Round.{max_round_lanes};
 ghost use Rattle.warp_run.specs.declared.status.Status.TheVariants.{Done};
-ghost use Rattle.replay_folder.specs.inside.{AreReady, AreHeld, Closes, MakesRoom, IsTaking, HasTakenSoFar, held_end, told_by_lane};
+ghost use Rattle.replay_folder.specs.inside.{AreReady, AreHeld, MakesRoom, IsTaking, IsUpTo, HasTakenSoFar};
 ghost use Rattle.replay_folder.specs.declared.names.Named.{Named as PlainNamed};
 
-use crate::ends::UploadEnd;
+use crate::closing::close_round;
 use crate::greeting::greet_named;
 use crate::hands::has_processors;
 use crate::names::Named;
 use crate::open_round::{
-    OpenRound, RoundName, TakenFiles, first_round, has_client, hold_end, hold_upload, is_short,
-    leave_unread, may_open_alone, next_round,
+    OpenRound, TakenFiles, first_round, has_client, hold_end, hold_upload, is_short, leave_unread,
+    may_open_alone, next_round,
 };
 use crate::opens::{OpensUploads, Watches};
-use crate::own_lanes::{put_back, take_own};
+use crate::stretch::{Stretches, may_begin, take_stretch};
 use byte_streams::Source;
 use client_log::Quota;
 use lanes_in_turn::MAX_ROUND_LANES;
@@ -24,16 +24,21 @@ use page_tree::NoMemory;
 use std::alloc::Global;
 use std::sync::Wait;
 use std::thread::Threads;
-use upload_lanes::Gathered;
 use upload_reader::Client;
-use warp_run::status_of;
+
+/// What was taken of the names before that one.
+#[derive(Drop)]
+struct TakenUpTo<F: Source> {
+    round: OpenRound<F>,
+    next: usize,
+}
 
 /// Takes the uploads of these names in their order, each behind what its client uploaded before, those that follow one another at once as far as a round holds
 /// them. Where memory is refused while messages are taken, the rest is left unread.
 pub(crate) fn take_files<
     F: Source + Drop + Send,
-    O: OpensUploads<File = F>,
-    P: Watches,
+    O: OpensUploads<File = F> + Sync,
+    P: Watches + Send,
     T: AllocGlobal + Threads + Wait + Sync,
 >(
     rt: &T,
@@ -45,13 +50,97 @@ pub(crate) fn take_files<
     ensures { IfOk result (HasTakenSoFar (WasRead F.answers F.remaining) (O.opened opener.now) quota named.now) }
 {
     let at_once = has_processors(rt);
-    let mut round = first_round(rt.alloc());
-    for one in named {
-        watcher.tell(round.taken.ends.len(), named.len());
-        let more = take_named(rt, at_once, opener, one, quota, round)?;
-        round = close_full(rt, at_once, quota, more)?;
+    let mut stretches = Stretches::new(rt.alloc());
+    let mut taken = TakenUpTo {
+        round: first_round(rt.alloc()),
+        next: 0,
+    };
+    while taken.next < named.len() {
+        let ahead = take_ahead(
+            rt,
+            at_once,
+            opener,
+            watcher,
+            named,
+            quota,
+            taken,
+            &mut stretches,
+        )?;
+        taken = take_one(rt, at_once, opener, watcher, named, quota, ahead)?;
     }
-    close_round(rt, at_once, quota, round)
+    close_round(rt, at_once, quota, taken.round)
+}
+
+// A stretch, where one may begin.
+fn take_ahead<
+    F: Source + Drop + Send,
+    O: OpensUploads<File = F> + Sync,
+    P: Watches + Send,
+    T: AllocGlobal + Threads + Wait + Sync,
+>(
+    rt: &T,
+    at_once: bool,
+    opener: &O,
+    watcher: &mut P,
+    named: &[Named],
+    quota: Quota,
+    taken: TakenUpTo<F>,
+    stretches: &mut Stretches,
+) -> Result<TakenUpTo<F>, NoMemory>
+    requires { IsUpTo (WasRead F.answers F.remaining) (O.opened opener.now) quota named.now taken }
+    ensures behind { IfOk result (IsUpTo (WasRead F.answers F.remaining) (O.opened opener.now) quota named.now) }
+    ensures next { IfOk result (λ more. taken.next ≤ more.next) }
+{
+    let TakenUpTo { round, next } = taken;
+    let names = &named[next..];
+    if !at_once || !may_begin(&round, names.len()) {
+        return Ok(TakenUpTo { round, next });
+    }
+    let (round, count) = take_stretch(
+        rt,
+        opener,
+        watcher,
+        names,
+        named.len(),
+        quota,
+        round,
+        stretches,
+    )?;
+    Ok(TakenUpTo {
+        round,
+        next: next + count,
+    })
+}
+
+// The next name, if there is one.
+fn take_one<
+    F: Source + Drop + Send,
+    O: OpensUploads<File = F>,
+    P: Watches,
+    T: AllocGlobal + Threads + Wait + Sync,
+>(
+    rt: &T,
+    at_once: bool,
+    opener: &O,
+    watcher: &mut P,
+    named: &[Named],
+    quota: Quota,
+    taken: TakenUpTo<F>,
+) -> Result<TakenUpTo<F>, NoMemory>
+    requires { IsUpTo (WasRead F.answers F.remaining) (O.opened opener.now) quota named.now taken }
+    ensures behind { IfOk result (IsUpTo (WasRead F.answers F.remaining) (O.opened opener.now) quota named.now) }
+    ensures next { IfOk result (λ more. more.next ≡ min (taken.next + 1) (length named.now)) }
+{
+    let TakenUpTo { round, next } = taken;
+    if next >= named.len() {
+        return Ok(TakenUpTo { round, next });
+    }
+    watcher.tell(round.taken.ends.len(), named.len());
+    let more = take_named(rt, at_once, opener, &named[next], quota, round)?;
+    Ok(TakenUpTo {
+        round: close_full(rt, at_once, quota, more)?,
+        next: next + 1,
+    })
 }
 
 // One more. Where it can't be opened beside the uploads of the round, these are taken first, and it is tried once more.
@@ -173,84 +262,4 @@ fn open_next<F: Source + Drop + Send, T: AllocGlobal + Threads + Wait + Sync>(
 {
     let taken = close_round(rt, at_once, quota, round)?;
     Ok(next_round(rt.alloc(), taken))
-}
-
-// Takes the round, and tells what became of its names.
-fn close_round<F: Source + Drop + Send, T: AllocGlobal + Threads + Wait + Sync>(
-    rt: &T,
-    at_once: bool,
-    quota: Quota,
-    round: OpenRound<F>,
-) -> Result<TakenFiles<F>, NoMemory>
-    requires ready { AreReady round.uploads.items }
-    requires held { AreHeld round }
-    requires whole { (round.taken.status ≡ Done) ⊎ (round.uploads.items ≡ []) }
-    ensures { IfOk result (Closes (WasRead F.answers F.remaining) quota round) }
-{
-    let OpenRound {
-        taken,
-        held,
-        uploads,
-    } = round;
-    let TakenFiles {
-        gathered,
-        ends,
-        status,
-    } = taken;
-    if uploads.is_empty() {
-        let ends = tell_all(&gathered, ends, held)?;
-        return Ok(TakenFiles {
-            gathered,
-            ends,
-            status,
-        });
-    }
-    let mut clients = gathered.clients;
-    let own = take_own(rt, at_once, &mut clients, uploads, quota)?;
-    let (stop, status) = (own.stop, status_of(&own));
-    let ends = tell_all(&own, ends, held)?;
-    put_back(&mut clients, own.clients)?;
-    Ok(TakenFiles {
-        gathered: Gathered { clients, stop },
-        ends,
-        status,
-    })
-}
-
-// What became of these, behind those.
-fn tell_all<F: Source + Drop>(
-    gathered: &Gathered<F>,
-    ends: Vec<UploadEnd>,
-    held: Vec<RoundName>,
-) -> Result<Vec<UploadEnd>, NoMemory>
-    ensures { IfOk result (λ all. all.items ≡ ends.items ++ map (held_end gathered.now) held.items) }
-{
-    let mut ends = ends;
-    for one in held {
-        ends.push(held_end(gathered, one))?;
-    }
-    Ok(ends)
-}
-
-fn held_end<F: Source + Drop>(gathered: &Gathered<F>, one: RoundName) -> UploadEnd
-    ensures { result ≡ held_end gathered.now one }
-{
-    match one {
-        RoundName::Told(end) => end,
-        RoundName::Waits(client) => told_by_lane(gathered, client),
-    }
-}
-
-// What the lane of the client tells of its upload.
-fn told_by_lane<F: Source + Drop>(gathered: &Gathered<F>, client: Client) -> UploadEnd
-    ensures { result ≡ told_by_lane gathered.now client }
-{
-    match gathered.clients.get(&client) {
-        Some(lane) => UploadEnd::Taken {
-            client,
-            taken: lane.taken,
-            end: lane.end,
-        },
-        None => UploadEnd::Unread,
-    }
 }

@@ -21,8 +21,8 @@ use warp_server::Words;
 pub fn review_by<
     G: GrowingFile + Send + Drop,
     F: Source + Drop + Send,
-    O: OpensUploads<File = F>,
-    P: Watches,
+    O: OpensUploads<File = F> + Sync,
+    P: Watches + Send,
     T: AllocGlobal + RandomSource + Threads + Wait + Sync,
 >(
     rt: &T,

@@ -51,6 +51,8 @@ impl ReviewServer<Review<DiskFile, Fed<File>>> {
         reviewing: Reviewing,
         shown: bool,
     ) -> Result<ReviewServer<Review<DiskFile, Fed<File>>>, ReviewFault>
+    where
+        T::Dir: Send,
         ensures port { IfOk result (λ server. port_of (review_of server) ≡ reviewing.port) }
         ensures browsers { IfOk result (λ server. browsers_of server ≡ replicate 256 None) }
     {

@@ -3,7 +3,7 @@ ghost use Rattle.std.specs.Prelude.{◌≡◌, Some, length, map, IfOk};
 ghost use Rattle.std.specs.List.{AllByRecursion, AllZip};
 ghost use Rattle.shared_stock.specs.Slots.{AreMade, ArePlaced, IsMadeBy};
 
-use crate::slots::{Made, MadeOf, empty_slots, place_shares, unpacked};
+use crate::slots::{Made, MadeOf, in_picked_order};
 use crate::stock::{Stock, StockList};
 use std::alloc::{AllocError, Global};
 use std::marker::Brand;
@@ -40,10 +40,8 @@ fn map_listed<
     ensures { IfOk result (λ made. ArePlaced L.makes (map Some made.items) × (length made.items ≡ length L.list)) }
 {
     let count = items.len();
-    let slots = empty_slots(alloc, count)?;
-    let back = Vec::with_capacity(alloc, count)?;
     let shares = drawn_shares::<R, T, X, F, L>(rt, alloc, threads, items, work)?;
-    unpacked(place_shares::<X, L>(shares, slots)?, back)
+    in_picked_order::<X, L>(alloc, shares, count)
 }
 
 // What each thread made.

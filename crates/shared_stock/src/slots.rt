@@ -1,8 +1,8 @@
 //! What was made of items, put back into the order of their list.
-ghost use Rattle.std.specs.Prelude.{◌≡◌, ◌≤◌, [], None, Some, length, map, replicate, IfOk};
+ghost use Rattle.std.specs.Prelude.{◌≡◌, ◌≤◌, ℕ, [], None, Some, length, map, replicate, slice_get, IfOk};
 ghost use Rattle.std.specs.List.{AllByRecursion};
 ghost use Rattle.std.specs.Vec.{vec_capacity};
-ghost use Rattle.shared_stock.specs.Slots.{AreMade, ArePlaced};
+ghost use Rattle.shared_stock.specs.Slots.{AreMade, ArePlaced, WasMade};
 
 use std::alloc::{AllocError, Global};
 use std::marker::Brand;
@@ -22,16 +22,41 @@ impl<X> MadeOf<X> for Brand {
 
 /// What was made of an item, with its number.
 #[derive(Drop)]
-pub(crate) struct Made<X> {
-    pub(crate) number: usize,
-    pub(crate) one: X,
+pub struct Made<X> {
+    pub number: usize,
+    pub one: X,
 }
 
-/// A slot for each item, all of them empty.
-pub(crate) fn empty_slots<X: Drop>(
+/// What threads made of so many items, in the order of their numbers, if none was refused memory. Where nothing was made of one of them, this says so by want of
+/// memory.
+pub fn in_order<X: Drop>(
     alloc: Global,
+    shares: Vec<Result<Vec<Made<X>>, AllocError>>,
     count: usize,
-) -> Result<Vec<Option<X>>, AllocError>
+) -> Result<Vec<X>, AllocError>
+    ensures count { IfOk result (λ made. length made.items ≡ count) }
+    ensures each { IfOk result (λ made.
+        (k : ℕ) (one : X) → slice_get made.items k ≡ Some one → WasMade shares.items k one) }
+{
+    in_picked_order::<X, Brand>(alloc, shares, count)
+}
+
+/// The same, of what may be made as it is picked.
+pub(crate) fn in_picked_order<X: Drop, L: MadeOf<X>>(
+    alloc: Global,
+    shares: Vec<Result<Vec<Made<X>>, AllocError>>,
+    count: usize,
+) -> Result<Vec<X>, AllocError>
+    requires { AllByRecursion (λ share. IfOk share (λ made. AreMade L.makes made.items)) shares.items }
+    ensures { IfOk result (λ made. ArePlaced L.makes (map Some made.items) × (length made.items ≡ count)) }
+{
+    let slots = empty_slots(alloc, count)?;
+    let back = Vec::with_capacity(alloc, count)?;
+    unpacked(place_shares::<X, L>(shares, slots)?, back)
+}
+
+// A slot for each item, all of them empty.
+fn empty_slots<X: Drop>(alloc: Global, count: usize) -> Result<Vec<Option<X>>, AllocError>
     ensures { IfOk result (λ slots. slots.items ≡ replicate count None) }
 {
     let mut slots = Vec::with_capacity(alloc, count)?;
@@ -41,8 +66,8 @@ pub(crate) fn empty_slots<X: Drop>(
     Ok(slots)
 }
 
-/// What each thread made into the slots of its numbers, if none was refused memory.
-pub(crate) fn place_shares<X: Drop, L: MadeOf<X>>(
+// What each thread made into the slots of its numbers, if none was refused memory.
+fn place_shares<X: Drop, L: MadeOf<X>>(
     shares: Vec<Result<Vec<Made<X>>, AllocError>>,
     slots: Vec<Option<X>>,
 ) -> Result<Vec<Option<X>>, AllocError>
@@ -74,8 +99,8 @@ fn place_each<X: Drop, L: MadeOf<X>>(share: Vec<Made<X>>, slots: Vec<Option<X>>)
     slots
 }
 
-/// What was in the slots. None is empty, else this says so by want of memory.
-pub(crate) fn unpacked<X: Drop>(slots: Vec<Option<X>>, back: Vec<X>) -> Result<Vec<X>, AllocError>
+// What was in the slots. None is empty, else this says so by want of memory.
+fn unpacked<X: Drop>(slots: Vec<Option<X>>, back: Vec<X>) -> Result<Vec<X>, AllocError>
     requires none { back.items ≡ [] }
     requires room { length slots.items ≤ vec_capacity back }
     ensures { IfOk result (λ full. map Some full.items ≡ slots.items) }

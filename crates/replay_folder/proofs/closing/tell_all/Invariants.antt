@@ -1,6 +1,6 @@
 use Rattle.std.proofs.Common.{◌≡◌, ◌++◌, map}
 use Rattle.replay_folder.specs.inside.{held_end}
-use Rattle.replay_folder.proofs.taking.tell_all.Given as goal
+use Rattle.replay_folder.proofs.closing.tell_all.Given as goal
 
 abbrev pub invariant-loop-one : goal.invariant-loop-one
 invariant-loop-one g l =
