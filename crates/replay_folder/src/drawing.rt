@@ -1,5 +1,5 @@
 //! The names of a stretch, drawn by threads one after another: whoever draws one opens its file and reads its hello before the next is drawn.
-ghost use Rattle.std.specs.Prelude.{◌≡◌, ◌≢◌, false, Err, IfOk, IfSome};
+ghost use Rattle.std.specs.Prelude.{◌≡◌, ◌≢◌, false, Err, IfSome};
 ghost use Rattle.byte_streams.specs.Reading.{WasRead};
 ghost use Rattle.replay_folder.specs.declared.ends.UploadEnd.TheVariants.{Unopened};
 ghost use Rattle.replay_folder.specs.inside.Stretch.{IsDrawn};
@@ -13,6 +13,9 @@ use byte_streams::Source;
 use page_tree::NoMemory;
 use std::alloc::Global;
 use upload_reader::Upload;
+
+/// The most names of a stretch. What is made of them is told behind it.
+const MAX_NAMES: usize = 256;
 
 /// A name that was drawn.
 #[derive(Drop)]
@@ -47,35 +50,39 @@ impl<'a, P: Watches> Drawing<'a, P> {
         }
     }
 
-    /// The next name, unless it is over: behind an upload that has to wait, and before a name that can't be opened beside other uploads.
+    /// The next name, unless it is over: behind an upload that has to wait, and before a name that can't be opened, or for whose hello memory is refused, beside
+    /// other uploads.
     pub(crate) fn draw<F: Source + Drop, O: OpensUploads<File = F>>(
         &mut self,
         alloc: Global,
         opener: &O,
         names: &[Named],
-    ) -> Result<Option<DrawnName<F>>, NoMemory>
-        ensures { IfOk result (λ drawn.
-            IfSome drawn (IsDrawn (WasRead F.answers F.remaining) (O.opened opener.now) names.now)) }
+    ) -> Option<DrawnName<F>>
+        ensures { IfSome result (IsDrawn (WasRead F.answers F.remaining) (O.opened opener.now) names.now) }
     {
         let number = self.next;
-        if self.is_over || number >= names.len() {
-            return Ok(None);
+        if self.is_over || number >= names.len().min(MAX_NAMES) {
+            return None;
         }
+        self.is_over = true;
         self.watcher
             .tell(self.of.saturating_sub(names.len() - number), self.of);
-        let said = greet_named(alloc, opener, &names[number])?;
+        let Ok(said) = greet_named(alloc, opener, &names[number]) else {
+            return None;
+        };
         if number > 0 && is_shut(&said) {
-            self.end();
-            return Ok(None);
+            return None;
         }
-        let is_new = self.is_first(&said)?;
+        let Ok(is_new) = self.is_first(&said) else {
+            return None;
+        };
         self.next = number + 1;
         self.is_over = !is_new;
-        Ok(Some(DrawnName {
+        Some(DrawnName {
             number,
             said,
             is_new,
-        }))
+        })
     }
 
     // Whether no upload of its client was met before.

@@ -121,7 +121,11 @@ fn drawn_share<F: Source + Drop, O: OpensUploads<File = F>, P: Watches, T: Alloc
 {
     let mut share = Vec::new(rt.alloc());
     for _k in 0..names.len() {
-        let Some(drawn) = drawing.lock(rt).draw(rt.alloc(), opener, names)? else {
+        let Ok(()) = share.reserve(1) else {
+            drawing.lock(rt).end();
+            break;
+        };
+        let Some(drawn) = drawing.lock(rt).draw(rt.alloc(), opener, names) else {
             break;
         };
         let DrawnName {
@@ -133,7 +137,7 @@ fn drawn_share<F: Source + Drop, O: OpensUploads<File = F>, P: Watches, T: Alloc
         if was_refused(&one) {
             drawing.lock(rt).end();
         }
-        share.push(Made { number, one })?;
+        share.push_reserved(Made { number, one });
     }
     Ok(share)
 }

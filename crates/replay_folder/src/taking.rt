@@ -1,5 +1,5 @@
 //! Uploads are taken to their ends, round by round.
-ghost use Rattle.std.specs.Prelude.{◌≡◌, ◌<◌, ◌≤◌, ◌+◌, min, ℕ, List, [], ◌∷◌, ◌++◌, ◌⊎◌, length, bytes_eq, false, IfOk};
+ghost use Rattle.std.specs.Prelude.{◌≡◌, ◌<◌, ◌≤◌, ℕ, List, [], ◌∷◌, ◌++◌, ◌⊎◌, length, bytes_eq, false, IfOk};
 ghost use Rattle.std.specs.List.{list_any};
 ghost use Rattle.byte_streams.specs.Reading.{WasRead};
 ghost use Rattle.lanes_in_turn.specs.Round.{max_round_lanes};
@@ -56,6 +56,7 @@ pub(crate) fn take_files<
         next: 0,
     };
     while taken.next < named.len() {
+        let from = taken.next;
         let ahead = take_ahead(
             rt,
             at_once,
@@ -66,7 +67,7 @@ pub(crate) fn take_files<
             taken,
             &mut stretches,
         )?;
-        taken = take_one(rt, at_once, opener, watcher, named, quota, ahead)?;
+        taken = take_one(rt, at_once, opener, watcher, named, quota, from, ahead)?;
     }
     close_round(rt, at_once, quota, taken.round)
 }
@@ -112,7 +113,7 @@ fn take_ahead<
     })
 }
 
-// The next name, if there is one.
+// The next name, unless some were taken from that one on.
 fn take_one<
     F: Source + Drop + Send,
     O: OpensUploads<File = F>,
@@ -125,14 +126,16 @@ fn take_one<
     watcher: &mut P,
     named: &[Named],
     quota: Quota,
+    from: usize,
     taken: TakenUpTo<F>,
 ) -> Result<TakenUpTo<F>, NoMemory>
-    requires { IsUpTo (WasRead F.answers F.remaining) (O.opened opener.now) quota named.now taken }
+    requires upto { IsUpTo (WasRead F.answers F.remaining) (O.opened opener.now) quota named.now taken }
+    requires from { (from ≤ taken.next) × (from < length named.now) }
     ensures behind { IfOk result (IsUpTo (WasRead F.answers F.remaining) (O.opened opener.now) quota named.now) }
-    ensures next { IfOk result (λ more. more.next ≡ min (taken.next + 1) (length named.now)) }
+    ensures next { IfOk result (λ more. from < more.next) }
 {
     let TakenUpTo { round, next } = taken;
-    if next >= named.len() {
+    if next > from {
         return Ok(TakenUpTo { round, next });
     }
     watcher.tell(round.taken.ends.len(), named.len());
