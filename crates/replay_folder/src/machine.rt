@@ -11,8 +11,8 @@ use std::time::{Clock, Instant};
 use std::{fs, io, mem};
 use warp_run::Listed;
 
-/// What a name of a folder stands as that is no UTF-8: no such file can be opened.
-const NO_TEXT: &str = "\u{FFFD}.jsonl";
+/// What a name of a folder stands as that is no UTF-8: no file has such a name.
+const NO_TEXT: &str = "\u{FFFD}\u{0}.jsonl";
 
 /// The files and folders of this machine. Of these std says nothing, so neither do the relations.
 #[derive(Drop)]
