@@ -1,5 +1,6 @@
 -- What is read of the site's file, and how replaying ends where it says no site.
 use Rattle.std.proofs.Common.{◌≡◌, ◌≢◌, ℕ, List, Option, None, Result, Ok, Err, inl, inr, ap, subst, ◌∙◌}
+use Rattle.std.specs.IoError.{error_kind}
 use Rattle.std.specs.declared.io.Error.{Error}
 use Rattle.std.specs.declared.io.ErrorKind.{ErrorKind}
 use Rattle.std.specs.declared.io.ErrorKind.TheVariants as error
@@ -32,9 +33,9 @@ module _ {F : Type 0} (was_read : F → F → List Answer → Type 0) (file back
 
 module _ {F : Type 0} (opened : List ℕ → Result F Error → Type 0) (listed : List ℕ → Result (Option (List (List ℕ))) Error → Type 0) (was_read : F → F → List Answer → Type 0)
     (asked : Replaying) (call : CallWrites) where
-  pub no_file : (kind : ErrorKind) (e : Error) → opened asked.site_file (Err e) → ReplaysNothing opened listed was_read asked call (unopened_status kind) None
-  no_file error.OutOfMemory e opens = tt
-  no_file kind e opens = inl (e, opens)
+  pub no_file : (kind : ErrorKind) (e : Error) → kind ≡ error_kind e → opened asked.site_file (Err e) → ReplaysNothing opened listed was_read asked call (unopened_status kind) None
+  no_file error.OutOfMemory e is opens = tt
+  no_file kind e is opens = inl (e, opens, λ memory. let other : kind ≡ error.OutOfMemory = is ∙ memory in cc)
 
   pub no_site : (why : NoSiteFile) (file : F) → opened asked.site_file (Ok file) → (why ≢ none.NoMemory → ReadsSite was_read file (λ input ending. SaysNoFile input ending why))
       → ReplaysNothing opened listed was_read asked call (no_site_end why).status (no_site_end why).wrong

@@ -14,7 +14,7 @@ use Rattle.replay_folder.specs.declared.drawn_files.DrawnFile.{DrawnFile}
 use Rattle.replay_folder.specs.declared.ends.UploadEnd.{UploadEnd}
 use Rattle.replay_folder.specs.declared.names.Named.{Named}
 use Rattle.replay_folder.specs.inside.{GreetsNamed}
-use Rattle.replay_folder.specs.inside.Stretch.{AreFilesOf, IsDrawn, IsFileBy, IsFileOf}
+use Rattle.replay_folder.specs.inside.Stretch.{AreFilesOf, IsDrawn, IsFileOf}
 use Rattle.replay_folder.proofs.TakenFilesLaws.{all_append}
 
 -- one more was made

@@ -19,7 +19,7 @@ use Rattle.warp_run.specs.declared.status.Status.{Status}
 use Rattle.warp_run.specs.declared.status.Status.TheVariants.{Done, BadSite, BadHello, OutOfMemory, InputOutput}
 use Rattle.warp_server.specs.program.Callers.{IsGreeted, RoundIsRead}
 use Rattle.warp_server.proofs.RoundsLaws.{round_known}
-use Rattle.replay_folder.specs.Ends.{TakenUpload, FileEnd, unopened, taken_so, left_unread, IsEndOf, told_end, taken_upload, is_unread}
+use Rattle.replay_folder.specs.Ends.{TakenUpload, FileEnd, unopened, taken_so, left_unread, IsEndOf, told_end, taken_upload, is_unread, AreUnreadLast}
 use Rattle.replay_folder.specs.Taking.{in_order, uploads_of_round, IsToldBy, TakesRound, TakesRounds}
 use Rattle.replay_folder.specs.inside.{GreetsNamed, HasTakenFiles, HasTakenSoFar, IsTaking, Holds, LeavesUnread, AreReady, AreHeld, AreTriedAlone, KeepsLogs, Closes, MakesRoom, is_short, held_as, held_upload, held_end, told_by_lane}
 use Rattle.replay_folder.specs.declared.ends.UploadEnd.{UploadEnd}
@@ -86,6 +86,29 @@ is_whole InputOutput whole = cc
 
 pub is_no_whole : (status : Status) → is_short status ≡ true → status ≡ Done → ⊥
 is_no_whole status short whole = true≢false (sym short ∙ ap is_short whole)
+
+-- ---- what is left unread
+
+front_read : (ends more : List UploadEnd) → list_any is_unread ends ≡ false → list_any is_unread more ≡ false → AreUnreadLast (ends ++ more)
+front_read ends more read more_read = record {
+  read = ends ++ more;
+  unread = [];
+  are = sym (append-nil (ends ++ more));
+  each_read = list_any-append is_unread ends more ∙ ap₂ (λ a b. a || b) read more_read;
+  none_read = tt;
+}
+
+front_unread : (ends : List UploadEnd) → AreUnreadLast ends → AreUnreadLast (ends ++ upload_end.Unread ∷ [])
+front_unread ends front = record {
+  read = front.read;
+  unread = front.unread ++ upload_end.Unread ∷ [];
+  are = ap (λ all. all ++ upload_end.Unread ∷ []) front.are ∙ append_assoc front.read front.unread (upload_end.Unread ∷ []);
+  each_read = front.each_read;
+  none_read = all_append (λ end. is_unread end ≡ true) front.unread (upload_end.Unread ∷ []) front.none_read (refl, tt);
+}
+
+front_same : (ends more : List UploadEnd) → more ≡ [] → AreUnreadLast ends → AreUnreadLast (ends ++ more)
+front_same ends more none front = subst AreUnreadLast (sym (ap (λ all. ends ++ all) none ∙ append-nil ends)) front
 
 both_false : (a b : Bool) → (a || b) ≡ false → (a ≡ false) × (b ≡ false)
 both_false false b none = (refl, none)
@@ -224,7 +247,7 @@ module _ {R : Type 0} (was_read : R → R → List Answer → Type 0) (opened : 
     none_taken gathered none stop = record {
       rounds = [];
       takes = (none, stop);
-      files = record { files = []; told = refl; each = tt; taken = refl; whole = λ done. refl; alone = λ k at. cc };
+      files = record { files = []; told = refl; each = tt; taken = refl; whole = λ done. refl; front = record { read = []; unread = []; are = refl; each_read = refl; none_read = tt }; alone = λ k at. cc };
     }
 
     -- ---- more names, with what became of them
@@ -232,9 +255,9 @@ module _ {R : Type 0} (was_read : R → R → List Answer → Type 0) (opened : 
     files_more : (named others : List Named) (ends more : List UploadEnd) (earlier gathered : Gathered R) (had : HasTaken named ends earlier)
         (rounds : List (List (TakenUpload R))) (files : List (FileEnd R)) (ones : List (TakenUpload R))
         → map told_end files ≡ more → AllZip (IsEndOf opened was_read) others files → flat_map taken_upload files ≡ ones → in_order rounds ≡ in_order had.rounds ++ ones
-        → (status_of gathered ≡ Done → (status_of earlier ≡ Done) × (list_any is_unread more ≡ false)) → TakesRounds was_read quota rounds gathered
+        → (status_of gathered ≡ Done → (status_of earlier ≡ Done) × (list_any is_unread more ≡ false)) → AreUnreadLast (ends ++ more) → TakesRounds was_read quota rounds gathered
         → NoneTaken files → ((n : ℕ) → (m : ℕ) × (drop m rounds ≡ drop n had.rounds)) → HasTaken (named ++ others) (ends ++ more) gathered
-    files_more named others ends more earlier gathered had rounds files ones told each taken order whole takes none older = record {
+    files_more named others ends more earlier gathered had rounds files ones told each taken order whole front takes none older = record {
       rounds = rounds;
       takes = takes;
       files = record {
@@ -243,6 +266,7 @@ module _ {R : Type 0} (was_read : R → R → List Answer → Type 0) (opened : 
         each = zip_append (IsEndOf opened was_read) named others had.files.files files had.files.each each;
         taken = order ∙ ap₂ (λ a b. a ++ b) had.files.taken (sym taken) ∙ sym (flat_map-append taken_upload had.files.files files);
         whole = λ done. list_any-append is_unread ends more ∙ ap₂ (λ a b. a || b) (had.files.whole (whole done).0) (whole done).1;
+        front = front;
         alone = λ k at. elim (split_at had.files.files files k unopened at) [
           | inl (here, same) ↦ let (n, is) = had.files.alone k here in let (m, deeper) = older n in (m, ap in_order deeper ∙ is ∙ ap (flat_map taken_upload) (sym same))
           | inr (j, there, same) ↦ let (m, deeper) = older 0 in (
@@ -260,7 +284,7 @@ module _ {R : Type 0} (was_read : R → R → List Answer → Type 0) (opened : 
         → HasTaken (named ++ one ∷ []) (ends ++ upload_end.Unread ∷ []) gathered
     unread_more named one ends gathered short had =
         files_more named (one ∷ []) ends (upload_end.Unread ∷ []) gathered gathered had had.rounds (left_unread ∷ []) [] refl (unread_end one, tt) refl (sym (append-nil (in_order had.rounds)))
-        (λ done. absurd (short done)) had.takes no_shut (λ n. (n, refl))
+        (λ done. absurd (short done)) (front_unread ends had.files.front) had.takes no_shut (λ n. (n, refl))
 
     -- the names of a round, in which there is an upload, or none
     module _ (named waiting : List Named) (ends : List UploadEnd) (earlier gathered : Gathered R) (said : List (Result (UploadState R) UploadEnd))
@@ -268,12 +292,16 @@ module _ {R : Type 0} (was_read : R → R → List Answer → Type 0) (opened : 
       abbrev uploads : List (UploadState R)
       uploads = flat_map held_upload said
 
-      nothing_more : uploads ≡ [] → gathered ≡ earlier → HasTaken (named ++ waiting) (ends ++ map (held_end gathered) (map held_as said)) gathered
-      nothing_more none same =
+      nothing_more : uploads ≡ [] → gathered ≡ earlier → (status_of earlier ≡ Done) ⊎ (waiting ≡ []) → HasTaken (named ++ waiting) (ends ++ map (held_end gathered) (map held_as said)) gathered
+      nothing_more none same going =
           let told = all_told gathered waiting said greets (subst (AllByRecursion (λ upload. IsSome (get bytes_eq gathered.clients upload.client))) (sym none) tt) in
           let no_ones : told.ones ≡ [] = none_mapped (λ one. one.upload) told.ones (told.uploads_are ∙ none) in
+          let front : AreUnreadLast (ends ++ ends_of gathered said) = elim going [
+            | inl done ↦ front_read ends (ends_of gathered said) (had.files.whole done) told.read
+            | inr empty ↦ front_same ends (ends_of gathered said) (ap (ends_of gathered) (none_zipped (GreetsNamed was_read opened) waiting said greets empty)) had.files.front
+          ] in
           files_more named waiting ends _ earlier gathered had had.rounds told.files [] told.told told.each (told.taken ∙ no_ones) (sym (append-nil (in_order had.rounds)))
-          (λ done. (ap status_of (sym same) ∙ done, told.read)) (subst (TakesRounds was_read quota had.rounds) (sym same) had.takes) (told.alone tried) (λ n. (n, refl))
+          (λ done. (ap status_of (sym same) ∙ done, told.read)) front (subst (TakesRounds was_read quota had.rounds) (sym same) had.takes) (told.alone tried) (λ n. (n, refl))
 
       round_more : AllByRecursion IsGreeted uploads → RoundIsRead was_read quota earlier uploads gathered → HasTaken (named ++ waiting) (ends ++ map (held_end gathered) (map held_as said)) gathered
       round_more greeted read =
@@ -284,7 +312,7 @@ module _ {R : Type 0} (was_read : R → R → List Answer → Type 0) (opened : 
             told = told.by_lanes;
           } in
           files_more named waiting ends _ earlier gathered had (told.ones ∷ had.rounds) told.files told.ones told.told told.each told.taken refl
-          (λ done. (read.0.whole, told.read)) (earlier, had.takes, round) (told.alone tried) (λ n. (suc n, refl))
+          (λ done. (read.0.whole, told.read)) (front_read ends _ (had.files.whole read.0.whole) told.read) (earlier, had.takes, round) (told.alone tried) (λ n. (suc n, refl))
 
     -- ---- the round that is open
 
@@ -407,6 +435,7 @@ module _ {R : Type 0} (was_read : R → R → List Answer → Type 0) (opened : 
         let told : taken.ends.items ≡ round.taken.ends.items ++ map (held_end gathered) (map held_as said) = closed.told ∙ ap (λ held. round.taken.ends.items ++ map (held_end gathered) held) had.are.held in
         let has : HasTaken (had.done ++ had.waiting) (round.taken.ends.items ++ map (held_end gathered) (map held_as said)) gathered = elim closed.takes [
           | inl nothing ↦ nothing_more had.done had.waiting round.taken.ends.items earlier gathered said had.behind.has had.greets had.alone (sym had.are.uploads ∙ nothing.0) nothing.1
+              (elim had.going [ inl done ↦ inl (sym had.behind.status ∙ done) | inr none ↦ inr none ])
           | inr read ↦ round_more had.done had.waiting round.taken.ends.items earlier gathered said had.behind.has had.greets had.alone
               (subst (AllByRecursion IsGreeted) had.are.uploads had.ready.greeted) (subst (λ all. RoundIsRead was_read quota earlier all gathered) had.are.uploads read)
         ] in record {

@@ -1,5 +1,5 @@
 -- A round whose uploads were taken already, each the first of its client.
-use Rattle.std.proofs.Common.{◌≡◌, ℕ, zero, suc, ◌+◌, ◌≤◌, ◌<◌, List, [], ◌∷◌, ◌++◌, length, map, bytes_eq, false, is_some, Option, Some, None, Result, Ok, Err, ◌⊎◌, inl, inr, refl, sym, ap, ap₂, subst, ◌∙◌, arith, append-nil, length-append}
+use Rattle.std.proofs.Common.{◌≡◌, ℕ, ◌+◌, ◌≤◌, ◌<◌, List, [], ◌∷◌, ◌++◌, length, map, bytes_eq, false, is_some, Option, None, Ok, Err, inl, inr, refl, sym, ap, ap₂, subst, ◌∙◌, arith, append-nil, length-append}
 use Rattle.std.specs.Prelude.{fold, IfSome, Vec}
 use Rattle.std.specs.Global.{Global}
 use Rattle.std.specs.List.{AllByRecursion, AllZip, list_any}
@@ -10,7 +10,7 @@ use Rattle.indexmap.specs.IndexMap.{get, insert_entry}
 use Rattle.indexmap.proofs.MapLemmas.{insert_entry-absent, absent_from_lookup}
 use Rattle.byte_streams.specs.Answers.{Answer}
 use Rattle.upload_reader.specs.Upload.{UploadState}
-use Rattle.lanes_in_turn.specs.Round.{clients_of, has_twice, log_before, max_round_lanes, resumed_upload}
+use Rattle.lanes_in_turn.specs.Round.{clients_of, log_before, max_round_lanes, resumed_upload}
 use Rattle.lanes_in_turn.specs.Taking.{begun_lane, never, new_lane}
 use Rattle.lanes_in_turn.specs.declared.gathered.Gathered.{Gathered}
 use Rattle.lanes_in_turn.specs.declared.gathered.LaneResult.{LaneResult}
@@ -19,11 +19,11 @@ use Rattle.upload_lanes.specs.Threads.{AreTaken, both_stops, read_ahead, stop_of
 use Rattle.upload_lanes.proofs.Zips.{zip_length, zip_push}
 use Rattle.warp_run.specs.declared.status.Status.TheVariants.{Done}
 use Rattle.warp_server.specs.Rounds.{server_room, without_reader}
-use Rattle.warp_server.specs.program.Callers.{IsReadSo, uploads_in}
+use Rattle.warp_server.specs.program.Callers.{IsReadSo}
 use Rattle.warp_server.proofs.RoundsLaws.{all_mapped}
-use Rattle.replay_folder.specs.inside.{AreHeld, AreReady, Closes, Holds, IsOwnRound, LeavesUnread, held_end}
+use Rattle.replay_folder.specs.inside.{AreReady, Holds, IsOwnRound, LeavesUnread, held_end}
 use Rattle.replay_folder.specs.inside.AtOnce.{IsTakenOf}
-use Rattle.replay_folder.specs.inside.Stretch.{AreTakenFirst, ClosesTaken, HasRoomFor, IsFileBy, PutsRound, IsRoundOf, IsTakenFirst, TellsNext, TellsOne, first_lane, lane_let_go}
+use Rattle.replay_folder.specs.inside.Stretch.{AreTakenFirst, ClosesTaken, HasRoomFor, PutsRound, IsRoundOf, IsTakenFirst, TellsNext, TellsOne, first_lane, lane_let_go}
 use Rattle.replay_folder.specs.declared.at_once.TakenLane.{TakenLane}
 use Rattle.replay_folder.specs.declared.drawn_files.DrawnFile.{DrawnFile}
 use Rattle.replay_folder.specs.declared.drawn_files.DrawnFile.TheVariants as made

@@ -1,5 +1,5 @@
 -- What threads made of names is told, one behind another.
-use Rattle.std.proofs.Common.{◌≡◌, ℕ, zero, suc, ◌+◌, ◌≤◌, ◌<◌, List, [], ◌∷◌, ◌++◌, length, take, drop, slice_get, Option, Some, None, Result, Ok, Err, inl, inr, refl, sym, ap, subst, ◌∙◌, arith, append-nil, append_assoc, length-append}
+use Rattle.std.proofs.Common.{◌≡◌, ℕ, zero, suc, ◌+◌, ◌≤◌, List, [], ◌∷◌, ◌++◌, length, take, drop, slice_get, Option, Some, Result, Ok, Err, inl, inr, refl, sym, ap, subst, ◌∙◌, arith, append-nil, append_assoc, length-append}
 use Rattle.std.specs.List.{AllByRecursion, AllZip}
 use Rattle.std.specs.declared.io.Error.{Error}
 use Rattle.std.proofs.Math.Seq.{take-append-add}
@@ -11,7 +11,7 @@ use Rattle.lanes_in_turn.specs.declared.gathered.Stop.TheVariants as stops
 use Rattle.upload_lanes.proofs.Zips.{empty}
 use Rattle.replay_folder.specs.inside.{GreetsNamed, HasTakenSoFar, IsTaking}
 use Rattle.replay_folder.specs.inside.AtOnce.{IsTakenOf}
-use Rattle.replay_folder.specs.inside.Stretch.{AreFilesOf, ClosesTaken, IsDrawn, IsFileBy, IsFileOf, IsRoundOf, MakesRoomTaken, TellsNext, TellsOne, first_lane, waiting_file}
+use Rattle.replay_folder.specs.inside.Stretch.{AreFilesOf, ClosesTaken, IsFileBy, IsRoundOf, MakesRoomTaken, TellsNext, TellsOne, first_lane, waiting_file}
 use Rattle.replay_folder.specs.declared.drawn_files.DrawnFile.{DrawnFile}
 use Rattle.replay_folder.specs.declared.drawn_files.DrawnFile.TheVariants as made
 use Rattle.replay_folder.specs.declared.ends.UploadEnd.{UploadEnd}

@@ -1,7 +1,9 @@
 -- What became of the uploads of a folder: this project's own rule.
-use Rattle.std.specs.Prelude.{◌≢◌, ℕ, List, [], ◌∷◌, Bool, true, false, if◌then◌else◌, Option, Result, Ok, Err, ⊤}
-use Rattle.std.specs.List.{list_any}
+use Rattle.std.specs.Prelude.{◌≡◌, ◌≢◌, ℕ, List, [], ◌∷◌, ◌++◌, Bool, true, false, if◌then◌else◌, Option, Result, Ok, Err, ⊤}
+use Rattle.std.specs.List.{AllByRecursion, list_any}
+use Rattle.std.specs.IoError.{error_kind}
 use Rattle.std.specs.declared.io.Error.{Error}
+use Rattle.std.specs.declared.io.ErrorKind.TheVariants as kinds
 use Rattle.byte_streams.specs.Answers.{Answer}
 use Rattle.byte_streams.specs.Reading.{Reading}
 use Rattle.upload_reader.specs.Upload.{UploadState, Refuses}
@@ -52,9 +54,10 @@ module _ {R : Type 0} where
     pub is_read : IsReadOf was_read first now read.answers
 
   -- What became of a name. `opened` says what to open the file at a path gave, and `was_read` which reads were made of
-  -- one. What was taken of it is said round by round.
+  -- one. Want of memory is no reason to tell one as unopened. What was taken of it is said round by round.
   abbrev pub IsEndOf : (List ℕ → Result R Error → Type 0) → (R → R → List Answer → Type 0) → Named → FileEnd R → Type 0
-  IsEndOf opened was_read (File name) unopened = (error : Error) × opened name (Err error)
+  IsEndOf opened was_read (File name) unopened =
+      (error : Error) × opened name (Err error) × (error_kind error ≢ kinds.OutOfMemory)
   IsEndOf opened was_read (File name) (no_greeting first fault) =
       opened name (Ok first) × RefusesHello was_read first fault
   IsEndOf opened was_read (File name) (taken_so one) = opened name (Ok one.upload.lines.first)
@@ -68,6 +71,14 @@ module _ {R : Type 0} where
 abbrev pub is_unread : UploadEnd → Bool
 is_unread told.Unread = true
 is_unread other = false
+
+-- those of which nothing was read are the last ones
+pub record AreUnreadLast (ends : List UploadEnd) : Type 0 where
+  pub read : List UploadEnd
+  pub unread : List UploadEnd
+  pub are : ends ≡ read ++ unread
+  pub each_read : list_any is_unread read ≡ false
+  pub none_read : AllByRecursion (λ end. is_unread end ≡ true) unread
 
 -- it begins with no hello (`U1` to `U3`), or can't be opened (`U5`)
 abbrev pub is_refused : UploadEnd → Bool

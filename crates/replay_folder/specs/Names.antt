@@ -1,10 +1,12 @@
 -- Which uploads the words of a call name: this project's own rule.
-use Rattle.std.specs.Prelude.{◌≡◌, ℕ, List, [], ◌∷◌, ◌++◌, map, filter, Bool, nat_eq, if◌then◌else◌, Option, Some, None, Result, Ok, Err, codes}
+use Rattle.std.specs.Prelude.{◌≡◌, ◌≢◌, ℕ, List, [], ◌∷◌, ◌++◌, map, filter, Bool, nat_eq, if◌then◌else◌, Option, Some, None, Result, Ok, Err, codes}
 use Rattle.std.specs.List.{ends_with}
 use Rattle.std.specs.List.Sorted.{IsSorted, IsPermutation}
 use Rattle.std.specs.Cmp.Lexicographic.{slice_cmp}
 use Rattle.std.specs.Ordering.{nat_cmp}
+use Rattle.std.specs.IoError.{error_kind}
 use Rattle.std.specs.declared.io.Error.{Error}
+use Rattle.std.specs.declared.io.ErrorKind.TheVariants as kinds
 use Rattle.replay_folder.specs.declared.names.Named.{Named}
 use Rattle.replay_folder.specs.declared.names.Named.TheVariants.{File, Unlisted}
 
@@ -34,11 +36,12 @@ pub record AreOfFolder (folder : List ℕ) (names : List (List ℕ)) (all : List
 
 -- ---- the words
 
--- what a word names of which that was answered: that it is a folder with these names, or none, or that it can't be told
+-- what a word names of which that was answered: that it is a folder with these names, or none, or that it can't be
+-- told, and not for want of memory
 abbrev pub IsNamedBy : List ℕ → Result (Option (List (List ℕ))) Error → List Named → Type 0
 IsNamedBy word (Ok None) all = all ≡ File word ∷ []
 IsNamedBy word (Ok (Some names)) all = AreOfFolder word names all
-IsNamedBy word (Err error) all = all ≡ Unlisted word ∷ []
+IsNamedBy word (Err error) all = (error_kind error ≢ kinds.OutOfMemory) × (all ≡ Unlisted word ∷ [])
 
 -- `listed` says what was answered of a word; all words in their order
 module _ (listed : List ℕ → Result (Option (List (List ℕ))) Error → Type 0) where

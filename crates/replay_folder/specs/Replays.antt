@@ -1,6 +1,8 @@
 -- What replaying a folder answers and writes, by what its files gave: this project's own rules.
-use Rattle.std.specs.Prelude.{◌≡◌, ℕ, List, [], map, Option, Some, None, Result, Ok, Err, ◌⊎◌}
+use Rattle.std.specs.Prelude.{◌≡◌, ◌≢◌, ℕ, List, [], map, Option, Some, None, Result, Ok, Err, ◌⊎◌}
+use Rattle.std.specs.IoError.{error_kind}
 use Rattle.std.specs.declared.io.Error.{Error}
+use Rattle.std.specs.declared.io.ErrorKind.TheVariants as kinds
 use Rattle.byte_streams.specs.Answers.{Answer}
 use Rattle.byte_streams.specs.Reading.{MadeWhile}
 use Rattle.byte_streams.specs.Writing.{CallWrites, Takes, TakesPart, WritesNothing}
@@ -88,10 +90,11 @@ module _ {F : Type 0} (opened : List ℕ → Result F Error → Type 0)
 
   module _ (asked : Replaying) (call : CallWrites) where
     -- Why nothing is replayed, and then nothing was written: a line of the site's file is wrong, the file can't be
-    -- opened, or a read of it failed; where memory is refused nothing is said.
+    -- opened, and not for want of memory, or a read of it failed; where memory is refused nothing is said.
     abbrev pub ReplaysNothing : Status → Option FileWrong → Type 0
     ReplaysNothing BadSite (Some wrong) = ReadsAt asked.site_file (λ input ending. HasWrong input ending wrong)
-    ReplaysNothing InputOutput None = ((error : Error) × opened asked.site_file (Err error))
+    ReplaysNothing InputOutput None =
+        ((error : Error) × opened asked.site_file (Err error) × (error_kind error ≢ kinds.OutOfMemory))
         ⊎ ReadsAt asked.site_file (λ input ending. ending ≡ Some ReadFailed)
     ReplaysNothing OutOfMemory None = Unit {0}
     ReplaysNothing status wrong = ⊥

@@ -18,7 +18,7 @@ use Rattle.warp_run.specs.declared.status.Status.TheVariants.{Done}
 use Rattle.warp_server.specs.Headline.{docket_of}
 use Rattle.warp_server.specs.Rounds.{HasLog}
 use Rattle.warp_server.specs.program.Callers.{IsGreeted, RoundIsRead}
-use Rattle.replay_folder.specs.Ends.{TakenUpload, FileEnd, unopened, IsEndOf, told_end, taken_upload, is_unread}
+use Rattle.replay_folder.specs.Ends.{TakenUpload, FileEnd, unopened, IsEndOf, told_end, taken_upload, is_unread, AreUnreadLast}
 use Rattle.replay_folder.specs.declared.ends.UploadEnd.{UploadEnd}
 use Rattle.replay_folder.specs.declared.names.Named.{Named}
 
@@ -64,7 +64,8 @@ module _ {R : Type 0} (was_read : R → R → List Answer → Type 0) (quota : �
     pub leave : AllLeaveInOrder repaired.desk
 
 -- `opened` says what to open the file at a path gave. These ends are those of the named uploads, each by its own file;
--- just those that were taken are in the rounds, in their order, and none is left unread unless memory was refused.
+-- just those that were taken are in the rounds, in their order. None is left unread unless memory was refused, and then
+-- the last ones are.
 pub record TakesFiles {R : Type 0} (opened : List ℕ → Result R Error → Type 0)
     (was_read : R → R → List Answer → Type 0) (named : List Named) (ends : List UploadEnd)
     (rounds : List (List (TakenUpload R))) (gathered : Gathered R) : Type 0 where
@@ -73,6 +74,7 @@ pub record TakesFiles {R : Type 0} (opened : List ℕ → Result R Error → Typ
   pub each : AllZip (IsEndOf opened was_read) named files
   pub taken : in_order rounds ≡ flat_map taken_upload files
   pub whole : status_of gathered ≡ Done → list_any is_unread ends ≡ false
-  -- No upload was open when one was tried that can't be opened: so many rounds had taken all uploads before it.
+  pub front : AreUnreadLast ends
+  -- Where one can't be opened, rounds end before it: so many of them had taken all uploads before it.
   pub alone : (k : ℕ) → slice_get files k ≡ Some unopened
       → (later : ℕ) × (in_order (drop later rounds) ≡ flat_map taken_upload (take k files))

@@ -146,7 +146,7 @@ fn take_one<
     })
 }
 
-// One more. Where it can't be opened beside the uploads of the round, these are taken first, and it is tried once more.
+// One more. Where it can't be opened beside the uploads of the round, or memory is refused for it, these are taken first, and it is tried once more.
 fn take_named<
     F: Source + Drop + Send,
     O: OpensUploads<File = F>,
@@ -169,10 +169,12 @@ fn take_named<
     if is_short(round.taken.status) {
         return leave_unread(round);
     }
-    match greet_named(rt.alloc(), opener, named)? {
+    let Ok(said) = greet_named(rt.alloc(), opener, named) else {
+        return take_behind(rt, at_once, opener, named, quota, round);
+    };
+    match said {
         Err(end) => if may_open_alone(round.uploads.as_slice(), &end) {
-            let next = open_next(rt, at_once, quota, round)?;
-            take_alone(rt.alloc(), opener, named, next)
+            take_behind(rt, at_once, opener, named, quota, round)
         } else {
             hold_end(round, end)
         },
@@ -185,6 +187,30 @@ fn take_named<
             }
         }
     }
+}
+
+// One more, when the uploads of the round are taken.
+fn take_behind<
+    F: Source + Drop + Send,
+    O: OpensUploads<File = F>,
+    T: AllocGlobal + Threads + Wait + Sync,
+>(
+    rt: &T,
+    at_once: bool,
+    opener: &O,
+    named: &Named,
+    quota: Quota,
+    round: OpenRound<F>,
+) -> Result<OpenRound<F>, NoMemory>
+    requires ready { AreReady round.uploads.items }
+    requires held { AreHeld round }
+    requires whole { round.taken.status ≡ Done }
+    ensures { IfOk result (λ more. (before : List PlainNamed)
+        → IsTaking (WasRead F.answers F.remaining) (O.opened opener.now) quota before round
+        → IsTaking (WasRead F.answers F.remaining) (O.opened opener.now) quota (before ++ named.now ∷ []) more) }
+{
+    let next = open_next(rt, at_once, quota, round)?;
+    take_alone(rt.alloc(), opener, named, next)
 }
 
 // One more, where no upload is open.

@@ -10,7 +10,7 @@ returns-in-Err g c =
     inl (
       record { puts_are = refl; contents_are = refl },
       rw c.status_unopened.ensures
-          (no_file (g.O.OpensUploads.opened c.args.opener.now) (g.O.OpensUploads.listed c.args.opener.now) (WasRead g.F.Source.answers g.F.Read.remaining) c.args.asked (writes_of g.W.Sink.puts g.W.Write.contents c.args.writer.now c.args.writer.now) c.kind.result c.in-Err.error opens),
+          (no_file (g.O.OpensUploads.opened c.args.opener.now) (g.O.OpensUploads.listed c.args.opener.now) (WasRead g.F.Source.answers g.F.Read.remaining) c.args.asked (writes_of g.W.Sink.puts g.W.Write.contents c.args.writer.now c.args.writer.now) c.kind.result c.in-Err.error c.kind.ensures opens),
     )
 
 pub returns-in-Err-site_of_file : goal.returns-in-Err-site_of_file

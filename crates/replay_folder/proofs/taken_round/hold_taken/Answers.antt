@@ -1,8 +1,8 @@
-use Rattle.std.proofs.Common.{[], ◌∷◌, ◌++◌, refl, sym, ap, ◌∙◌, rules}
+use Rattle.std.proofs.Common.{[], ◌∷◌, ◌++◌, refl, sym, ap, ◌∙◌}
 use Rattle.byte_streams.specs.Reading.{WasRead}
 use Rattle.replay_folder.specs.declared.open_round.RoundName.TheVariants.{Waits}
 use Rattle.replay_folder.proofs.OwnLanesLaws.{no_value}
-use Rattle.replay_folder.proofs.TakenRoundLaws.{AddsTaken, taken_next}
+use Rattle.replay_folder.proofs.TakenRoundLaws.{taken_next}
 use Rattle.replay_folder.proofs.taken_round.hold_taken.Goals as goal
 
 pub returns : goal.returns

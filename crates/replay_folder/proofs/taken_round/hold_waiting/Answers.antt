@@ -1,4 +1,4 @@
-use Rattle.std.proofs.Common.{◌<◌, [], length, bytes_eq, inl, inr, sym, ap, subst, ◌∙◌, arith}
+use Rattle.std.proofs.Common.{◌<◌, length, bytes_eq, inl, inr, sym, ap, subst, ◌∙◌, arith}
 use Rattle.std.specs.List.{list_any}
 use Rattle.std.proofs.lemmas.Result.{IfOk-weaker}
 use Rattle.lanes_in_turn.specs.Round.{max_round_lanes}
